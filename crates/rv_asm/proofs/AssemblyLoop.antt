@@ -27,7 +27,7 @@ use Rattle.rv_asm.specs.FinishedCode.{IsFinished}
 use Rattle.rv_asm.specs.StraightUses.{GoStraight}
 use Rattle.rv_asm.proofs.LinesInBuffer.{line_added}
 use Rattle.rv_asm.proofs.StraightUses.{straight_none, straight_next}
-use Rattle.rv_asm.proofs.RefusalOrder.{frame_small, none_unfit, no_rule_broken, bound_once, bound_by, named_is_bound, sum_small, lines_small}
+use Rattle.rv_asm.proofs.RefusalOrder.{frame_small, none_stuck, no_rule_broken, bound_once, bound_by, named_is_bound, sum_small, lines_small}
 use Rattle.rv_asm.proofs.Finish.{can_finish, finished_short}
 use Rattle.rv_asm.proofs.AppendedLines.{line_appends}
 use Rattle.rv_asm.proofs.CallReturns.{returns_next, returns_within}
@@ -134,7 +134,7 @@ can_put context lines n spans b line frame e s h =
     record {
       rule = no_rule_broken context lines e n line h;
       frame = frame_small context.frame lines frame;
-      fit = none_unfit context.frame lines frame n line h;
+      fit = none_stuck context.frame lines frame n line h;
       sound = s.built.sound;
       reach = s.sized.reach;
       few = omega (arith, small, least, allocated);

@@ -1,5 +1,5 @@
 -- Code that a buffer of lines was finished to runs as its job says.
-use Rattle.std.proofs.Common.{◌≡◌, ℕ, suc, ◌%◌, ◌<◌, false, length, Some, None, arith, refl, sym, ap, subst, ◌∙◌}
+use Rattle.std.proofs.Common.{◌≡◌, ℕ, suc, ◌+◌, ◌%◌, ◌<◌, false, length, Some, None, arith, refl, sym, ap, subst, ◌∙◌}
 use Rattle.std.specs.Prelude.{slice_get}
 use Rattle.rv_base.specs.LabelUse.{code_limit}
 use Rattle.rv_inst.specs.Context.{context_of}
@@ -12,19 +12,24 @@ use Rattle.rv_inst.specs.Rules.{broken_rule}
 use Rattle.mach_buffer.specs.Buffer.{shape_of, bytes_of, records_of}
 use Rattle.mach_records.specs.Records.{relocs_in, traps_in}
 use Rattle.rv_machine.specs.State.{Memory}
+use Rattle.rv_machine.specs.Steps.{fetch}
+use Rattle.rv_machine.specs.declared.decoding.Decoded.{Decoded}
+use Rattle.rv_inst.specs.Forms.{IsOwnForm}
+use Rattle.rv_inst.specs.Sizes.{operation_of}
+use Rattle.rv_inst.specs.declared.inst.Inst.{Inst}
 use Rattle.rv_inst.specs.Records.{IsTrapAt}
 use Rattle.rv_emit.specs.Images.{KeepsOutside, IsFilled}
 use Rattle.mach_buffer.specs.Constants.{offset_in}
 use Rattle.rv_emit.specs.Emitted.{Buffer}
 use Rattle.rv_code.specs.InstParts.{parts_of}
-use Rattle.rv_code.specs.Sites.{Site, GapIn}
-use Rattle.rv_emit.specs.Standing.{IsFinishedTo}
-use Rattle.rv_emit.proofs.Laws.{parts_are_self_contained, gap_stands, parts_stand, has_operation, reads_operation}
+use Rattle.rv_code.specs.Sites.{Site, IsPlacedAt, GapIn}
+use Rattle.rv_code.specs.declared.state.EmitVState.{EmitVState}
+use Rattle.rv_emit.specs.Standing.{PartsIn, IsFinishedTo}
+use Rattle.rv_emit.proofs.Laws.{parts_are_self_contained, gap_stands, parts_stand, one_slot, has_operation, reads_operation, own_stands}
 use Rattle.rv_asm.specs.Reported.{start_of, end_of, end_before, returns_from}
-use Rattle.rv_asm.specs.Refusal.{is_unfit}
 use Rattle.rv_asm.specs.FullSimulation.{FullRuns}
 use Rattle.rv_asm.specs.Simulation.{RunsAsListed, HasOperations}
-use Rattle.rv_asm.specs.LinesInBuffer.{StandsAfter, LinesStand}
+use Rattle.rv_asm.specs.LinesInBuffer.{is_stuck, StandsAfter, LinesStand}
 use Rattle.rv_asm.specs.Placed.{Addresses, IsPlaced}
 use Rattle.rv_asm.proofs.ExitPoints.{AllBound}
 use Rattle.rv_asm.proofs.Images.{placed_at, keeps_outside, is_filled, fields_within, reloc_ends, trap_reported}
@@ -70,7 +75,13 @@ module _ (job : Job) (code : Code) (b : Buffer) (built : LinesStand (context_of 
         let next = line_at job.lines (suc i) lt in
         gap_stands site (shape_of b) code.bytes f keeps refl refl built.fields filled (end_of code.lines i) (start_of code.lines (suc i)) (each_in i here.0 here.1).1 (built.each (suc i) next.0 next.1).gap
 
-  -- the operation of a line of one machine word is read at its start
+    own_form : (inst : Inst) (d : Decoded) (start end : ℕ) (setting : EmitVState) → operation_of (context_of job) inst ≡ Some d → PartsIn job.flags (parts_of (context_of job) setting inst) (shape_of b) start end → IsPlacedAt site mem → IsOwnForm d (fetch mem (base + start))
+    own_form inst d start end setting one parts there =
+        let a = one_slot (context_of job) setting inst d one in
+        let slots = subst (λ ps. PartsIn job.flags ps (shape_of b) start end) a.only parts in
+        own_stands site (shape_of b) code.bytes f keeps refl refl a.trap d start slots.0 slots.1 mem there
+
+  -- the operation of a line of one machine word is read at its start, in its own form
   pub built_operations : HasOperations job code
   built_operations = record {
     each = λ i inst d base symbols slots mem listed core one placed.
@@ -78,10 +89,13 @@ module _ (job : Job) (code : Code) (b : Buffer) (built : LinesStand (context_of 
         has_operation (site_of job code known base symbols slots mem) (start_of code.lines i) d line.setting inst (end_of code.lines i) core one line.stands mem (placed_at code base symbols slots mem (context_of job) f.finishes.put.place (records_of b) placed);
     all = λ i inst d base symbols slots mem listed one placed.
         let line = (each_in base symbols slots mem placed i (Put inst) listed).0 in
-        reads_operation (site_of job code known base symbols slots mem) (start_of code.lines i) d line.setting inst (end_of code.lines i) one line.stands mem (placed_at code base symbols slots mem (context_of job) f.finishes.put.place (records_of b) placed);
+        let there = placed_at code base symbols slots mem (context_of job) f.finishes.put.place (records_of b) placed in (
+          reads_operation (site_of job code known base symbols slots mem) (start_of code.lines i) d line.setting inst (end_of code.lines i) one line.stands mem there,
+          own_form base symbols slots mem placed inst d (start_of code.lines i) (end_of code.lines i) (built.each i (Put inst) listed).there.0 one (built.each i (Put inst) listed).there.1 there,
+        );
   }
 
-  built_threaded : length code.bytes < code_limit → code.end ≡ length (bytes_of b) → code.returns ≡ returns_from job.flags code.lines 0 job.lines → ((i : ℕ) (line : Line) → slice_get job.lines i ≡ Some line → is_unfit job.frame line ≡ false) → ((i : ℕ) (line : Line) → slice_get job.lines i ≡ Some line → AllBound job.lines (named_labels line)) → IsThreaded job code known
+  built_threaded : length code.bytes < code_limit → code.end ≡ length (bytes_of b) → code.returns ≡ returns_from job.flags code.lines 0 job.lines → ((i : ℕ) (line : Line) → slice_get job.lines i ≡ Some line → is_stuck job.frame line ≡ false) → ((i : ℕ) (line : Line) → slice_get job.lines i ≡ Some line → AllBound job.lines (named_labels line)) → IsThreaded job code known
   built_threaded short end returns fit named = record {
     line = λ base symbols slots mem placed i line e. (each_in base symbols slots mem placed i line e).0;
     ruled = ruled;
@@ -101,10 +115,10 @@ module _ (job : Job) (code : Code) (b : Buffer) (built : LinesStand (context_of 
     fields = reloc_ends (length code.bytes) code.relocs (records_of b) relocs (fields_within (shape_of b) code.bytes f built.fields);
   }
 
-  pub built_runs : length code.bytes < code_limit → code.end ≡ length (bytes_of b) → code.returns ≡ returns_from job.flags code.lines 0 job.lines → ((i : ℕ) (line : Line) → slice_get job.lines i ≡ Some line → is_unfit job.frame line ≡ false) → ((i : ℕ) (line : Line) → slice_get job.lines i ≡ Some line → AllBound job.lines (named_labels line)) → RunsAsListed job code
+  pub built_runs : length code.bytes < code_limit → code.end ≡ length (bytes_of b) → code.returns ≡ returns_from job.flags code.lines 0 job.lines → ((i : ℕ) (line : Line) → slice_get job.lines i ≡ Some line → is_stuck job.frame line ≡ false) → ((i : ℕ) (line : Line) → slice_get job.lines i ≡ Some line → AllBound job.lines (named_labels line)) → RunsAsListed job code
   built_runs short end returns fit named = threaded_runs job code known (built_threaded short end returns fit named)
 
-  pub built_full_runs : length code.bytes < code_limit → code.end ≡ length (bytes_of b) → code.returns ≡ returns_from job.flags code.lines 0 job.lines → ((i : ℕ) (line : Line) → slice_get job.lines i ≡ Some line → is_unfit job.frame line ≡ false) → ((i : ℕ) (line : Line) → slice_get job.lines i ≡ Some line → AllBound job.lines (named_labels line)) → FullRuns job code
+  pub built_full_runs : length code.bytes < code_limit → code.end ≡ length (bytes_of b) → code.returns ≡ returns_from job.flags code.lines 0 job.lines → ((i : ℕ) (line : Line) → slice_get job.lines i ≡ Some line → is_stuck job.frame line ≡ false) → ((i : ℕ) (line : Line) → slice_get job.lines i ≡ Some line → AllBound job.lines (named_labels line)) → FullRuns job code
   built_full_runs short end returns fit named =
       let threaded = built_threaded short end returns fit named in
       full_runs job code (threaded_runs job code known threaded) (unit_lines job code known threaded) named

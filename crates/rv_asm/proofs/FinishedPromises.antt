@@ -21,7 +21,7 @@ use Rattle.rv_asm.proofs.Finish.{finished_short}
 use Rattle.rv_asm.specs.Jumps.{HasJumps}
 use Rattle.rv_asm.proofs.FinishedLines.{built_runs, built_full_runs, built_operations}
 use Rattle.rv_asm.proofs.JumpsStand.{built_jumps}
-use Rattle.rv_asm.proofs.RefusalOrder.{accepted_lines, accepted_frame, none_unfit, parts, no_rule_broken, sum_small, lines_small}
+use Rattle.rv_asm.proofs.RefusalOrder.{accepted_lines, accepted_frame, none_stuck, parts, no_rule_broken, sum_small}
 use Rattle.rv_asm.proofs.RulesOfLines.{names_bound}
 use Rattle.rv_asm.proofs.SpanLengths.{all_bytes, built_reported}
 
@@ -42,13 +42,13 @@ module _ (job : Job) (code : Code) (accepted : refusal job ≡ None) (f : IsFini
       let long = f.finished.same_length in
       let short = finished_short (context_of job) job.lines f.sink code.bytes f.built.sound f.sized f.finished in
       let small = sum_small (context_of job) job.lines e in
-      built_reported job code f.sink f.built finished f.constants (omega (arith, short, small)) f.returns (f.labels ∙ f.named.labels) f.relocs f.traps f.call_sites f.try_call_sites f.patchable_call_sites f.stack_maps f.unwinds f.end (omega (arith, longer, long)) (names_bound job.lines job.lines (parts (context_of job) job.lines e).unbound) (no_rule_broken (context_of job) job.lines e) (lines_small (context_of job) job.lines e)
+      built_reported job code f.sink f.built finished f.constants (omega (arith, short, small)) f.returns (f.labels ∙ f.named.labels) f.relocs f.traps f.call_sites f.try_call_sites f.patchable_call_sites f.stack_maps f.unwinds f.end (omega (arith, longer, long)) (names_bound job.lines job.lines (parts (context_of job) job.lines e).unbound)
 
   pub finished_runs : RunsAsListed job code
   finished_runs =
       let short = finished_short (context_of job) job.lines f.sink code.bytes f.built.sound f.sized f.finished in
       let small = sum_small (context_of job) job.lines e in
-      built_runs job code f.sink f.built finished f.constants f.relocs f.traps (no_rule_broken (context_of job) job.lines e) (omega (arith, short, small)) f.end f.returns (none_unfit job.frame job.lines (accepted_frame job accepted)) (names_bound job.lines job.lines (parts (context_of job) job.lines e).unbound)
+      built_runs job code f.sink f.built finished f.constants f.relocs f.traps (no_rule_broken (context_of job) job.lines e) (omega (arith, short, small)) f.end f.returns (none_stuck job.frame job.lines (accepted_frame job accepted)) (names_bound job.lines job.lines (parts (context_of job) job.lines e).unbound)
 
   pub finished_full_runs : FullRuns job code
   finished_full_runs =

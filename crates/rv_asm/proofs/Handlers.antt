@@ -17,7 +17,8 @@ use Rattle.mach_records.specs.declared.records.FinalizedMachExceptionHandler.The
 use Rattle.mach_records.specs.declared.records.MachRecord.{MachRecord}
 use Rattle.rv_inst.specs.Context.{Context}
 use Rattle.rv_inst.specs.Operands.{handler_label, inst_labels, named_labels, try_labels}
-use Rattle.rv_inst.specs.Records.{access_records, patch_records, return_records, inst_records}
+use Rattle.rv_inst.specs.Records.{access_records, patch_records, return_records}
+use Rattle.rv_inst.specs.Sizes.{inst_records}
 use Rattle.rv_inst.specs.declared.code.LineSpan.{LineSpan}
 use Rattle.rv_inst.specs.declared.inst.Inst.{Inst}
 use Rattle.rv_inst.specs.declared.inst.Inst.TheVariants.{Load, Store, Call, CallInd}

@@ -9,3 +9,4 @@ pub use Rattle.rv_code.proofs.Registers.{reads_back, reads_other}
 pub use Rattle.rv_asm.proofs.StoredNumbers.{stored_is_loaded, same_are_loaded_alike, elsewhere_unchanged}
 -- the register of a number is one
 pub use Rattle.rv_asm.proofs.RegisterNumbers.{register_is}
+pub use Rattle.rv_asm.proofs.ShortSpans.{spans_are_short}

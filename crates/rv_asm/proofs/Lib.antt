@@ -13,6 +13,7 @@ pub mod AfterLastIsland
 pub mod Sizes
 pub mod LinesInBuffer
 pub mod SpanLengths
+mod ShortSpans
 pub mod FinishedLines
 pub mod Images
 pub mod SavedRegisters

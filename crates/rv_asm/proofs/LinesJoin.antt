@@ -7,7 +7,7 @@ use Rattle.std.proofs.lemmas.Option.{same_Some, slice_get_within}
 use Rattle.rv_base.specs.declared.trap.TrapCode.{TrapCode}
 use Rattle.rv_machine.specs.State.{Memory, State, IsState, Values, AreValues, wrap}
 use Rattle.rv_machine.specs.Steps.{iter}
-use Rattle.rv_inst.specs.Calls.{Return, return_of}
+use Rattle.rv_inst.specs.Operands.{Return, return_of}
 use Rattle.rv_base.specs.declared.flags.IsaFlags.{IsaFlags}
 use Rattle.rv_inst.specs.Context.{context_of}
 use Rattle.rv_inst.specs.Core.{is_integer, is_integer_line}
@@ -37,7 +37,8 @@ use Rattle.rv_code.specs.InstParts.{parts_of}
 use Rattle.rv_code.specs.InstRuns.{ComesOut, environment}
 use Rattle.rv_code.specs.Sites.{Site, IsPlacedAt, LeadsOn, PartsStand}
 use Rattle.rv_emit.proofs.Laws.{iter_none, iter_after, same_but, but_then_same, inst_runs, inst_resumes}
-use Rattle.rv_asm.specs.Refusal.{is_unfit, is_bound}
+use Rattle.rv_asm.specs.Refusal.{is_bound}
+use Rattle.rv_asm.specs.LinesInBuffer.{is_stuck}
 use Rattle.rv_asm.specs.Reported.{start_of, end_of, binding_line, returns_from}
 use Rattle.rv_asm.specs.Simulation.{Point, At, Returned, Out, End, Stop, Trapped, InData, IsBack, Leads, next_point, environment_of, WritesOutside, AtStart, AtReturn, return_at, address_of, IsStopped, Comes, RunsAsListed}
 use Rattle.rv_asm.specs.Placed.{Addresses, address_of_name, bytes_from, IsPlaced}
@@ -70,13 +71,13 @@ abbrev pub LineIn : Site → Line → ℕ → ℕ → Type 0
 LineIn site (Put inst) start after = InstIn site inst start after
 LineIn site (Bind label) start after = start ≡ after
 
--- each line stands in the code, keeps the rules, can restore the frame where it has to, and names labels that are bound; what
+-- each line stands in the code, keeps the rules, can take the frame away where it has to, and names labels that are bound; what
 -- stands after it leads to the next one; the last line ends the code; calls return where the code says; and labels stand where
 -- they are bound, and constants at their offsets
 pub record IsThreaded (job : Job) (code : Code) (known : Known) : Type 0 where
   pub line : (base : ℕ) (symbols slots : Addresses) (mem : Memory) → IsPlaced code base symbols slots mem → (i : ℕ) (line : Line) → slice_get job.lines i ≡ Some line → LineIn (site_of job code known base symbols slots mem) line (start_of code.lines i) (end_of code.lines i)
   pub ruled : (i : ℕ) (line : Line) → slice_get job.lines i ≡ Some line → broken_rule (context_of job) line ≡ None
-  pub fit : (i : ℕ) (line : Line) → slice_get job.lines i ≡ Some line → is_unfit job.frame line ≡ false
+  pub fit : (i : ℕ) (line : Line) → slice_get job.lines i ≡ Some line → is_stuck job.frame line ≡ false
   pub named : (i : ℕ) (line : Line) → slice_get job.lines i ≡ Some line → AllBound job.lines (named_labels line)
   pub gap : (base : ℕ) (symbols slots : Addresses) (mem : Memory) → IsPlaced code base symbols slots mem → (i : ℕ) → suc i < length job.lines → LeadsOn (site_of job code known base symbols slots mem) (end_of code.lines i) (start_of code.lines (suc i))
   pub last : (i : ℕ) → suc i ≡ length job.lines → code.end ≡ end_of code.lines i
@@ -91,7 +92,7 @@ pub record IsThreaded (job : Job) (code : Code) (known : Known) : Type 0 where
 -- ---- one line
 
 -- a line of the integer core runs as it means
-line_comes : (site : Site) (line : Line) (start after : ℕ) (s : State) (v : Values) → is_integer_line line ≡ true → length site.bytes < code_limit → ((label at : ℕ) → site.place label ≡ Some at → at ≤ length site.bytes) → LineIn site line start after → broken_rule site.context line ≡ None → is_unfit site.context.frame line ≡ false → AreOutside site.base (length site.bytes) (writes_of (environment site start after) line v) → IsPlacedAt site s.values.mem → s.pc ≡ wrap (site.base + start) → IsState s → AreValues v → Same v s.values → ComesOut site start after (exit_of (environment site start after) line v) (temporaries_of line) (effect_of (environment site start after) line v) s
+line_comes : (site : Site) (line : Line) (start after : ℕ) (s : State) (v : Values) → is_integer_line line ≡ true → length site.bytes < code_limit → ((label at : ℕ) → site.place label ≡ Some at → at ≤ length site.bytes) → LineIn site line start after → broken_rule site.context line ≡ None → is_stuck site.context.frame line ≡ false → AreOutside site.base (length site.bytes) (writes_of (environment site start after) line v) → IsPlacedAt site s.values.mem → s.pc ≡ wrap (site.base + start) → IsState s → AreValues v → Same v s.values → ComesOut site start after (exit_of (environment site start after) line v) (temporaries_of line) (effect_of (environment site start after) line v) s
 line_comes site (Put inst) start after s v core short labels h rule fit outside placed pc is_state are_values same = (inst_runs site h.setting inst core rule fit).run start after s v (record {
   even = h.even;
   within = h.within;

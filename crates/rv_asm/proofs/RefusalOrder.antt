@@ -9,7 +9,8 @@ use Rattle.rv_base.specs.declared.label.MachLabel.{MachLabel}
 use Rattle.rv_base.specs.declared.frame.FrameLayout.{FrameLayout}
 use Rattle.rv_base.specs.Frame.{sp_to_args_end}
 use Rattle.rv_base.specs.LabelUse.{code_limit}
-use Rattle.rv_inst.specs.Frames.{is_bad_frame}
+use Rattle.rv_inst.specs.Frames.{is_bad_frame, is_unrestorable_for, is_bad_frame_for}
+use Rattle.rv_inst.specs.declared.tail_calls.TailCall.{TailCall}
 use Rattle.std.specs.List.{list_any}
 use Rattle.rv_inst.specs.Context.{Context, context_of}
 use Rattle.rv_inst.specs.declared.job.Job.{Job}
@@ -18,11 +19,12 @@ use Rattle.rv_inst.specs.declared.inst.Line.{Line}
 use Rattle.rv_inst.specs.declared.inst.Line.TheVariants.{Inst as Put, Bind}
 use Rattle.rv_inst.specs.declared.error.Rule.{Rule}
 use Rattle.rv_inst.specs.declared.error.EmitError.{EmitError}
-use Rattle.rv_inst.specs.Operands.{named_labels}
+use Rattle.rv_inst.specs.Operands.{named_labels, tail_call_of}
 use Rattle.rv_inst.specs.Rules.{first_of, broken_rule}
 use Rattle.rv_inst.specs.Sizes.{line_sum}
 use Rattle.rv_base.specs.declared.constant.Constant.{Constant}
 use Rattle.mach_uses.specs.Labels.{inner_count}
+use Rattle.rv_asm.specs.LinesInBuffer.{is_stuck}
 use Rattle.rv_asm.specs.Refusal.{size_limit, constants_sum, lines_sum, malformed, broken_from, binds, is_bound, twice_of, twice_in, twice_from, unbound_among, unbound_in, size_sum, too_large, is_unfit, has_bad_frame, bad_frame, lines_refusal, refusal, Finds}
 
 -- What is looked for among the labels of a set is looked for among those that the lines bind.
@@ -81,13 +83,21 @@ pub frame_small : (frame : FrameLayout) (lines : List Line) → has_bad_frame fr
 frame_small frame lines e = leb-false (2 ^ 31) (sp_to_args_end frame) (or_left (nat_le (2 ^ 31) (sp_to_args_end frame)) _ (or_left (is_bad_frame frame) _ e))
 
 -- none of the lines is one that can't restore it
-pub none_unfit : (frame : FrameLayout) (lines : List Line) → has_bad_frame frame lines ≡ false → (i : ℕ) (line : Line) → slice_get lines i ≡ Some line → is_unfit frame line ≡ false
+none_unfit : (frame : FrameLayout) (lines : List Line) → has_bad_frame frame lines ≡ false → (i : ℕ) (line : Line) → slice_get lines i ≡ Some line → is_unfit frame line ≡ false
 none_unfit frame lines e = among lines (or_right (is_bad_frame frame) _ e)
   where
     among : (ls : List Line) → list_any (is_unfit frame) ls ≡ false → (i : ℕ) (line : Line) → slice_get ls i ≡ Some line → is_unfit frame line ≡ false
     among [] h i line at = absurd (cc)
     among (l ∷ ls) h zero line at = subst (λ (x : Line). is_unfit frame x ≡ false) (same_some at) (or_left (is_unfit frame l) _ h)
     among (l ∷ ls) h (suc i) line at = among ls (or_right (is_unfit frame l) _ h) i line at
+
+not_stuck : (frame : FrameLayout) (tail : Option TailCall) → is_bad_frame frame ≡ false → is_unrestorable_for frame tail ≡ false → is_bad_frame_for frame tail ≡ false
+not_stuck frame None sound fit = refl
+not_stuck frame (Some tail) sound fit = λ i. sound i || fit i
+
+pub none_stuck : (frame : FrameLayout) (lines : List Line) → has_bad_frame frame lines ≡ false → (i : ℕ) (line : Line) → slice_get lines i ≡ Some line → is_stuck frame line ≡ false
+none_stuck frame lines e i (Put inst) at = not_stuck frame (tail_call_of inst) (or_left (is_bad_frame frame) _ e) (none_unfit frame lines e i (Put inst) at)
+none_stuck frame lines e i (Bind label) at = refl
 
 -- ---- rules
 

@@ -21,9 +21,9 @@ use Rattle.mach_records.specs.declared.records.MachRecord.{MachRecord}
 use Rattle.mach_records.specs.declared.records.MachReloc.{MachReloc}
 use Rattle.mach_buffer.proofs.Laws.{locate}
 use Rattle.rv_inst.specs.Context.{Context}
-use Rattle.rv_inst.specs.Records.{access_records, patch_records, return_records, inst_records}
+use Rattle.rv_inst.specs.Records.{access_records, patch_records, return_records}
 use Rattle.rv_inst.specs.Relocations.{field_size, IsOutside}
-use Rattle.rv_inst.specs.Sizes.{Extent, Words, Island, After, Around, extent_of, call_size, call_extent}
+use Rattle.rv_inst.specs.Sizes.{Extent, Words, Island, After, Around, extent_of, call_size, call_extent, inst_records}
 use Rattle.rv_inst.specs.Returns.{StackLoad, loads_unless}
 use Rattle.rv_inst.specs.declared.code.LineSpan.{LineSpan}
 use Rattle.rv_inst.specs.declared.inst.Inst.{Inst}

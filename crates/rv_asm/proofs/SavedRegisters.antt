@@ -15,7 +15,8 @@ use Rattle.mach_records.specs.declared.records.MachRecord.{MachRecord}
 use Rattle.mach_records.specs.declared.records.MachUnwind.{MachUnwind}
 use Rattle.rv_inst.specs.Context.{Context}
 use Rattle.rv_inst.specs.Operands.{inst_registers}
-use Rattle.rv_inst.specs.Records.{access_records, patch_records, return_records, inst_records}
+use Rattle.rv_inst.specs.Records.{access_records, patch_records, return_records}
+use Rattle.rv_inst.specs.Sizes.{inst_records}
 use Rattle.rv_inst.specs.Rules.{inst_rule, broken_rule, is_virtual}
 use Rattle.rv_inst.specs.declared.code.LineSpan.{LineSpan}
 use Rattle.rv_inst.specs.declared.inst.Inst.{Inst}

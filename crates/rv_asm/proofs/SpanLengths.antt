@@ -2,8 +2,6 @@
 use Rattle.std.proofs.Common.{◌≡◌, ℕ, zero, suc, ◌+◌, ◌^◌, ◌<◌, ◌≤◌, List, [], ◌∷◌, length, map, Some, None, sym, ap, subst, ◌∙◌, arith}
 use Rattle.std.specs.Prelude.{slice_get}
 use Rattle.rv_base.specs.declared.constant.Constant.{Constant}
-use Rattle.rv_base.specs.declared.flags.IsaFlags.{IsaFlags}
-use Rattle.rv_base.specs.LabelUse.{code_limit}
 use Rattle.std.specs.List.{AllByRecursion}
 use Rattle.rv_inst.specs.Context.{context_of}
 use Rattle.rv_inst.specs.declared.inst.Line.{Line}
@@ -11,9 +9,8 @@ use Rattle.rv_inst.specs.declared.inst.Line.TheVariants.{Inst as Put, Bind}
 use Rattle.rv_inst.specs.declared.job.Job.{Job}
 use Rattle.rv_inst.specs.declared.code.Code.{Code}
 use Rattle.rv_inst.specs.LabelUse.{label_kinds}
-use Rattle.rv_inst.specs.Sizes.{Extent, Words, Island, After, Around, space_in, words_in, extent_of, line_sum}
+use Rattle.rv_inst.specs.Sizes.{Extent, Words, Island, After, Around, extent_of}
 use Rattle.rv_inst.specs.Relocations.{IsOutside}
-use Rattle.rv_inst.specs.Rules.{broken_rule}
 use Rattle.mach_records.specs.declared.records.ConstPlace.{ConstPlace}
 use Rattle.mach_records.specs.declared.records.MachReloc.{MachReloc}
 use Rattle.mach_buffer.specs.Buffer.{shape_of, bytes_of, place_of, records_of, constants_of}
@@ -24,8 +21,8 @@ use Rattle.rv_emit.specs.NewConstants.{AddsConstants}
 use Rattle.rv_emit.specs.Emitted.{Buffer}
 use Rattle.rv_emit.specs.Puts.{AllBytes}
 use Rattle.rv_emit.specs.Standing.{SpansIn, IsFinishedTo}
-use Rattle.rv_emit.proofs.Laws.{adds_end, gap_is, words_within}
-use Rattle.rv_asm.specs.Reported.{start_of, end_of, end_before, binds_from, returns_from, records_from, IsGap, IsSized, IsSpan, IsShort, StandApart, Reported}
+use Rattle.rv_emit.proofs.Laws.{adds_end, gap_is}
+use Rattle.rv_asm.specs.Reported.{start_of, end_of, end_before, binds_from, returns_from, records_from, IsGap, IsSized, IsSpan, StandApart, Reported}
 use Rattle.rv_asm.specs.LinesInBuffer.{LineStands, LinesStand}
 use Rattle.rv_asm.proofs.ExitPoints.{AllBound}
 use Rattle.rv_asm.proofs.Extents.{spans_within, words_more}
@@ -39,13 +36,6 @@ all_bytes [] h k lt = absurd (omega arith)
 all_bytes (b ∷ bytes) h zero lt = h.0
 all_bytes (b ∷ bytes) h (suc k) lt = all_bytes bytes h.1 k (omega arith)
 
--- the span of an instruction that asks for no island is as long as its words
-alone_long : (flags : IsaFlags) (bytes : List ℕ) (e : Extent) (start end : ℕ) → space_in e ≡ None → IsSized flags bytes e start end → end ≡ start + words_in e
-alone_long flags bytes (Words size) start end none h = h
-alone_long flags bytes (Island space) start end none h = absurd (cc)
-alone_long flags bytes (After space size more) start end none h = absurd (cc)
-alone_long flags bytes (Around before space after) start end none h = absurd (cc)
-
 module _ (job : Job) (code : Code) (b : Buffer) (built : LinesStand (context_of job) job.lines code.lines b) (f : IsFinishedTo (shape_of b) code.bytes) (constants : code.constants ≡ f.finishes.put.constants) (small : length code.bytes ≤ 2 ^ 64) where
   spans_sized : (e : Extent) (start end : ℕ) → SpansIn job.flags (shape_of b) e start end → IsSized job.flags code.bytes e start end
   spans_sized (Words size) start end long = long
@@ -56,12 +46,6 @@ module _ (job : Job) (code : Code) (b : Buffer) (built : LinesStand (context_of 
   line_long : (line : Line) (start end : ℕ) → LineStands (context_of job) line b start end → IsSpan (context_of job) code.bytes line start end
   line_long (Put inst) start end h = spans_sized (extent_of (context_of job) inst) start end h.2
   line_long (Bind label) start end (same, bound) = sym same
-
-  line_short : (line : Line) (start end : ℕ) → broken_rule (context_of job) line ≡ None → line_sum (context_of job) line ≤ code_limit → LineStands (context_of job) line b start end → IsShort (context_of job) line start end
-  line_short (Put inst) start end rule counted h =
-      let most = words_within (context_of job) inst rule counted in
-      (most, λ none. let long = alone_long job.flags code.bytes (extent_of (context_of job) inst) start end none (spans_sized (extent_of (context_of job) inst) start end h.2) in omega (arith, most, long))
-  line_short (Bind label) start end rule counted h = tt
 
   -- the constants that the end puts come after all lines
   put_after : AddsConstants (shape_of b) f.finishes.put
@@ -84,13 +68,12 @@ module _ (job : Job) (code : Code) (b : Buffer) (built : LinesStand (context_of 
   reloc_of : code.relocs ≡ relocs_in (records_of b) → (j : ℕ) (r : MachReloc) → slice_get code.relocs j ≡ Some r → slice_get (relocs_in (records_from (context_of job) code.lines 0 job.lines)) j ≡ Some r
   reloc_of relocs j r e = ap (λ (rs : List MachReloc). slice_get rs j) (sym (relocs ∙ ap relocs_in built.records)) ∙ e
 
-  pub built_reported : code.returns ≡ returns_from job.flags code.lines 0 job.lines → code.labels ≡ binds_from code.lines 0 job.lines → code.relocs ≡ relocs_in (records_of b) → code.traps ≡ traps_in (records_of b) → code.call_sites ≡ calls_in (records_of b) → code.try_call_sites ≡ tries_in (offset_or_zero (place_of b)) (records_of b) → code.patchable_call_sites ≡ patches_in (records_of b) → code.stack_maps ≡ maps_in (records_of b) → code.unwinds ≡ unwinds_in (records_of b) → code.end ≡ length (bytes_of b) → length (bytes_of b) ≤ length code.bytes → ((i : ℕ) (line : Line) → slice_get job.lines i ≡ Some line → AllBound job.lines (named_labels line)) → ((i : ℕ) (line : Line) → slice_get job.lines i ≡ Some line → broken_rule (context_of job) line ≡ None) → ((i : ℕ) (line : Line) → slice_get job.lines i ≡ Some line → line_sum (context_of job) line ≤ code_limit) → Reported job code
-  built_reported returns labels relocs traps call_sites try_call_sites patchable_call_sites stack_maps unwinds end within named ruled counted = record {
+  pub built_reported : code.returns ≡ returns_from job.flags code.lines 0 job.lines → code.labels ≡ binds_from code.lines 0 job.lines → code.relocs ≡ relocs_in (records_of b) → code.traps ≡ traps_in (records_of b) → code.call_sites ≡ calls_in (records_of b) → code.try_call_sites ≡ tries_in (offset_or_zero (place_of b)) (records_of b) → code.patchable_call_sites ≡ patches_in (records_of b) → code.stack_maps ≡ maps_in (records_of b) → code.unwinds ≡ unwinds_in (records_of b) → code.end ≡ length (bytes_of b) → length (bytes_of b) ≤ length code.bytes → ((i : ℕ) (line : Line) → slice_get job.lines i ≡ Some line → AllBound job.lines (named_labels line)) → Reported job code
+  built_reported returns labels relocs traps call_sites try_call_sites patchable_call_sites stack_maps unwinds end within named = record {
     count = built.count;
     indices = built.indices;
     first = built.first;
     long = spans_long;
-    short = λ i line e. line_short line (start_of code.lines i) (end_of code.lines i) (ruled i line e) (counted i line e) (built.each i line e).there;
     joined = spans_joined;
     last = λ i e. end ∙ built.ends ∙ ap (end_before code.lines) (sym e);
     none = λ e. end ∙ built.ends ∙ ap (end_before code.lines) e;

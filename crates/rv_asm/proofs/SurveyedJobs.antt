@@ -14,7 +14,7 @@ use Rattle.rv_inst.specs.declared.inst.Line.{Line}
 use Rattle.rv_inst.specs.declared.inst.Line.TheVariants.{Inst as Put}
 use Rattle.rv_inst.specs.declared.job.Job.{Job}
 use Rattle.rv_inst.specs.Context.{Context, context_of}
-use Rattle.rv_inst.specs.Frames.{is_bad_frame_for}
+use Rattle.rv_inst.specs.Frames.{is_unrestorable_for}
 use Rattle.rv_inst.specs.Plain.{IsPlain}
 use Rattle.rv_inst.specs.Rules.{first_of, broken_rule}
 use Rattle.rv_inst.specs.Sizes.{line_sum}
@@ -24,7 +24,7 @@ use Rattle.rv_asm.specs.Survey.{IsPlainLine, IsSurveyed}
 
 -- a line of a plain instruction
 pub plain_line : (context : Context) (inst : Inst) → IsPlain inst → IsPlainLine context (Put inst)
-plain_line context inst p = record { fit = ap (is_bad_frame_for context.frame) p.tail; rule = p.rules context; size = p.size context }
+plain_line context inst p = record { fit = ap (is_unrestorable_for context.frame) p.tail; rule = p.rules context; size = p.size context }
 
 -- ---- one line more, where the lines that are left are that line and others
 

@@ -10,7 +10,7 @@ use Rattle.rv_inst.specs.declared.inst.Line.{Line}
 use Rattle.rv_inst.specs.declared.inst.Line.TheVariants.{Inst as Put, Bind}
 use Rattle.rv_inst.specs.Families.{family_of}
 use Rattle.rv_inst.specs.Meaning.{Environment, writes_of}
-use Rattle.rv_inst.specs.OneOperation.{operation_of}
+use Rattle.rv_inst.specs.Sizes.{operation_of}
 use Rattle.rv_machine.specs.declared.decoding.Decoded.{Decoded}
 use Rattle.rv_full.specs.declared.answer.Answer.{Answer}
 use Rattle.rv_full.specs.Rows.{Row, Absent, Does, Takes, row_takes}

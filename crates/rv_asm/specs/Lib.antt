@@ -9,6 +9,7 @@ pub mod Placed
 pub mod Simulation
 pub mod AfterLastIsland
 pub mod Reported
+pub mod ShortSpans
 pub mod SavedRegisters
 pub mod Survey
 pub mod Jumps

@@ -14,7 +14,7 @@ use Rattle.rv_inst.specs.declared.inst.Inst.{Inst}
 use Rattle.rv_inst.specs.declared.code.LineSpan.{LineSpan}
 use Rattle.rv_inst.specs.declared.code.CallReturn.{CallReturn}
 use Rattle.rv_inst.specs.declared.label_use.LabelUse.{LabelUse}
-use Rattle.rv_inst.specs.Operands.{named_labels}
+use Rattle.rv_inst.specs.Operands.{named_labels, tail_call_of}
 use Rattle.rv_inst.specs.Rules.{broken_rule}
 use Rattle.rv_inst.specs.LabelUse.{label_kinds, has_veneer_of}
 use Rattle.mach_uses.specs.declared.uses.Use.{Use}
@@ -33,7 +33,9 @@ use Rattle.rv_code.specs.declared.state.EmitVState.{EmitVState}
 use Rattle.rv_code.specs.declared.state.EmitVState.TheVariants.{Unknown}
 use Rattle.rv_emit.specs.State.{setting_after, setting_beyond}
 use Rattle.rv_asm.specs.Reported.{start_of, end_of, end_before, binds_from, line_returns, records_from, constants_named, StandApart}
-use Rattle.rv_asm.specs.Refusal.{is_unfit, binds, is_bound, size_sum}
+use Rattle.rv_base.specs.declared.frame.FrameLayout.{FrameLayout}
+use Rattle.rv_inst.specs.Frames.{is_bad_frame_for}
+use Rattle.rv_asm.specs.Refusal.{binds, is_bound, size_sum}
 use Rattle.rv_inst.specs.Sizes.{extent_of, line_space, line_sum}
 
 -- ---- where lines stand
@@ -102,11 +104,16 @@ pub record Sized (context : Context) (lines : List Line) (b : Buffer) : Type 0 w
 
 -- ---- one line more
 
+-- whether a line can't take the frame away
+abbrev pub is_stuck : FrameLayout → Line → Bool
+is_stuck frame (Put inst) = is_bad_frame_for frame (tail_call_of inst)
+is_stuck frame (Bind label) = false
+
 -- what a line asks, in its context, of the buffer
 pub record CanPut (context : Context) (line : Line) (b : Buffer) : Type 0 where
   pub rule : broken_rule context line ≡ None
   pub frame : sp_to_args_end context.frame < 2 ^ 31
-  pub fit : is_unfit context.frame line ≡ false
+  pub fit : is_stuck context.frame line ≡ false
   pub sound : IsSoundBuffer b
   pub reach : CanReach (length (bytes_of b)) (pending b)
   pub few : allocated_of b + 1 < 2 ^ 29

@@ -11,7 +11,7 @@ use Rattle.rv_inst.specs.declared.inst.Line.TheVariants.{Inst as Put, Bind}
 use Rattle.rv_inst.specs.declared.error.Rule.{Rule}
 use Rattle.rv_inst.specs.declared.error.EmitError.{EmitError}
 use Rattle.rv_inst.specs.declared.error.EmitError.TheVariants.{BadFrame, Malformed, LabelTwice, UnboundLabel, TooLarge, OutOfMemory}
-use Rattle.rv_inst.specs.Frames.{is_bad_frame, is_bad_frame_for}
+use Rattle.rv_inst.specs.Frames.{is_bad_frame, is_unrestorable_for}
 use Rattle.rv_inst.specs.Operands.{named_labels, tail_call_of}
 use Rattle.rv_inst.specs.Rules.{first_of, broken_rule}
 use Rattle.rv_inst.specs.Sizes.{line_sum}
@@ -22,7 +22,7 @@ malformed index (Some rule) = Some (Malformed index rule)
 
 -- whether a line is a tail call that can't restore a frame
 abbrev pub is_unfit : FrameLayout → Line → Bool
-is_unfit frame (Put inst) = is_bad_frame_for frame (tail_call_of inst)
+is_unfit frame (Put inst) = is_unrestorable_for frame (tail_call_of inst)
 is_unfit frame (Bind label) = false
 
 -- a frame that no function has, or that one of these lines can't restore

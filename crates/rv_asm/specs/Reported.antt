@@ -12,13 +12,12 @@ use Rattle.rv_inst.specs.declared.inst.Line.TheVariants.{Inst as Put, Bind}
 use Rattle.rv_inst.specs.declared.job.Job.{Job}
 use Rattle.rv_inst.specs.Islands.{IsIsland}
 use Rattle.rv_inst.specs.Operands.{inst_constant, named_by}
-use Rattle.rv_inst.specs.Sizes.{Extent, Words, Island, After, Around, words_in, extent_of, island_space, trap_size}
-use Rattle.rv_inst.specs.MostBytes.{most_bytes}
+use Rattle.rv_inst.specs.Sizes.{Extent, Words, Island, After, Around, extent_of, trap_size, inst_records}
 use Rattle.rv_base.specs.declared.flags.IsaFlags.{IsaFlags}
 use Rattle.rv_inst.specs.declared.code.Code.{Code}
 use Rattle.rv_inst.specs.declared.code.LineSpan.{LineSpan}
 use Rattle.rv_inst.specs.declared.code.CallReturn.{CallReturn}
-use Rattle.rv_inst.specs.Calls.{Return, return_of}
+use Rattle.rv_inst.specs.Operands.{Return, return_of}
 use Rattle.mach_uses.specs.declared.uses.LabelPlace.{LabelPlace}
 use Rattle.mach_records.specs.declared.records.MachRecord.{MachRecord}
 use Rattle.mach_records.specs.Records.{relocs_in, traps_in, calls_in, tries_in, patches_in, maps_in, unwinds_in}
@@ -26,7 +25,6 @@ use Rattle.mach_records.specs.declared.records.ConstPlace.{ConstPlace}
 use Rattle.mach_buffer.specs.Constants.{HasConstants, zeros}
 use Rattle.mach_uses.specs.Windows.{window, IsApart}
 use Rattle.mach_records.specs.declared.records.MachReloc.{MachReloc}
-use Rattle.rv_inst.specs.Records.{inst_records}
 use Rattle.rv_inst.specs.Relocations.{field_size, IsOutside}
 
 abbrev pub start_of : List LineSpan → ℕ → ℕ
@@ -111,11 +109,6 @@ abbrev pub IsSpan : Context → List ℕ → Line → ℕ → ℕ → Type 0
 IsSpan context bytes (Put inst) start end = IsSized context.flags bytes (extent_of context inst) start end
 IsSpan context bytes (Bind label) start end = end ≡ start
 
--- an instruction's words are at most as many bytes as its kind may have, and so is its span, where it asks for no island itself
-abbrev pub IsShort : Context → Line → ℕ → ℕ → Type 0
-IsShort context (Put inst) start end = (words_in (extent_of context inst) ≤ most_bytes context inst) × (island_space context inst ≡ None → end ≤ start + most_bytes context inst)
-IsShort context (Bind label) start end = Unit {0}
-
 -- two stretches of code share no byte
 abbrev pub AreApart : ℕ → ℕ → ℕ → ℕ → Type 0
 AreApart start end from to = (end ≤ from) ⊎ (to ≤ start)
@@ -143,8 +136,7 @@ pub record Stands (code : Code) (at : ℕ) (bytes : List ℕ) : Type 0 where
   pub there : window code.bytes at (length bytes) ≡ bytes
   pub unfilled : IsOutside code.relocs at (length bytes)
 
--- Every line has one span, in order, as long as the line, and no longer than lines of its kind may be, an island in it apart. The
--- first starts at 0; between two stands nothing, or an island.
+-- Every line has one span, in order, as long as the line. The first starts at 0; between two stands nothing, or an island.
 -- The code's end is that of the last line, its labels are the binds, its returns are those of the calls, and its records are
 -- those of the lines: what a linker fills, traps, call sites, those of calls that may throw, each handler with the offset of its label,
 -- calls that may be patched, values on the stack, and steps in the making of the frame.
@@ -158,7 +150,6 @@ pub record Reported (job : Job) (code : Code) : Type 0 where
   pub indices : (i : ℕ) (span : LineSpan) → slice_get code.lines i ≡ Some span → span.index ≡ i
   pub first : start_of code.lines 0 ≡ 0
   pub long : (i : ℕ) (line : Line) → slice_get job.lines i ≡ Some line → IsSpan (context_of job) code.bytes line (start_of code.lines i) (end_of code.lines i)
-  pub short : (i : ℕ) (line : Line) → slice_get job.lines i ≡ Some line → IsShort (context_of job) line (start_of code.lines i) (end_of code.lines i)
   pub joined : (i : ℕ) → suc i < length job.lines → IsGap job.flags code.bytes (end_of code.lines i) (start_of code.lines (suc i))
   pub last : (i : ℕ) → suc i ≡ length job.lines → code.end ≡ end_of code.lines i
   pub none : length job.lines ≡ 0 → code.end ≡ 0

@@ -9,16 +9,17 @@ use Rattle.rv_inst.specs.declared.inst.Line.TheVariants.{Inst as Put}
 use Rattle.rv_inst.specs.declared.job.Job.{Job}
 use Rattle.rv_inst.specs.Context.{context_of}
 use Rattle.rv_inst.specs.Core.{is_integer, is_integer_line}
-use Rattle.rv_inst.specs.OneOperation.{operation_of}
+use Rattle.rv_inst.specs.Sizes.{operation_of}
 use Rattle.rv_inst.specs.declared.code.Code.{Code}
 use Rattle.rv_inst.specs.declared.code.CallReturn.{CallReturn}
-use Rattle.rv_inst.specs.Calls.{Return, return_of}
+use Rattle.rv_inst.specs.Operands.{Return, return_of}
 use Rattle.rv_inst.specs.Meaning.{Environment, Exit, Next, To, Leave, Break, Trap, Data, exit_of, return_exit, effect_of, return_effect, writes_of, temporaries_of, AreOutside}
 use Rattle.rv_machine.specs.State.{State, IsState, Values, AreValues, Memory, wrap}
 use Rattle.rv_base.specs.declared.flags.IsaFlags.{IsaFlags}
 use Rattle.rv_machine.specs.declared.decoding.Decoded.{Decoded}
 use Rattle.rv_machine.specs.Decode.{decode, int_decode}
 use Rattle.rv_machine.specs.Steps.{IsBreak, IsZeroHalf, fetch, iter}
+use Rattle.rv_inst.specs.Forms.{IsOwnForm}
 use Rattle.rv_inst.specs.SameValues.{Same, SameBut}
 use Rattle.rv_asm.specs.Placed.{Addresses, address_of_name, IsPlaced}
 use Rattle.rv_asm.specs.Reported.{start_of, end_of, binding_line, label_start}
@@ -155,8 +156,8 @@ pub record RunsAsListed (job : Job) (code : Code) : Type 0 where
   pub back : (base : ℕ) (symbols slots : Addresses) (i : ℕ) (inst : Inst) (r : Return) (s : State) (v : Values) → slice_get job.lines i ≡ Some (Put inst) → return_of job.flags inst ≡ Some r → IsPlaced code base symbols slots s.values.mem → IsState s → AreValues v → s.pc ≡ address_of code base (Returned i) → Same v s.values → Comes job code base symbols slots (Returned i) v s
 
 -- Wherever the code is placed, the machine reads at the start of a line of one machine word the operation that stands for it: in two
--- bytes where the instruction has a form of sixteen bits, and then that form's, else in four. The integer machine reads those of the integer
--- core, and the machine with all units each.
+-- bytes where the instruction has a form of sixteen bits, and then that form's own, else in four. The integer machine reads those of the
+-- integer core, and the machine with all units each.
 pub record HasOperations (job : Job) (code : Code) : Type 0 where
   pub each : (i : ℕ) (inst : Inst) (d : Decoded) (base : ℕ) (symbols slots : Addresses) (mem : Memory) → slice_get job.lines i ≡ Some (Put inst) → is_integer inst ≡ true → operation_of (context_of job) inst ≡ Some d → IsPlaced code base symbols slots mem → int_decode job.flags (fetch mem (base + start_of code.lines i)) ≡ Some d
-  pub all : (i : ℕ) (inst : Inst) (d : Decoded) (base : ℕ) (symbols slots : Addresses) (mem : Memory) → slice_get job.lines i ≡ Some (Put inst) → operation_of (context_of job) inst ≡ Some d → IsPlaced code base symbols slots mem → decode job.flags (fetch mem (base + start_of code.lines i)) ≡ Some d
+  pub all : (i : ℕ) (inst : Inst) (d : Decoded) (base : ℕ) (symbols slots : Addresses) (mem : Memory) → slice_get job.lines i ≡ Some (Put inst) → operation_of (context_of job) inst ≡ Some d → IsPlaced code base symbols slots mem → (decode job.flags (fetch mem (base + start_of code.lines i)) ≡ Some d) × IsOwnForm d (fetch mem (base + start_of code.lines i))

@@ -16,7 +16,7 @@ pub use assembly::assemble;
 pub use line_laws::{
     elsewhere_unchanged, entry_is_first_line, fine_lines_accepted, lines_run, nothing_runs,
     only_memory_left, runs_compose, same_are_loaded_alike, silent_lines_unrecorded,
-    stack_loads_fine, stack_stores_fine, stored_is_loaded,
+    spans_are_short, stack_loads_fine, stack_stores_fine, stored_is_loaded,
 };
 pub use outcome::Outcome;
 pub use program::run;

@@ -2,6 +2,7 @@
 
 ghost use Rattle.rv_asm.specs.LineRuns.{EntryIsFirstLine, LinesRun, NothingRuns, RunsCompose};
 ghost use Rattle.rv_asm.specs.FineLines.{FineLinesAccepted, OnlyMemoryLeft, SilentLinesUnrecorded, StackLoadsFine, StackStoresFine};
+ghost use Rattle.rv_asm.specs.ShortSpans.{SpansAreShort};
 ghost use Rattle.rv_asm.specs.StoredNumbers.{StoredIsLoaded, SameAreLoadedAlike, ElsewhereUnchanged};
 
 /// Who enters placed code at its base stands at its first line.
@@ -63,4 +64,9 @@ pub fn same_are_loaded_alike()
 /// Bytes that are stored elsewhere change none.
 pub fn elsewhere_unchanged()
     ensures { ElsewhereUnchanged }
+{}
+
+/// The span of a line is at most as long as lines of its kind may be, an island in it apart.
+pub fn spans_are_short()
+    ensures { SpansAreShort }
 {}

@@ -14,7 +14,7 @@ use crate::survey::survey;
 use mach_labels::LabelTable;
 use rv_base::{Constant, FrameLayout, IsaFlags, MachLabel, TryCallHandler, TryCallInfo};
 use rv_inst::{
-    CondBrTarget, EmitError, Inst, Line, Targets, handler_label, is_bad_frame, is_bad_frame_for,
+    CondBrTarget, EmitError, Inst, Line, Targets, handler_label, is_bad_frame, is_unrestorable_for,
 };
 use std::alloc::Global;
 
@@ -64,7 +64,7 @@ pub fn is_unfit(line: &Line, frame: &FrameLayout) -> bool
     ensures { result ≡ is_unfit frame.now line.now }
 {
     match line {
-        Line::Inst(inst) => is_bad_frame_for(inst, frame),
+        Line::Inst(inst) => is_unrestorable_for(inst, frame),
         Line::Bind(_) => false,
     }
 }

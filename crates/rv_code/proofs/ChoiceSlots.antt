@@ -14,8 +14,7 @@ use Rattle.rv_encode.specs.Operations.{decoded_branch}
 use Rattle.rv_inst.specs.Context.{Context}
 use Rattle.rv_inst.specs.Forms.{short_rri}
 use Rattle.rv_inst.specs.Operands.{all_of, written_in, inst_constant, named_by}
-use Rattle.rv_inst.specs.Sizes.{Words, extent_of, extend_size, is_byte, move_size, moves_size, right_shift, select_size}
-use Rattle.rv_inst.specs.Records.{inst_records}
+use Rattle.rv_inst.specs.Sizes.{Words, extent_of, extend_size, is_byte, move_size, moves_size, right_shift, select_size, inst_records}
 use Rattle.rv_inst.specs.Uses.{uses_in}
 use Rattle.rv_inst.specs.declared.inst.Inst.{Inst}
 use Rattle.rv_inst.specs.declared.inst.SelectInfo.{SelectInfo}

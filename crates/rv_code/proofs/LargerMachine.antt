@@ -10,8 +10,8 @@ use Rattle.rv_full.proofs.LargerMachine.{full_machine, larger_runs}
 use Rattle.rv_inst.specs.declared.inst.Inst.{Inst}
 use Rattle.rv_inst.specs.Core.{is_integer}
 use Rattle.rv_inst.specs.Frames.{is_bad_frame_for}
-use Rattle.rv_inst.specs.Meaning.{AreOutside, inst_effect, inst_exit, inst_temporaries, inst_writes}
-use Rattle.rv_inst.specs.Operands.{tail_call_of}
+use Rattle.rv_inst.specs.Meaning.{AreOutside, inst_effect, inst_exit, inst_writes}
+use Rattle.rv_inst.specs.Operands.{tail_call_of, inst_temporaries}
 use Rattle.rv_inst.specs.Rules.{inst_rule}
 use Rattle.rv_code.specs.declared.state.EmitVState.{EmitVState}
 use Rattle.rv_code.specs.Chains.{Goes}

@@ -4,8 +4,7 @@ use Rattle.rv_base.specs.declared.constant.VCodeConstant.{VCodeConstant}
 use Rattle.rv_base.specs.declared.flags.IsaFlags.{IsaFlags}
 use Rattle.rv_inst.specs.Context.{Context}
 use Rattle.rv_inst.specs.Operands.{inst_constant, named_by}
-use Rattle.rv_inst.specs.Records.{inst_records}
-use Rattle.rv_inst.specs.Sizes.{Words, extent_of}
+use Rattle.rv_inst.specs.Sizes.{Words, extent_of, inst_records}
 use Rattle.rv_inst.specs.Uses.{uses_in}
 use Rattle.rv_inst.specs.declared.inst.Inst.{Inst}
 use Rattle.rv_code.specs.OwnCounts.{own_count}

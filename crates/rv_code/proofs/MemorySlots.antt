@@ -35,8 +35,8 @@ use Rattle.rv_inst.specs.declared.label_use.LabelUse.TheVariants.{PCRelHi20, PCR
 use Rattle.rv_inst.specs.Operands.{address_targets, constant_named, inst_constant, named_by}
 use Rattle.rv_base.specs.declared.constant.VCodeConstant.{VCodeConstant}
 use Rattle.mach_uses.specs.Labels.{constant_label}
-use Rattle.rv_inst.specs.Sizes.{Words, extent_of}
-use Rattle.rv_inst.specs.Records.{access_records, inst_records}
+use Rattle.rv_inst.specs.Sizes.{Words, extent_of, inst_records}
+use Rattle.rv_inst.specs.Records.{access_records}
 use Rattle.rv_inst.specs.Uses.{use_at, uses_in, target_uses}
 use Rattle.rv_inst.specs.Context.{Context}
 use Rattle.rv_inst.specs.declared.inst.Inst.TheVariants.{Load, Store, LoadAddr, LabelAddress}

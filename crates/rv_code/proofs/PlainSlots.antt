@@ -2,9 +2,8 @@
 use Rattle.std.proofs.Common.{◌≡◌, ℕ, ◌+◌, List, [], ◌∷◌}
 use Rattle.rv_inst.specs.Context.{Context}
 use Rattle.rv_inst.specs.declared.inst.Inst.{Inst}
-use Rattle.rv_inst.specs.Sizes.{Words, words_in, extent_of}
+use Rattle.rv_inst.specs.Sizes.{Words, words_in, extent_of, inst_records}
 use Rattle.rv_inst.specs.Uses.{uses_in}
-use Rattle.rv_inst.specs.Records.{inst_records}
 use Rattle.rv_code.specs.Slots.{Slot, Op, Aim, Data, Notes, Names, Allocate, Here, Fill, Address, CallTo, size_of, uses_of, records_of, names_of}
 use Rattle.rv_base.specs.declared.constant.VCodeConstant.{VCodeConstant}
 use Rattle.rv_inst.specs.Operands.{inst_constant, named_by}

@@ -1,5 +1,5 @@
 -- What a frame that a tail call can take away gives.
-use Rattle.std.proofs.Common.{◌≡◌, ◌≢◌, ℕ, ◌+◌, ◌^◌, ◌<◌, ◌≤◌, Bool, true, false, ℤ, pos, ◌-ℤ◌, List, [], ◌∷◌, ◌++◌, arith, lit<}
+use Rattle.std.proofs.Common.{◌≡◌, ◌≢◌, ℕ, ◌+◌, ◌^◌, ◌<◌, ◌≤◌, Bool, true, false, ℤ, pos, ◌-ℤ◌, List, [], ◌∷◌, ◌++◌, arith, lit<, Some}
 use Rattle.std.specs.Prelude.{if◌then◌else◌, ◌||◌, ◌&&◌, ◌==◌, not, nat_lt, nat_le}
 use Rattle.std.specs.List.{AllByRecursion, list_any}
 use Rattle.std.proofs.lemmas.Bool.{or_parts}
@@ -11,7 +11,7 @@ use Rattle.rv_base.specs.declared.regs.RegClass.TheVariants.{Int, Float, Vector}
 use Rattle.rv_base.specs.declared.regs.Writable.{Writable}
 use Rattle.rv_base.specs.Frame.{sp_to_fp_of, sp_to_args_end}
 use Rattle.rv_ops.specs.declared.memory.LoadOP.TheVariants.{Ld}
-use Rattle.rv_inst.specs.Frames.{is_unsaved, is_unrestored, is_t0, is_bad_frame, is_unrestorable}
+use Rattle.rv_inst.specs.Frames.{is_unsaved, is_unrestored, is_t0, is_bad_frame, is_bad_frame_for}
 use Rattle.rv_inst.specs.Returns.{StackLoad, saves_from, setup_loads, restores}
 use Rattle.rv_inst.specs.Rules.{is_int_class, is_vector_class}
 use Rattle.rv_inst.specs.declared.tail_calls.TailCall.{TailCall}
@@ -86,7 +86,7 @@ pub record IsRestorable (frame : FrameLayout) : Type 0 where
 small_frame : (n : ℕ) → nat_le (2 ^ 31) n ≡ false → n < 2 ^ 31
 small_frame n h = grind (arith, nat_tests)
 
-pub is_restorable : (frame : FrameLayout) (tail : TailCall) → is_unrestorable frame tail ≡ false → IsRestorable frame
+pub is_restorable : (frame : FrameLayout) (tail : TailCall) → is_bad_frame_for frame (Some tail) ≡ false → IsRestorable frame
 is_restorable frame tail e =
     let saves = frame.clobbered_callee_saves in
     let bad = or_parts (is_bad_frame frame) _ e in
@@ -98,7 +98,7 @@ is_restorable frame tail e =
     }
 
 -- t0 isn't restored, where a tail call goes through it
-pub t0_other : (frame : FrameLayout) (size : ℕ) → is_unrestorable frame (record { stack_arg_size = size; by_register = true }) ≡ false → AreOthers 5 (restores frame)
+pub t0_other : (frame : FrameLayout) (size : ℕ) → is_bad_frame_for frame (Some (record { stack_arg_size = size; by_register = true })) ≡ false → AreOthers 5 (restores frame)
 t0_other frame size e =
     let saves = frame.clobbered_callee_saves in
     let bad = or_parts (is_bad_frame frame) _ e in

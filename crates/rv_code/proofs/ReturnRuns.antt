@@ -11,7 +11,7 @@ use Rattle.rv_machine.specs.declared.ops.BaseOp.TheVariants as base
 use Rattle.rv_machine.specs.State.{State, IsState, Values, reg, set_reg, wrap, low64, at}
 use Rattle.rv_encode.specs.Operations.{decoded}
 use Rattle.rv_inst.specs.Forms.{short_jalr}
-use Rattle.rv_inst.specs.Frames.{is_unrestorable}
+use Rattle.rv_inst.specs.Frames.{is_bad_frame_for}
 use Rattle.rv_inst.specs.Meaning.{Leave, stack_loaded, frame_left, symbol_at}
 use Rattle.rv_inst.specs.Returns.{restores, frame_above}
 use Rattle.rv_inst.specs.declared.inst.Inst.TheVariants.{ReturnCall, ReturnCallInd}
@@ -141,7 +141,7 @@ tail_out {site} {v = v} space arguments name h e =
       placed = c.here.placed;
     })
 
-pub return_call_runs : (site : Site) (setting : EmitVState) (info : ReturnCallInfo ExternalName) → is_unrestorable site.context.frame (record { stack_arg_size = info.new_stack_arg_size; by_register = false }) ≡ false → RunsIn site setting (ReturnCall info)
+pub return_call_runs : (site : Site) (setting : EmitVState) (info : ReturnCallInfo ExternalName) → is_bad_frame_for site.context.frame (Some (record { stack_arg_size = info.new_stack_arg_size; by_register = false })) ≡ false → RunsIn site setting (ReturnCall info)
 return_call_runs site setting info fine = record {
   run = λ start after s v e clear.
       let n = info.new_stack_arg_size in
@@ -176,7 +176,7 @@ t0_out {site} {v = v} space arguments h others e =
       placed = c.here.placed;
     })
 
-pub return_call_ind_runs : (site : Site) (setting : EmitVState) (info : ReturnCallInfo Reg) → number_of info.dest ≡ 5 → is_unrestorable site.context.frame (record { stack_arg_size = info.new_stack_arg_size; by_register = true }) ≡ false → RunsIn site setting (ReturnCallInd info)
+pub return_call_ind_runs : (site : Site) (setting : EmitVState) (info : ReturnCallInfo Reg) → number_of info.dest ≡ 5 → is_bad_frame_for site.context.frame (Some (record { stack_arg_size = info.new_stack_arg_size; by_register = true })) ≡ false → RunsIn site setting (ReturnCallInd info)
 return_call_ind_runs site setting info fifth fine = record {
   run = λ start after s v e clear.
       let n = info.new_stack_arg_size in

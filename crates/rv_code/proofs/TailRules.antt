@@ -17,7 +17,7 @@ use Rattle.rv_base.specs.Regs.{number_of}
 use Rattle.rv_encode.specs.Registers.{IsIntRegister}
 use Rattle.rv_inst.proofs.Rules.{breaks_none}
 use Rattle.rv_inst.specs.Context.{Context}
-use Rattle.rv_inst.specs.Frames.{is_unrestored, is_bad_frame, is_unrestorable, is_bad_frame_for}
+use Rattle.rv_inst.specs.Frames.{is_unrestored, is_bad_frame, is_bad_frame_for}
 use Rattle.rv_inst.specs.Operands.{tail_call_of}
 use Rattle.rv_inst.specs.Rules.{is_int_class, is_fifth, exceeds_arguments, inst_rule}
 use Rattle.rv_inst.specs.Sizes.{inst_sum}
@@ -56,7 +56,7 @@ pub are_saved : (saves : List (Writable PReg)) → list_any (λ (r : Writable PR
 are_saved [] e = tt
 are_saved (r ∷ saves) e = let both = or_parts (is_unrestored r.reg) _ e in (int_saved r.reg.class both.0, are_saved saves both.1)
 
-pub frame_saved : (frame : FrameLayout) (tail : TailCall) → is_unrestorable frame tail ≡ false → AreSaved frame.clobbered_callee_saves
+pub frame_saved : (frame : FrameLayout) (tail : TailCall) → is_bad_frame_for frame (Some tail) ≡ false → AreSaved frame.clobbered_callee_saves
 frame_saved frame tail e = are_saved frame.clobbered_callee_saves (or_parts _ _ (or_parts (is_bad_frame frame) _ e).1).0
 
 arguments_fit : (have want : ℕ) → nat_lt have want ≡ false → want ≤ have

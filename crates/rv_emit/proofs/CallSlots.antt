@@ -21,9 +21,9 @@ use Rattle.rv_inst.specs.declared.targets.Targets.TheVariants.{Nowhere}
 use Rattle.rv_inst.specs.Context.{Context}
 use Rattle.rv_inst.specs.Forms.{short_jalr, jump_kind, jump_size}
 use Rattle.rv_inst.specs.LabelUse.{marks_of}
-use Rattle.rv_inst.specs.Records.{site_event, return_records, patch_records, inst_records}
+use Rattle.rv_inst.specs.Records.{site_event, return_records, patch_records}
 use Rattle.rv_inst.specs.Returns.{StackLoad, result_loads, loads_unless}
-use Rattle.rv_inst.specs.Sizes.{Extent, Words, Island, After, Around, stack_loads_size, stack_step_size, fall, call_size, try_size, results_space, call_extent, extent_of, space_in, island_space, inst_sum}
+use Rattle.rv_inst.specs.Sizes.{Extent, Words, Island, After, Around, stack_loads_size, stack_step_size, fall, call_size, try_size, results_space, call_extent, extent_of, space_in, island_space, inst_sum, inst_records}
 use Rattle.rv_inst.specs.Rules.{is_stacked}
 use Rattle.rv_inst.proofs.ResultLoads.{no_extra}
 use Rattle.rv_inst.specs.Uses.{use_at, uses_by, uses_in}

@@ -9,9 +9,8 @@ use Rattle.rv_base.specs.declared.regs.Reg.{Reg}
 use Rattle.rv_base.specs.Regs.{number_of}
 use Rattle.rv_inst.specs.Context.{Context, context_by}
 use Rattle.rv_inst.specs.Forms.{short_jalr}
-use Rattle.rv_inst.specs.Records.{inst_records}
 use Rattle.rv_inst.specs.Returns.{StackLoad}
-use Rattle.rv_inst.specs.Sizes.{line_space, call_size, results_space}
+use Rattle.rv_inst.specs.Sizes.{line_space, call_size, results_space, inst_records}
 use Rattle.rv_inst.specs.declared.inst.Inst.{Inst}
 use Rattle.rv_inst.specs.declared.inst.Inst.TheVariants.{Call, CallInd}
 use Rattle.mach_buffer.specs.Buffer.{shape_of, bytes_of, allocated_of}

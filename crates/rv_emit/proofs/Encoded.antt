@@ -6,7 +6,7 @@ use Rattle.rv_base.specs.LabelUse.{SameOutside}
 use Rattle.rv_machine.specs.declared.decoding.Decoded.{Decoded}
 use Rattle.rv_machine.specs.declared.ops.MOp.TheVariants.{Base}
 use Rattle.rv_machine.specs.declared.ops.BaseOp.TheVariants.{Jal}
-use Rattle.rv_machine.specs.Compressed.{decode_half}
+use Rattle.rv_machine.specs.Compressed.{decode_half, half_funct3}
 use Rattle.rv_machine.specs.Decode.{decode}
 use Rattle.rv_machine.proofs.DecodeLaws.{decode_low}
 use Rattle.rv_machine.specs.Layout.{word_opcode, compressed}
@@ -100,6 +100,9 @@ fetch_half mem a bytes at two =
     let b0 : byte mem a ≡ slice_index bytes 0 = ap (byte mem) a0 ∙ at.there 0 (omega arith) in
     let b1 : byte mem (wrap (a + 1)) ≡ slice_index bytes 1 = ap (byte mem) a1 ∙ at.there 1 (omega arith) in
     omega arith
+
+pub low_funct3 : (mem : Memory) (a : ℕ) (bytes : List ℕ) → BytesAt mem a bytes → length bytes ≡ 2 → half_funct3 (fetch mem a) ≡ half_funct3 (half_at bytes)
+low_funct3 mem a bytes at two = let word = fetch_half mem a bytes at two in omega (arith, word)
 
 -- two bytes encode the operation that their halfword decodes to
 pub half_encodes : (flags : IsaFlags) (bytes : List ℕ) (d : Decoded) → length bytes ≡ 2 → half_at bytes < 2 ^ 16 → nat_eq (half_at bytes % 4) 3 ≡ false → decode_half flags (half_at bytes) ≡ Some d → Encodes flags bytes (d ∷ [])

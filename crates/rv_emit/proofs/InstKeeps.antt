@@ -9,9 +9,8 @@ use Rattle.mach_buffer.specs.Buffer.{bytes_of, place_of, labels_of, records_of, 
 use Rattle.rv_inst.specs.Context.{Context}
 use Rattle.rv_inst.specs.Forms.{short_jalr}
 use Rattle.rv_inst.specs.Operands.{inst_constant, named_by}
-use Rattle.rv_inst.specs.Records.{inst_records}
 use Rattle.rv_inst.specs.Returns.{StackLoad, result_loads, loads_unless}
-use Rattle.rv_inst.specs.Sizes.{Extent, Words, Island, After, Around, extent_of, call_extent}
+use Rattle.rv_inst.specs.Sizes.{Extent, Words, Island, After, Around, extent_of, call_extent, inst_records}
 use Rattle.rv_inst.specs.Uses.{uses_in}
 use Rattle.rv_inst.specs.declared.inst.Inst.{Inst}
 use Rattle.rv_inst.specs.declared.inst.Inst.TheVariants.{EmitIsland, BrTable, Call, CallInd, ReturnCall, ReturnCallInd}

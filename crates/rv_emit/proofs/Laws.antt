@@ -31,7 +31,7 @@ pub use Rattle.rv_emit.proofs.CallSlots.{call_stands, call_ind_stands, call_few,
 pub use Rattle.rv_emit.proofs.CallAppends.{words_pending}
 pub use Rattle.rv_emit.proofs.PlainSlots.{words_long}
 -- what was put into a buffer, in the finished code
-pub use Rattle.rv_emit.proofs.Standing.{place_within, slots_stand, gap_stands, parts_stand}
+pub use Rattle.rv_emit.proofs.Standing.{place_within, slots_stand, gap_stands, parts_stand, own_stands}
 pub use Rattle.rv_emit.proofs.IslandsStand.{island_is, gap_is}
 -- where a jump or a branch aims
 pub use Rattle.rv_emit.proofs.LabelsReached.{GoesToLabel, label_reached}
@@ -51,8 +51,8 @@ pub use Rattle.rv_code.proofs.NumberRuns.{bits_back}
 pub use Rattle.rv_emit.proofs.Fields.{ends_later, clear_there, slot_fields_end}
 -- a window of bytes: its bytes and its length
 pub use Rattle.rv_emit.proofs.PlacedBytes.{window_byte, window_length}
--- the operation of an instruction of one machine word, where it starts
-pub use Rattle.rv_code.proofs.OneOperations.{has_operation, reads_operation}
+-- the operation of an instruction of one machine word, where it starts, in its own form
+pub use Rattle.rv_code.proofs.OneOperations.{IsAlone, one_slot, has_operation, reads_operation}
 -- a step at a unit's operation, and what a float operation does
 pub use Rattle.rv_code.proofs.UnitRuns.{unit_next_at, row_comes}
 pub use Rattle.rv_code.proofs.FloatRules.{result_usable}

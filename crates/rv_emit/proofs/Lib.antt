@@ -13,6 +13,7 @@ mod PartsInBuffer
 mod PlacedBytes
 mod PlainSlots
 mod HalfwordCode
+mod OwnForms
 mod TableAppends
 mod TableCode
 mod BufferAfterSlots

@@ -16,8 +16,7 @@ use Rattle.mach_buffer.proofs.Laws.{few_allocated, use_usable, placed_same, plac
 use Rattle.rv_inst.specs.Context.{Context}
 use Rattle.rv_inst.specs.Forms.{jump_kind}
 use Rattle.rv_inst.specs.LabelUse.{label_kinds, forward_of, backward_of, has_veneer_of}
-use Rattle.rv_inst.specs.Records.{inst_records}
-use Rattle.rv_inst.specs.Sizes.{words_in}
+use Rattle.rv_inst.specs.Sizes.{words_in, inst_records}
 use Rattle.rv_inst.specs.Uses.{use_at, uses_in}
 use Rattle.rv_inst.specs.declared.inst.Inst.{Inst}
 use Rattle.rv_inst.specs.declared.label_use.LabelUse.{LabelUse}

@@ -45,7 +45,7 @@ abbrev StandWell : Shape LabelUse → Type 0
 StandWell s = AreWindows label_kinds s.bytes s.uses
 
 slot_well : (flags : IsaFlags) (allocated : ℕ) (slot : Slot) (s t : Shape LabelUse) → length s.bytes % 2 ≡ 0 → PutsSlot flags allocated slot s t → StandWell s → StandWell t
-slot_well flags allocated (Op d) s t even (bytes, long, encodes, e) w = subst StandWell (sym e) (windows_with_bytes s w bytes)
+slot_well flags allocated (Op d) s t even (bytes, long, encodes, e, own) w = subst StandWell (sym e) (windows_with_bytes s w bytes)
 slot_well flags allocated (Aim kind target ops) s t even (window, is, e) w =
     let u = use_at (length s.bytes) (label_of allocated target) kind in
     subst StandWell (sym e) (windows_with_use s w even window u (record { at = refl; bare = refl; long = is.long }) is.fresh)

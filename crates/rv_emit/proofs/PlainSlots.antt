@@ -6,9 +6,8 @@ use Rattle.rv_inst.specs.Context.{Context}
 use Rattle.rv_inst.specs.declared.inst.Inst.{Inst}
 use Rattle.rv_inst.specs.declared.label_use.LabelUse.{LabelUse}
 use Rattle.rv_inst.specs.LabelUse.{marks_of}
-use Rattle.rv_inst.specs.Sizes.{Words, words_in, extent_of}
+use Rattle.rv_inst.specs.Sizes.{Words, words_in, extent_of, inst_records}
 use Rattle.rv_inst.specs.Uses.{uses_in}
-use Rattle.rv_inst.specs.Records.{inst_records}
 use Rattle.mach_records.specs.declared.records.MachRecord.{MachRecord}
 use Rattle.mach_uses.specs.declared.uses.Use.{Use}
 use Rattle.mach_buffer.specs.Shape.{Shape}

@@ -19,7 +19,7 @@ use Rattle.rv_inst.specs.declared.inst.CondBrTarget.{CondBrTarget}
 use Rattle.rv_inst.specs.declared.inst.CondBrTarget.TheVariants.{Label as ToLabel, Fallthrough}
 use Rattle.rv_inst.specs.declared.label_use.LabelUse.{LabelUse}
 use Rattle.rv_inst.specs.declared.label_use.LabelUse.TheVariants.{Jal20, B12, RVCJump}
-use Rattle.rv_inst.specs.LabelUseWords.{word_bytes}
+use Rattle.rv_inst.specs.LabelUseWords.{word_bytes, half_at}
 use Rattle.rv_inst.specs.Uses.{use_at}
 use Rattle.mach_buffer.specs.Buffer.{shape_of, bytes_of, allocated_of}
 use Rattle.mach_buffer.specs.Shape.{with_bytes, with_use}
@@ -28,6 +28,7 @@ use Rattle.rv_emit.specs.Emission.{PutsAlone, PutsSlots}
 use Rattle.rv_code.specs.Slots.{Label, Slot, Op, Aim}
 use Rattle.rv_emit.specs.Puts.{PutsSlot}
 use Rattle.rv_code.specs.InstParts.{jump_to, wide_jump_to, branch_to, move_slots, branch_slots}
+use Rattle.rv_emit.proofs.OwnForms.{own_word}
 use Rattle.rv_emit.proofs.Encoded.{word_encodes, jump_patchable, half_jump_patchable, branch_patchable}
 use Rattle.rv_emit.proofs.Words.{IsBranch}
 
@@ -42,7 +43,7 @@ none_put flags b s = (b, record { puts = refl; sound = s }, refl)
 -- the word of an operation
 pub op_put : (flags : IsaFlags) (old new : Buffer) (w : ℕ) (bytes : List ℕ) (d : Decoded) → d.len ≡ 4 → decode flags w ≡ Some d → bytes ≡ word_bytes w → shape_of new ≡ with_bytes bytes (shape_of old) → IsSoundBuffer new → PutsAlone flags (Op d ∷ []) old new
 op_put flags old new w bytes d four e is put sound = alone (record {
-  puts = (shape_of new, (word_bytes w, sym four, word_encodes flags w d e, put ∙ ap (λ b. with_bytes b (shape_of old)) is), refl);
+  puts = (shape_of new, (word_bytes w, sym four, word_encodes flags w d e, put ∙ ap (λ b. with_bytes b (shape_of old)) is, own_word d (half_at (word_bytes w)) four), refl);
   sound = sound;
 })
 

@@ -1,5 +1,5 @@
 -- What was put into a buffer, whatever followed, stands in the finished code.
-use Rattle.std.proofs.Common.{◌≡◌, ◌⊎◌, ℕ, ◌+◌, ◌%◌, ◌≤◌, Bool, true, false, ⊎_elim, List, [], ◌∷◌, ◌++◌, length, Option, Some, ℤ, pos, ◌-ℤ◌, refl, ap, sym, ◌∙◌, subst, arith}
+use Rattle.std.proofs.Common.{◌≡◌, ◌⊎◌, ℕ, ◌+◌, ◌%◌, ◌≤◌, Bool, true, false, ⊎_elim, List, [], ◌∷◌, ◌++◌, length, Option, Some, None, ℤ, pos, ◌-ℤ◌, refl, ap, sym, ◌∙◌, subst, arith}
 use Rattle.std.specs.Prelude.{slice_get, ◌&&◌}
 use Rattle.std.proofs.lemmas.Bool.{true≢false, le-leb}
 use Rattle.std.proofs.lemmas.Option.{same_Some}
@@ -27,6 +27,12 @@ use Rattle.rv_code.specs.InstParts.{wide_jump_to}
 use Rattle.rv_code.specs.Slots.{Symbol, AddressOf, Target, Label, Own, Slot, Op, Aim, Data, Notes, Names, Allocate, Here, Fill, Address, CallTo, upper_event, lower_event, address_event, call_event, Part, Ask, Slots, slot_size, size_of, own_label, label_of, uses_of, between, here_at, IsClosed, AreClosed, AreSelfContained, PartsAreSelfContained}
 use Rattle.rv_code.specs.Sites.{Site, BytesAt, IsPlacedAt, CodeHas, LeadsOn, Leads, Reaches, AimsFrom, symbol_address, FillsFrom, LinksFrom, StandsIn, GapIn, PartsStand}
 use Rattle.rv_machine.specs.State.{Memory}
+use Rattle.rv_machine.specs.Steps.{fetch}
+use Rattle.rv_base.specs.declared.trap.TrapCode.{TrapCode}
+use Rattle.mach_records.specs.declared.records.Event.TheVariants as event
+use Rattle.rv_inst.specs.Forms.{IsOwnForm}
+use Rattle.rv_code.specs.InstParts.{access_slots}
+use Rattle.rv_emit.proofs.Encoded.{low_funct3}
 use Rattle.rv_emit.specs.Images.{AllClear, FieldsEnd, FieldsStand, KeepsOutside, IsFilled}
 use Rattle.rv_emit.proofs.Fields.{clear_there, clear_later, slot_fields_end}
 use Rattle.rv_emit.specs.Puts.{Encodes, eight_zeros, PutsSlot, Puts}
@@ -316,6 +322,26 @@ module _ (site : Site) (f : Shape LabelUse) (final : List ℕ) (fin : IsFinished
         subst (λ n. StandsIn site q.old.allocated n slots) (sym starts) (stands fields filled q.old.allocated (length q.old.bytes) (λ k. here_at k 0 slots) q.new put 0 slots q.old q.puts closed (omega arith) q.windows.inside q.fields),
         omega arith,
       )
+
+  -- the operation of a slot stands there in its own form
+  own_at : (allocated : ℕ) (d : Decoded) (s mid new : Shape LabelUse) → Lasts label_kinds new f → PutsSlot site.context.flags allocated (Op d) s mid → Puts site.context.flags allocated [] mid new → AllEnd label_kinds s → FieldsEnd s → (mem : Memory) → IsPlacedAt site mem → IsOwnForm d (fetch mem (site.base + length s.bytes))
+  own_at allocated d s mid new lasts p rest ends kept mem placed rd imm is holds =
+      let a = after_slot allocated (Op d) [] s mid new lasts p rest in
+      let long = p.1 in
+      let room = a.room in
+      let two : length p.0 ≡ 2 = long ∙ ap (λ (x : Decoded). x.len) is in
+      let there = window_there mem site.base site.bytes (length s.bytes) (length p.0) (omega arith) placed.bytes in
+      let bytes = subst (BytesAt mem (site.base + length s.bytes)) (piece_there s mid p.0 p.3 ends kept a.lasts) there in
+      low_funct3 mem (site.base + length s.bytes) p.0 bytes two ∙ p.4 rd imm is holds
+
+  pub own_stands : (trap : Option TrapCode) (d : Decoded) (start end : ℕ) → SlotsIn site.context.flags (access_slots trap ++ Op d ∷ []) f start end → (mem : Memory) → IsPlacedAt site mem → IsOwnForm d (fetch mem (site.base + start))
+  own_stands None d start end q mem placed = subst (λ n. IsOwnForm d (fetch mem (site.base + n))) (sym q.starts) (own_at q.old.allocated d q.old q.puts.0 q.new q.lasts q.puts.1 q.puts.2 q.windows.inside q.fields mem placed)
+  own_stands (Some code) d start end q mem placed =
+      let a = after_slot q.old.allocated (Notes (event.Trap code)) (Op d ∷ []) q.old q.puts.0 q.new q.lasts q.puts.1 q.puts.2 in
+      let long = a.long in
+      let starts = q.starts in
+      let same : length q.puts.0.bytes ≡ start = omega arith in
+      subst (λ n. IsOwnForm d (fetch mem (site.base + n))) same (own_at q.old.allocated d q.puts.0 q.puts.2.0 q.new q.lasts q.puts.2.1 q.puts.2.2 (a.ends q.windows.inside) (a.fields q.fields) mem placed)
 
   -- they end in the code
   slots_within : (slots : List Slot) (start end : ℕ) → SlotsIn site.context.flags slots f start end → end ≤ length site.bytes

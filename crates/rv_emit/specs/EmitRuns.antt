@@ -7,14 +7,13 @@ use Rattle.rv_machine.specs.declared.decoding.Decoded.{Decoded}
 use Rattle.rv_machine.specs.Decode.{decode}
 use Rattle.rv_machine.specs.State.{State, IsState, Values, AreValues, Memory, wrap}
 use Rattle.rv_machine.specs.Steps.{fetch}
-use Rattle.rv_inst.specs.Calls.{Return, return_of}
+use Rattle.rv_inst.specs.Sizes.{inst_records, operation_of}
+use Rattle.rv_inst.specs.Operands.{Return, return_of, inst_temporaries}
 use Rattle.rv_inst.specs.Context.{Context}
 use Rattle.rv_inst.specs.Core.{is_integer}
 use Rattle.rv_inst.specs.LabelUse.{label_kinds}
-use Rattle.rv_inst.specs.Meaning.{AreOutside, inst_effect, inst_exit, inst_temporaries, inst_writes, resumed, try_exit}
-use Rattle.rv_inst.specs.OneOperation.{operation_of}
+use Rattle.rv_inst.specs.Meaning.{AreOutside, inst_effect, inst_exit, inst_writes, resumed, try_exit}
 use Rattle.rv_inst.specs.Operands.{inst_constant, named_by, try_call_of}
-use Rattle.rv_inst.specs.Records.{inst_records}
 use Rattle.rv_inst.specs.SameValues.{Same}
 use Rattle.rv_inst.specs.declared.inst.Inst.{Inst}
 use Rattle.rv_inst.specs.declared.label_use.LabelUse.{LabelUse}

@@ -15,9 +15,8 @@ use Rattle.rv_inst.specs.Context.{Context}
 use Rattle.rv_inst.specs.Operands.{table_of, inst_ways, inst_constant, tail_call_of, named_by}
 use Rattle.rv_inst.specs.Frames.{is_bad_frame_for}
 use Rattle.rv_inst.specs.Rules.{inst_rule}
-use Rattle.rv_inst.specs.Sizes.{Extent, Words, Island, After, Around, words_in, extent_of, line_space, island_space, inst_sum}
+use Rattle.rv_inst.specs.Sizes.{Extent, Words, Island, After, Around, words_in, extent_of, line_space, island_space, inst_sum, inst_records}
 use Rattle.rv_inst.specs.MostBytes.{most_bytes}
-use Rattle.rv_inst.specs.Records.{inst_records}
 use Rattle.rv_inst.specs.Uses.{use_at, uses_in, least_reach}
 use Rattle.mach_buffer.specs.declared.buffer.MachBuffer.{MachBuffer}
 use Rattle.mach_records.specs.declared.records.MachRecord.{MachRecord}

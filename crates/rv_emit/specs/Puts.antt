@@ -8,7 +8,9 @@ use Rattle.rv_inst.specs.declared.label_use.LabelUse.{LabelUse}
 use Rattle.rv_inst.specs.declared.label_use.LabelUse.TheVariants.{PCRel32, PCRelHi20, PCRelLo12I}
 use Rattle.mach_records.specs.declared.records.Event.{Event}
 use Rattle.mach_records.specs.declared.records.Event.TheVariants as event
+use Rattle.rv_inst.specs.Forms.{IsOwnForm}
 use Rattle.rv_inst.specs.LabelUse.{Aims, marks_of}
+use Rattle.rv_inst.specs.LabelUseWords.{half_at}
 use Rattle.rv_inst.specs.Uses.{use_at}
 use Rattle.mach_buffer.specs.Shape.{Shape, with_bytes, with_use, with_label, with_allocated, with_record, with_named}
 use Rattle.rv_code.specs.Slots.{Slot, Op, Aim, Data, Notes, Names, Allocate, Here, Fill, Address, CallTo, own_label, label_of, upper_event, lower_event, address_event, call_event}
@@ -44,7 +46,7 @@ eight_zeros = 0 ∷ 0 ∷ 0 ∷ 0 ∷ 0 ∷ 0 ∷ 0 ∷ 0 ∷ []
 
 -- a slot was put
 abbrev pub PutsSlot : IsaFlags → ℕ → Slot → Shape LabelUse → Shape LabelUse → Type 0
-PutsSlot flags allocated (Op d) s t = (bytes : List ℕ) × (length bytes ≡ d.len) × Encodes flags bytes (d ∷ []) × (t ≡ with_bytes bytes s)
+PutsSlot flags allocated (Op d) s t = (bytes : List ℕ) × (length bytes ≡ d.len) × Encodes flags bytes (d ∷ []) × (t ≡ with_bytes bytes s) × IsOwnForm d (half_at bytes)
 PutsSlot flags allocated (Aim kind target ops) s t = (window : List ℕ) × IsPatchable flags kind window ops × (t ≡ with_bytes window (with_use (use_at (length s.bytes) (label_of allocated target) kind) s))
 PutsSlot flags allocated (Data bytes) s t = t ≡ with_bytes bytes s
 PutsSlot flags allocated (Notes e) s t = AsksNothing e × (t ≡ with_record e s)

@@ -7,11 +7,11 @@ ghost use Rattle.rv_base.specs.LabelUse.{code_limit};
 ghost use Rattle.rv_base.specs.Regs.{number_of};
 ghost use Rattle.rv_encode.specs.Registers.{IsIntRegister};
 ghost use Rattle.rv_encode.specs.Layouts.{IsEven};
-ghost use Rattle.rv_inst.specs.Forms.{jump_size, short_rrr, short_rri, short_lui, short_jalr, short_ebreak, short_load, short_store};
+ghost use Rattle.rv_inst.specs.Forms.{IsOwnForm, jump_size, short_rrr, short_rri, short_lui, short_jalr, short_ebreak, short_load, short_store};
 ghost use Rattle.mach_buffer.specs.Buffer.{bytes_of, spoiled_of};
 ghost use Rattle.rv_emit.specs.Emitted.{IsSoundBuffer};
 ghost use Rattle.rv_emit.specs.Emission.{PutsAlone};
-ghost use Rattle.rv_emit.specs.Encoded.{Holds, IsHalf, IsSizeOf};
+ghost use Rattle.rv_emit.specs.Encoded.{Holds, IsHalf, IsSizeOf, WhereHalf};
 ghost use Rattle.rv_code.specs.Operations.{short_jump};
 ghost use Rattle.rv_code.specs.Slots.{Op};
 
@@ -53,7 +53,7 @@ pub(crate) fn put_encoded(
 ) -> Result<(), OutOfMemory>
     requires room { length (bytes_of sink.old) + 4 < code_limit }
     requires sound { IsSoundBuffer sink.old }
-    ensures slot { OnOk result ((flags : IsaFlags) (d : Decoded) → Holds flags encoded d → PutsAlone flags (Op d ∷ []) sink.old sink.new) }
+    ensures slot { OnOk result ((flags : IsaFlags) (d : Decoded) → Holds flags encoded d → WhereHalf encoded (IsOwnForm d) → PutsAlone flags (Op d ∷ []) sink.old sink.new) }
     ensures long { OnOk result (length (bytes_of sink.new) ≤ length (bytes_of sink.old) + 4) }
     ensures sound { OnOk result (IsSoundBuffer sink.new) }
     ensures refused { OnErr result (spoiled_of sink.new ≡ true) }
@@ -68,7 +68,7 @@ pub(crate) fn put_encoded(
 fn put_half(sink: &mut MachBuffer<LabelUse>, half: u16) -> Result<(), OutOfMemory>
     requires room { length (bytes_of sink.old) + 4 < code_limit }
     requires sound { IsSoundBuffer sink.old }
-    ensures slot { OnOk result ((flags : IsaFlags) (d : Decoded) → IsHalf flags half d → PutsAlone flags (Op d ∷ []) sink.old sink.new) }
+    ensures slot { OnOk result ((flags : IsaFlags) (d : Decoded) → IsHalf flags half d → IsOwnForm d half → PutsAlone flags (Op d ∷ []) sink.old sink.new) }
     ensures long { OnOk result (length (bytes_of sink.new) ≤ length (bytes_of sink.old) + 4) }
     ensures sound { OnOk result (IsSoundBuffer sink.new) }
     ensures refused { OnErr result (spoiled_of sink.new ≡ true) }

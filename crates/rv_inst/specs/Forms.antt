@@ -184,6 +184,10 @@ is_addi rd rs imm = (rd == rs) && not (rs == 0) && not (is_equal imm (pos 0))
 abbrev pub IsAddi16spFirst : ℕ → ℕ → ℤ → ℕ → Type 0
 IsAddi16spFirst rd rs imm half = is_addi16sp rd rs imm ≡ true → half_funct3 half ≡ ci_funct3 CAddi16sp
 
+-- so a halfword that stands for an operation is that operation's own form
+abbrev pub IsOwnForm : Decoded → ℕ → Type 0
+IsOwnForm d half = (rd : ℕ) (imm : ℤ) → d ≡ compressed (Alu (Int int.Addi)) rd rd 0 imm → IsAddi16spFirst rd rd imm half
+
 abbrev pub addi_form : ℕ → ℕ → ℤ → Option Decoded
 addi_form rd rs imm =
     if is_move rd rs imm then move_form rd rs else

@@ -24,10 +24,15 @@ is_t0 p = is_x 5 p
 abbrev pub is_bad_frame : FrameLayout → Bool
 is_bad_frame frame = nat_le (2 ^ 31) (sp_to_args_end frame) || list_any (λ (r : Writable PReg). is_unsaved r.reg) frame.clobbered_callee_saves
 
--- a frame that a tail call can't restore: also one that saves a float register, or the register through which the call goes
+-- a frame that a tail call can't restore, since it saves a float register, or the register through which the call goes
 abbrev pub is_unrestorable : FrameLayout → TailCall → Bool
-is_unrestorable frame tail = is_bad_frame frame || (list_any (λ (r : Writable PReg). is_unrestored r.reg) frame.clobbered_callee_saves || (tail.by_register && list_any (λ (r : Writable PReg). is_t0 r.reg) frame.clobbered_callee_saves))
+is_unrestorable frame tail = list_any (λ (r : Writable PReg). is_unrestored r.reg) frame.clobbered_callee_saves || (tail.by_register && list_any (λ (r : Writable PReg). is_t0 r.reg) frame.clobbered_callee_saves)
 
+abbrev pub is_unrestorable_for : FrameLayout → Option TailCall → Bool
+is_unrestorable_for frame None = false
+is_unrestorable_for frame (Some tail) = is_unrestorable frame tail
+
+-- a frame that a tail call can't take away: a bad one, too
 abbrev pub is_bad_frame_for : FrameLayout → Option TailCall → Bool
 is_bad_frame_for frame None = false
-is_bad_frame_for frame (Some tail) = is_unrestorable frame tail
+is_bad_frame_for frame (Some tail) = is_bad_frame frame || is_unrestorable frame tail

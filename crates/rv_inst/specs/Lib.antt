@@ -13,13 +13,11 @@ pub mod LabelUseBridges
 pub mod LabelUseWords
 pub mod Meaning
 pub mod Returns
-pub mod Calls
 pub mod Rules
 pub mod Frames
 pub mod SameValues
 pub mod Sizes
 pub mod MostBytes
-pub mod OneOperation
 pub mod Bits
 pub mod CondBrTargets
 pub mod RegisterTests

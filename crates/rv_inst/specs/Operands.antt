@@ -1,5 +1,5 @@
--- The registers, labels and constants that a line names, in the order of its fields.
-use Rattle.std.specs.Prelude.{ℕ, true, false, List, [], ◌∷◌, ◌++◌, map, Option, Some, None}
+-- The registers, labels and constants that a line names, in the order of its fields, and where its call returns.
+use Rattle.std.specs.Prelude.{ℕ, true, false, List, [], ◌∷◌, ◌++◌, map, Option, Some, None, pos}
 use Rattle.rv_base.specs.declared.amode.AMode.{AMode}
 use Rattle.rv_base.specs.AMode.{registers_of}
 use Rattle.rv_base.specs.declared.amode.AMode.TheVariants.{RegOffset, SPOffset, FPOffset, SlotOffset, IncomingArg, Const, Label as LabelAt}
@@ -13,16 +13,20 @@ use Rattle.rv_base.specs.declared.call.RetLocation.TheVariants.{Reg as InReg, St
 use Rattle.rv_base.specs.declared.call.TryCallHandler.{TryCallHandler}
 use Rattle.rv_base.specs.declared.call.TryCallHandler.TheVariants.{Tag, Default}
 use Rattle.rv_base.specs.declared.call.TryCallInfo.{TryCallInfo}
+use Rattle.rv_base.specs.declared.flags.IsaFlags.{IsaFlags}
 use Rattle.rv_base.specs.declared.label.MachLabel.{MachLabel}
 use Rattle.rv_base.specs.declared.regs.Reg.{Reg}
 use Rattle.rv_base.specs.declared.regs.Reg.TheVariants.{Real}
 use Rattle.rv_base.specs.declared.regs.Writable.{Writable}
+use Rattle.rv_base.specs.Regs.{number_of}
 use Rattle.rv_base.specs.declared.unwind.UnwindInst.{UnwindInst}
 use Rattle.rv_base.specs.declared.unwind.UnwindInst.TheVariants.{PushFrameRegs, DefineNewFrame, StackAlloc, SaveReg}
 use Rattle.rv_base.specs.declared.value_regs.ValueRegs.{ValueRegs}
 use Rattle.rv_base.specs.declared.value_regs.ValueRegs.TheVariants.{One, Two}
 use Rattle.rv_ops.specs.Memory.{load_size}
 use Rattle.mach_uses.specs.Labels.{name_more}
+use Rattle.rv_inst.specs.Forms.{short_jalr}
+use Rattle.rv_inst.specs.Returns.{StackLoad, result_loads, loads_unless}
 use Rattle.rv_inst.specs.declared.inst.Line.{Line}
 use Rattle.rv_inst.specs.declared.inst.Line.TheVariants.{Inst as Put, Bind}
 use Rattle.rv_inst.specs.declared.inst.Inst.{Inst}
@@ -74,51 +78,6 @@ unwind_registers (DefineNewFrame to_caller to_clobbers) = []
 unwind_registers (StackAlloc size) = []
 unwind_registers (SaveReg offset reg) = reg ∷ []
 
--- the registers of an instruction
-abbrev pub inst_registers : Inst → List Reg
-inst_registers Nop0 = []
-inst_registers Nop4 = []
-inst_registers EBreak = []
-inst_registers SequencePoint = []
-inst_registers (Args args) = arg_registers args
-inst_registers (Rets rets) = ret_registers rets
-inst_registers (DummyUse reg) = reg ∷ []
-inst_registers (Unwind inst) = unwind_registers inst
-inst_registers (EmitIsland needed_space) = []
-inst_registers (RawData bytes) = []
-inst_registers (Lui rd imm) = rd.reg ∷ []
-inst_registers (Auipc rd imm) = rd.reg ∷ []
-inst_registers (LoadInlineConst rd type imm) = rd.reg ∷ []
-inst_registers (AluRRR op rd rs1 rs2) = rd.reg ∷ rs1 ∷ rs2 ∷ []
-inst_registers (AluRRImm12 op rd rs imm) = rd.reg ∷ rs ∷ []
-inst_registers (Mov rd rm type) = rd.reg ∷ rm ∷ []
-inst_registers (MovFromPReg rd rm) = rd.reg ∷ Real rm ∷ []
-inst_registers (Extend rd rn signed from_bits to_bits) = rd.reg ∷ rn ∷ []
-inst_registers (Select info) = written_in info.dst ++ info.condition.rs1 ∷ info.condition.rs2 ∷ all_of info.x ++ all_of info.y
-inst_registers (Load rd op flags from) = rd.reg ∷ registers_of from
-inst_registers (Store src op flags to) = src ∷ registers_of to
-inst_registers (LoadAddr rd mem) = rd.reg ∷ registers_of mem
-inst_registers (LabelAddress dst label) = dst.reg ∷ []
-inst_registers Ret = []
-inst_registers (TrapIf cmp code) = cmp.rs1 ∷ cmp.rs2 ∷ []
-inst_registers (Jal label) = []
-inst_registers (CondBr taken not_taken kind) = kind.rs1 ∷ kind.rs2 ∷ []
-inst_registers (BrTable index tmp1 tmp2 targets) = index ∷ tmp1.reg ∷ tmp2.reg ∷ []
-inst_registers (Udf code) = []
-inst_registers (Jalr rd base offset) = rd.reg ∷ base ∷ []
-inst_registers (Popcnt info) = info.sum.reg ∷ info.tmp.reg ∷ info.step.reg ∷ info.rs ∷ []
-inst_registers (Cltz leading info) = info.sum.reg ∷ info.tmp.reg ∷ info.step.reg ∷ info.rs ∷ []
-inst_registers (Brev8 info) = info.rs ∷ info.step.reg ∷ info.tmp.reg ∷ info.tmp2.reg ∷ info.rd.reg ∷ []
-inst_registers (StackProbeLoop guard_size probe_count tmp) = tmp.reg ∷ []
-inst_registers (LoadExtNameGot rd name) = rd.reg ∷ []
-inst_registers (LoadExtNameNear rd name offset) = rd.reg ∷ []
-inst_registers (LoadExtNameFar rd name offset) = rd.reg ∷ []
-inst_registers (Call info) = use_registers info.uses ++ def_registers info.defs
-inst_registers (CallInd info) = info.dest ∷ use_registers info.uses ++ def_registers info.defs
-inst_registers (ReturnCall info) = use_registers info.uses
-inst_registers (ReturnCallInd info) = info.dest ∷ use_registers info.uses
-inst_registers (FpuRRR op width frm rd rs1 rs2) = rd.reg ∷ rs1 ∷ rs2 ∷ []
-
 abbrev pub target_labels : CondBrTarget → List MachLabel
 target_labels (Label label) = label ∷ []
 target_labels Fallthrough = []
@@ -133,230 +92,100 @@ address_targets read (IncomingArg o) = Nowhere
 address_targets read (Const k) = RefersConstant k read
 address_targets read (LabelAt l) = Refers l
 
--- the labels, or the constant, that an instruction names, by what it does with them
+-- so many bytes after the start of its line a call returns; then the stack pointer falls by so many, and results are loaded
+pub record Return : Type 0 where
+  pub offset : ℕ
+  pub popped : ℕ
+  pub loads : List StackLoad
+
+abbrev pub returns_at : ℕ → ℕ → List StackLoad → Option Return
+returns_at offset popped loads = Some (record { offset = offset; popped = popped; loads = loads })
+
+-- What an instruction names: its registers; the labels, or the constant, by what it does with them; the labels of its table, the default
+-- first; and the numbers of its temporaries, beside x30 and x31, which may hold anything after it. Of a call: its results, where control
+-- goes after one that ends its block, where one returns, by the flags, and the tail call that it is.
+pub record Operands : Type 0 where
+  pub registers : List Reg
+  pub targets : Targets
+  pub table : List MachLabel
+  pub temporaries : List ℕ
+  pub results : List CallRetPair
+  pub try_call : Option TryCallInfo
+  pub returns : IsaFlags → Option Return
+  pub tail_call : Option TailCall
+
+-- these registers, and nothing else
+abbrev pub only : List Reg → Operands
+only registers = record { registers = registers; targets = Nowhere; table = []; temporaries = []; results = []; try_call = None; returns = λ flags. None; tail_call = None }
+
+-- a call returns after an auipc and a jalr, or after a jalr alone
+abbrev pub operands_of : Inst → Operands
+operands_of Nop0 = only []
+operands_of Nop4 = only []
+operands_of EBreak = only []
+operands_of SequencePoint = only []
+operands_of (Args args) = only (arg_registers args)
+operands_of (Rets rets) = only (ret_registers rets)
+operands_of (DummyUse reg) = only (reg ∷ [])
+operands_of (Unwind inst) = only (unwind_registers inst)
+operands_of (EmitIsland needed_space) = only []
+operands_of (RawData bytes) = only []
+operands_of (Lui rd imm) = only (rd.reg ∷ [])
+operands_of (Auipc rd imm) = only (rd.reg ∷ [])
+operands_of (LoadInlineConst rd type imm) = only (rd.reg ∷ [])
+operands_of (AluRRR op rd rs1 rs2) = only (rd.reg ∷ rs1 ∷ rs2 ∷ [])
+operands_of (AluRRImm12 op rd rs imm) = only (rd.reg ∷ rs ∷ [])
+operands_of (Mov rd rm type) = only (rd.reg ∷ rm ∷ [])
+operands_of (MovFromPReg rd rm) = only (rd.reg ∷ Real rm ∷ [])
+operands_of (Extend rd rn signed from_bits to_bits) = only (rd.reg ∷ rn ∷ [])
+operands_of (Select info) = only (written_in info.dst ++ info.condition.rs1 ∷ info.condition.rs2 ∷ all_of info.x ++ all_of info.y)
+operands_of (Load rd op flags from) = record (only (rd.reg ∷ registers_of from)) { targets = address_targets (load_size op) from }
+operands_of (Store src op flags to) = record (only (src ∷ registers_of to)) { targets = address_targets 0 to }
+operands_of (LoadAddr rd mem) = record (only (rd.reg ∷ registers_of mem)) { targets = address_targets 0 mem }
+operands_of (LabelAddress dst label) = record (only (dst.reg ∷ [])) { targets = Refers label }
+operands_of Ret = only []
+operands_of (TrapIf cmp code) = only (cmp.rs1 ∷ cmp.rs2 ∷ [])
+operands_of (Jal label) = record (only []) { targets = Jumps label }
+operands_of (CondBr taken not_taken kind) = record (only (kind.rs1 ∷ kind.rs2 ∷ [])) { targets = Branches taken not_taken }
+operands_of (BrTable index tmp1 tmp2 targets) = record (only (index ∷ tmp1.reg ∷ tmp2.reg ∷ [])) { table = targets; temporaries = number_of tmp1.reg ∷ number_of tmp2.reg ∷ [] }
+operands_of (Udf code) = only []
+operands_of (Jalr rd base offset) = only (rd.reg ∷ base ∷ [])
+operands_of (Popcnt info) = record (only (info.sum.reg ∷ info.tmp.reg ∷ info.step.reg ∷ info.rs ∷ [])) { temporaries = number_of info.tmp.reg ∷ number_of info.step.reg ∷ [] }
+operands_of (Cltz leading info) = record (only (info.sum.reg ∷ info.tmp.reg ∷ info.step.reg ∷ info.rs ∷ [])) { temporaries = number_of info.tmp.reg ∷ number_of info.step.reg ∷ [] }
+operands_of (Brev8 info) = record (only (info.rs ∷ info.step.reg ∷ info.tmp.reg ∷ info.tmp2.reg ∷ info.rd.reg ∷ [])) { temporaries = number_of info.step.reg ∷ number_of info.tmp.reg ∷ number_of info.tmp2.reg ∷ [] }
+operands_of (StackProbeLoop guard_size probe_count tmp) = record (only (tmp.reg ∷ [])) { temporaries = number_of tmp.reg ∷ [] }
+operands_of (LoadExtNameGot rd name) = only (rd.reg ∷ [])
+operands_of (LoadExtNameNear rd name offset) = only (rd.reg ∷ [])
+operands_of (LoadExtNameFar rd name offset) = only (rd.reg ∷ [])
+operands_of (Call info) = record (only (use_registers info.uses ++ def_registers info.defs)) { results = info.defs; try_call = info.try_call_info; returns = λ flags. returns_at 8 info.callee_pop_size (loads_unless info.patchable info.defs) }
+operands_of (CallInd info) = record (only (info.dest ∷ use_registers info.uses ++ def_registers info.defs)) { results = info.defs; try_call = info.try_call_info; returns = λ flags. returns_at (short_jalr flags 1 (number_of info.dest) (pos 0)).len info.callee_pop_size (result_loads info.defs) }
+operands_of (ReturnCall info) = record (only (use_registers info.uses)) { tail_call = Some (record { stack_arg_size = info.new_stack_arg_size; by_register = false }) }
+operands_of (ReturnCallInd info) = record (only (info.dest ∷ use_registers info.uses)) { tail_call = Some (record { stack_arg_size = info.new_stack_arg_size; by_register = true }) }
+operands_of (FpuRRR op width frm rd rs1 rs2) = only (rd.reg ∷ rs1 ∷ rs2 ∷ [])
+
+abbrev pub inst_registers : Inst → List Reg
+inst_registers inst = (operands_of inst).registers
+
 abbrev pub targets_of : Inst → Targets
-targets_of Nop0 = Nowhere
-targets_of Nop4 = Nowhere
-targets_of EBreak = Nowhere
-targets_of SequencePoint = Nowhere
-targets_of (Args args) = Nowhere
-targets_of (Rets rets) = Nowhere
-targets_of (DummyUse reg) = Nowhere
-targets_of (Unwind inst) = Nowhere
-targets_of (EmitIsland needed_space) = Nowhere
-targets_of (RawData bytes) = Nowhere
-targets_of (Lui rd imm) = Nowhere
-targets_of (Auipc rd imm) = Nowhere
-targets_of (LoadInlineConst rd type imm) = Nowhere
-targets_of (AluRRR op rd rs1 rs2) = Nowhere
-targets_of (AluRRImm12 op rd rs imm) = Nowhere
-targets_of (Mov rd rm type) = Nowhere
-targets_of (MovFromPReg rd rm) = Nowhere
-targets_of (Extend rd rn signed from_bits to_bits) = Nowhere
-targets_of (Select info) = Nowhere
-targets_of (Load rd op flags from) = address_targets (load_size op) from
-targets_of (Store src op flags to) = address_targets 0 to
-targets_of (LoadAddr rd mem) = address_targets 0 mem
-targets_of (LabelAddress dst label) = Refers label
-targets_of Ret = Nowhere
-targets_of (TrapIf cmp code) = Nowhere
-targets_of (Jal label) = Jumps label
-targets_of (CondBr taken not_taken kind) = Branches taken not_taken
-targets_of (BrTable index tmp1 tmp2 targets) = Nowhere
-targets_of (Udf code) = Nowhere
-targets_of (Jalr rd base offset) = Nowhere
-targets_of (Popcnt info) = Nowhere
-targets_of (Cltz leading info) = Nowhere
-targets_of (Brev8 info) = Nowhere
-targets_of (StackProbeLoop guard_size probe_count tmp) = Nowhere
-targets_of (LoadExtNameGot rd name) = Nowhere
-targets_of (LoadExtNameNear rd name offset) = Nowhere
-targets_of (LoadExtNameFar rd name offset) = Nowhere
-targets_of (Call info) = Nowhere
-targets_of (CallInd info) = Nowhere
-targets_of (ReturnCall info) = Nowhere
-targets_of (ReturnCallInd info) = Nowhere
-targets_of (FpuRRR op width frm rd rs1 rs2) = Nowhere
+targets_of inst = (operands_of inst).targets
 
--- the labels of an instruction's table, the default first
 abbrev pub table_of : Inst → List MachLabel
-table_of Nop0 = []
-table_of Nop4 = []
-table_of EBreak = []
-table_of SequencePoint = []
-table_of (Args args) = []
-table_of (Rets rets) = []
-table_of (DummyUse reg) = []
-table_of (Unwind inst) = []
-table_of (EmitIsland needed_space) = []
-table_of (RawData bytes) = []
-table_of (Lui rd imm) = []
-table_of (Auipc rd imm) = []
-table_of (LoadInlineConst rd type imm) = []
-table_of (AluRRR op rd rs1 rs2) = []
-table_of (AluRRImm12 op rd rs imm) = []
-table_of (Mov rd rm type) = []
-table_of (MovFromPReg rd rm) = []
-table_of (Extend rd rn signed from_bits to_bits) = []
-table_of (Select info) = []
-table_of (Load rd op flags from) = []
-table_of (Store src op flags to) = []
-table_of (LoadAddr rd mem) = []
-table_of (LabelAddress dst label) = []
-table_of Ret = []
-table_of (TrapIf cmp code) = []
-table_of (Jal label) = []
-table_of (CondBr taken not_taken kind) = []
-table_of (BrTable index tmp1 tmp2 targets) = targets
-table_of (Udf code) = []
-table_of (Jalr rd base offset) = []
-table_of (Popcnt info) = []
-table_of (Cltz leading info) = []
-table_of (Brev8 info) = []
-table_of (StackProbeLoop guard_size probe_count tmp) = []
-table_of (LoadExtNameGot rd name) = []
-table_of (LoadExtNameNear rd name offset) = []
-table_of (LoadExtNameFar rd name offset) = []
-table_of (Call info) = []
-table_of (CallInd info) = []
-table_of (ReturnCall info) = []
-table_of (ReturnCallInd info) = []
-table_of (FpuRRR op width frm rd rs1 rs2) = []
+table_of inst = (operands_of inst).table
 
--- the tail call that an instruction is
-abbrev pub tail_call_of : Inst → Option TailCall
-tail_call_of Nop0 = None
-tail_call_of Nop4 = None
-tail_call_of EBreak = None
-tail_call_of SequencePoint = None
-tail_call_of (Args args) = None
-tail_call_of (Rets rets) = None
-tail_call_of (DummyUse reg) = None
-tail_call_of (Unwind inst) = None
-tail_call_of (EmitIsland needed_space) = None
-tail_call_of (RawData bytes) = None
-tail_call_of (Lui rd imm) = None
-tail_call_of (Auipc rd imm) = None
-tail_call_of (LoadInlineConst rd type imm) = None
-tail_call_of (AluRRR op rd rs1 rs2) = None
-tail_call_of (AluRRImm12 op rd rs imm) = None
-tail_call_of (Mov rd rm type) = None
-tail_call_of (MovFromPReg rd rm) = None
-tail_call_of (Extend rd rn signed from_bits to_bits) = None
-tail_call_of (Select info) = None
-tail_call_of (Load rd op flags from) = None
-tail_call_of (Store src op flags to) = None
-tail_call_of (LoadAddr rd mem) = None
-tail_call_of (LabelAddress dst label) = None
-tail_call_of Ret = None
-tail_call_of (TrapIf cmp code) = None
-tail_call_of (Jal label) = None
-tail_call_of (CondBr taken not_taken kind) = None
-tail_call_of (BrTable index tmp1 tmp2 targets) = None
-tail_call_of (Udf code) = None
-tail_call_of (Jalr rd base offset) = None
-tail_call_of (Popcnt info) = None
-tail_call_of (Cltz leading info) = None
-tail_call_of (Brev8 info) = None
-tail_call_of (StackProbeLoop guard_size probe_count tmp) = None
-tail_call_of (LoadExtNameGot rd name) = None
-tail_call_of (LoadExtNameNear rd name offset) = None
-tail_call_of (LoadExtNameFar rd name offset) = None
-tail_call_of (Call info) = None
-tail_call_of (CallInd info) = None
-tail_call_of (ReturnCall info) = Some (record { stack_arg_size = info.new_stack_arg_size; by_register = false })
-tail_call_of (ReturnCallInd info) = Some (record { stack_arg_size = info.new_stack_arg_size; by_register = true })
-tail_call_of (FpuRRR op width frm rd rs1 rs2) = None
+abbrev pub inst_temporaries : Inst → List ℕ
+inst_temporaries inst = (operands_of inst).temporaries
 
--- where control goes after a call that ends its block
-abbrev pub try_call_of : Inst → Option TryCallInfo
-try_call_of Nop0 = None
-try_call_of Nop4 = None
-try_call_of EBreak = None
-try_call_of SequencePoint = None
-try_call_of (Args args) = None
-try_call_of (Rets rets) = None
-try_call_of (DummyUse reg) = None
-try_call_of (Unwind inst) = None
-try_call_of (EmitIsland needed_space) = None
-try_call_of (RawData bytes) = None
-try_call_of (Lui rd imm) = None
-try_call_of (Auipc rd imm) = None
-try_call_of (LoadInlineConst rd type imm) = None
-try_call_of (AluRRR op rd rs1 rs2) = None
-try_call_of (AluRRImm12 op rd rs imm) = None
-try_call_of (Mov rd rm type) = None
-try_call_of (MovFromPReg rd rm) = None
-try_call_of (Extend rd rn signed from_bits to_bits) = None
-try_call_of (Select info) = None
-try_call_of (Load rd op flags from) = None
-try_call_of (Store src op flags to) = None
-try_call_of (LoadAddr rd mem) = None
-try_call_of (LabelAddress dst label) = None
-try_call_of Ret = None
-try_call_of (TrapIf cmp code) = None
-try_call_of (Jal label) = None
-try_call_of (CondBr taken not_taken kind) = None
-try_call_of (BrTable index tmp1 tmp2 targets) = None
-try_call_of (Udf code) = None
-try_call_of (Jalr rd base offset) = None
-try_call_of (Popcnt info) = None
-try_call_of (Cltz leading info) = None
-try_call_of (Brev8 info) = None
-try_call_of (StackProbeLoop guard_size probe_count tmp) = None
-try_call_of (LoadExtNameGot rd name) = None
-try_call_of (LoadExtNameNear rd name offset) = None
-try_call_of (LoadExtNameFar rd name offset) = None
-try_call_of (Call info) = info.try_call_info
-try_call_of (CallInd info) = info.try_call_info
-try_call_of (ReturnCall info) = None
-try_call_of (ReturnCallInd info) = None
-try_call_of (FpuRRR op width frm rd rs1 rs2) = None
-
--- the results of a call
 abbrev pub results_of : Inst → List CallRetPair
-results_of Nop0 = []
-results_of Nop4 = []
-results_of EBreak = []
-results_of SequencePoint = []
-results_of (Args args) = []
-results_of (Rets rets) = []
-results_of (DummyUse reg) = []
-results_of (Unwind inst) = []
-results_of (EmitIsland needed_space) = []
-results_of (RawData bytes) = []
-results_of (Lui rd imm) = []
-results_of (Auipc rd imm) = []
-results_of (LoadInlineConst rd type imm) = []
-results_of (AluRRR op rd rs1 rs2) = []
-results_of (AluRRImm12 op rd rs imm) = []
-results_of (Mov rd rm type) = []
-results_of (MovFromPReg rd rm) = []
-results_of (Extend rd rn signed from_bits to_bits) = []
-results_of (Select info) = []
-results_of (Load rd op flags from) = []
-results_of (Store src op flags to) = []
-results_of (LoadAddr rd mem) = []
-results_of (LabelAddress dst label) = []
-results_of Ret = []
-results_of (TrapIf cmp code) = []
-results_of (Jal label) = []
-results_of (CondBr taken not_taken kind) = []
-results_of (BrTable index tmp1 tmp2 targets) = []
-results_of (Udf code) = []
-results_of (Jalr rd base offset) = []
-results_of (Popcnt info) = []
-results_of (Cltz leading info) = []
-results_of (Brev8 info) = []
-results_of (StackProbeLoop guard_size probe_count tmp) = []
-results_of (LoadExtNameGot rd name) = []
-results_of (LoadExtNameNear rd name offset) = []
-results_of (LoadExtNameFar rd name offset) = []
-results_of (Call info) = info.defs
-results_of (CallInd info) = info.defs
-results_of (ReturnCall info) = []
-results_of (ReturnCallInd info) = []
-results_of (FpuRRR op width frm rd rs1 rs2) = []
+results_of inst = (operands_of inst).results
+
+abbrev pub try_call_of : Inst → Option TryCallInfo
+try_call_of inst = (operands_of inst).try_call
+
+abbrev pub return_of : IsaFlags → Inst → Option Return
+return_of flags inst = (operands_of inst).returns flags
+
+abbrev pub tail_call_of : Inst → Option TailCall
+tail_call_of inst = (operands_of inst).tail_call
 
 abbrev pub handler_label : TryCallHandler → MachLabel
 handler_label (Tag tag label) = label

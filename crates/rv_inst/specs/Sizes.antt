@@ -1,5 +1,5 @@
--- How many bytes an instruction puts, and how many it counts for.
-use Rattle.std.specs.Prelude.{ℕ, ◌+◌, ◌-◌, ◌/◌, length, nat_eq, if◌then◌else◌, Option, Some, None, pos, negsuc, ◌*◌, ◌==◌, Bool, true, false, not, ◌&&◌, List, [], ◌∷◌, map, count_by, ℤ, ◌-ℤ◌}
+-- How many bytes an instruction puts, which operation stands for one of one machine word, and how many bytes it counts for.
+use Rattle.std.specs.Prelude.{ℕ, ◌+◌, ◌-◌, ◌/◌, length, nat_eq, if◌then◌else◌, Option, Some, None, pos, negsuc, ◌*◌, ◌==◌, Bool, true, false, not, ◌&&◌, List, [], ◌∷◌, map, count_by, ℤ, ◌-ℤ◌, ◌++◌}
 use Rattle.std.specs.Int.{cast_signed, w64}
 use Rattle.rv_base.specs.IrType.{bits_of}
 use Rattle.rv_base.specs.Regs.{number_of}
@@ -12,12 +12,23 @@ use Rattle.rv_base.specs.declared.frame.FrameLayout.{FrameLayout}
 use Rattle.rv_ops.specs.declared.alu.AluOPRRR.TheVariants as rrr
 use Rattle.rv_ops.specs.declared.alu.AluOPRRI.{AluOPRRI}
 use Rattle.rv_ops.specs.declared.alu.AluOPRRI.TheVariants as rri
+use Rattle.rv_ops.specs.declared.memory.LoadOP.{LoadOP}
+use Rattle.rv_ops.specs.declared.memory.StoreOP.{StoreOP}
 use Rattle.rv_ops.specs.declared.memory.StoreOP.TheVariants.{Sb}
+use Rattle.rv_machine.specs.declared.decoding.Decoded.{Decoded}
+use Rattle.rv_machine.specs.declared.ops.MOp.TheVariants.{Base}
+use Rattle.rv_machine.specs.declared.ops.BaseOp.TheVariants.{Auipc as AuipcOp}
+use Rattle.rv_encode.specs.Operations.{decoded, decoded_rri, decoded_fpu_rrr}
 use Rattle.rv_machine.specs.State.{low64}
 use Rattle.rv_machine.specs.Arithmetic.{low_word}
-use Rattle.rv_inst.specs.Addresses.{Based, location_of, is_near, is_splittable, inline_size, far_size, address_size, load_size_at, store_size_at}
-use Rattle.rv_inst.specs.Forms.{short_rrr, short_rri, short_lui, short_jalr, short_ebreak, short_store, jump_size}
+use Rattle.rv_inst.specs.Addresses.{Location, Based, AtLabel, AtConstant, location_of, is_near, is_splittable, inline_size, far_size, address_size, load_size_at, store_size_at, load_own_size, store_own_size}
+use Rattle.rv_inst.specs.Forms.{short_rrr, short_rri, short_lui, short_jalr, short_ebreak, short_load, short_store, jump_size}
+use Rattle.rv_base.specs.declared.reloc.Reloc.TheVariants.{RiscvCallPlt, RiscvGotHi20, RiscvPCRelHi20, Abs8}
+use Rattle.mach_records.specs.declared.records.Event.TheVariants as event
+use Rattle.mach_records.specs.declared.records.FinalizedRelocTarget.TheVariants.{ExternalName as ToName}
+use Rattle.mach_records.specs.declared.records.MachRecord.{MachRecord}
 use Rattle.rv_inst.specs.Immediates.{upper_of, lower_of}
+use Rattle.rv_inst.specs.Records.{noted, access_records, part_records, patch_records, return_records}
 use Rattle.rv_inst.specs.Operands.{all_of, written_in, results_of}
 use Rattle.rv_inst.specs.Context.{Context}
 use Rattle.rv_inst.specs.Returns.{StackLoad, restores, frame_above, result_loads, loads_unless}
@@ -203,51 +214,105 @@ call_extent flags jump popped (l ∷ loads) t = Around (call_size flags jump pop
 abbrev pub table_space : ℕ → ℕ
 table_space labels = 4 * (12 + 2 * (labels - 1))
 
+-- ---- the operation of one machine word
+
+-- a move is addi of 0; there is none to the same register
+abbrev pub move_operation : IsaFlags → ℕ → ℕ → Option Decoded
+move_operation flags rd rs = if nat_eq rd rs then None else Some (short_rri flags rri.Addi rd rs (pos 0))
+
+-- an address, a load or a store whose offset is in its own instruction
+abbrev pub address_operation : IsaFlags → ℕ → Location → Option Decoded
+address_operation flags rd (Based r o) = if is_near o then Some (short_rri flags rri.Addi rd r o) else None
+address_operation flags rd (AtLabel l) = None
+address_operation flags rd (AtConstant k) = None
+
+abbrev pub load_operation : IsaFlags → LoadOP → ℕ → Location → Option Decoded
+load_operation flags op rd (Based r o) = if is_near o then Some (short_load flags op rd r o) else None
+load_operation flags op rd (AtLabel l) = None
+load_operation flags op rd (AtConstant k) = None
+
+abbrev pub store_operation : IsaFlags → StoreOP → ℕ → Location → Option Decoded
+store_operation flags op src (Based r o) = if is_near o then Some (short_store flags op r src o) else None
+store_operation flags op src (AtLabel l) = None
+store_operation flags op src (AtConstant k) = None
+
+-- the low byte, zero-extended, is andi of 255; any other extension takes two shifts
+abbrev pub extend_operation : IsaFlags → ℕ → ℕ → Bool → ℕ → Option Decoded
+extend_operation flags rd rn signed bits = if is_byte signed bits then Some (short_rri flags rri.Andi rd rn (pos 255)) else None
+
+-- ---- instructions
+
+-- How many bytes an instruction puts; of one machine word, the operation that stands for it, in sixteen bits where it has such a form; and
+-- what it records, by the offsets where its bytes begin and end.
+pub record InstCode : Type 0 where
+  pub extent : Extent
+  pub operation : Option Decoded
+  pub records : ℕ → ℕ → List MachRecord
+
+abbrev pub extends : Extent → InstCode
+extends extent = record { extent = extent; operation = None; records = λ start end. [] }
+
+abbrev pub words : ℕ → InstCode
+words size = extends (Words size)
+
+abbrev pub one_word : Decoded → InstCode
+one_word d = record (words d.len) { operation = Some d }
+
 -- A trap where a comparison holds is a branch over a trap. What a label's or a constant's address is taken by, and auipc, have
--- no forms of sixteen bits.
+-- no forms of sixteen bits. What goes to a label has its distance beside it, and is no operation of these. The instruction of an access
+-- is the last of its sequence, and so are the eight bytes with a symbol's address, and the two instructions that go to one.
+abbrev pub inst_code : Context → Inst → InstCode
+inst_code context Nop0 = words 0
+inst_code context Nop4 = one_word (decoded_rri rri.Addi 0 0 (pos 0))
+inst_code context EBreak = one_word (short_ebreak context.flags)
+inst_code context SequencePoint = words 0
+inst_code context (Args args) = words 0
+inst_code context (Rets rets) = words 0
+inst_code context (DummyUse reg) = words 0
+inst_code context (Unwind inst) = record (words 0) { records = λ start end. noted start (event.Unwind inst) }
+inst_code context (EmitIsland needed_space) = extends (Island needed_space)
+inst_code context (RawData bytes) = words (length bytes)
+inst_code context (Lui rd imm) = one_word (short_lui context.flags (number_of rd.reg) imm.value)
+inst_code context (Auipc rd imm) = one_word (decoded (Base AuipcOp) (number_of rd.reg) 0 0 imm.value)
+inst_code context (LoadInlineConst rd type imm) = words (inline_size context.flags (bits_of type / 8))
+inst_code context (AluRRR op rd rs1 rs2) = one_word (short_rrr context.flags op (number_of rd.reg) (number_of rs1) (number_of rs2))
+inst_code context (AluRRImm12 op rd rs imm) = one_word (short_rri context.flags op (number_of rd.reg) (number_of rs) imm.value)
+inst_code context (Mov rd rm type) = record (words (move_size context.flags (number_of rd.reg) (number_of rm))) { operation = move_operation context.flags (number_of rd.reg) (number_of rm) }
+inst_code context (MovFromPReg rd rm) = record (words (move_size context.flags (number_of rd.reg) rm.number)) { operation = move_operation context.flags (number_of rd.reg) rm.number }
+inst_code context (Extend rd rn signed from_bits to_bits) = record (words (extend_size context.flags (number_of rd.reg) (number_of rn) signed from_bits)) { operation = extend_operation context.flags (number_of rd.reg) (number_of rn) signed from_bits }
+inst_code context (Select info) = words (select_size context.flags info.dst info.x info.y)
+inst_code context (Load rd op flags from) = record (words (load_size_at context.flags op (number_of rd.reg) (location_of context.frame from))) { operation = load_operation context.flags op (number_of rd.reg) (location_of context.frame from); records = λ start end. access_records (end - load_own_size context.flags op (number_of rd.reg) (location_of context.frame from)) flags.trap }
+inst_code context (Store src op flags to) = record (words (store_size_at context.flags op (number_of src) (location_of context.frame to))) { operation = store_operation context.flags op (number_of src) (location_of context.frame to); records = λ start end. access_records (end - store_own_size context.flags op (number_of src) (location_of context.frame to)) flags.trap }
+inst_code context (LoadAddr rd mem) = record (words (address_size context.flags (number_of rd.reg) (location_of context.frame mem))) { operation = address_operation context.flags (number_of rd.reg) (location_of context.frame mem) }
+inst_code context (LabelAddress dst label) = words 8
+inst_code context Ret = one_word (short_jalr context.flags 0 1 (pos 0))
+inst_code context (TrapIf cmp code) = record (words (4 + trap_size context.flags)) { records = λ start end. noted (start + 4) (event.Trap code) }
+inst_code context (Jal label) = words (jump_size context.flags)
+inst_code context (CondBr taken not_taken kind) = words (branch_size context.flags taken not_taken)
+inst_code context (BrTable index tmp1 tmp2 targets) = extends (After (table_space (length targets)) (table_size context.flags (number_of index) (number_of tmp2.reg) (length targets)) (8 * length targets))
+inst_code context (Udf code) = record (words (trap_size context.flags)) { records = λ start end. noted start (event.Trap code) }
+inst_code context (Jalr rd base offset) = one_word (short_jalr context.flags (number_of rd.reg) (number_of base) offset.value)
+inst_code context (Popcnt info) = words (count_size context.flags (number_of info.sum.reg) (number_of info.tmp.reg) (number_of info.step.reg) (number_of info.rs) (bits_of info.ty))
+inst_code context (Cltz leading info) = words (zeros_size context.flags leading (number_of info.sum.reg) (number_of info.tmp.reg) (number_of info.step.reg) (number_of info.rs) (bits_of info.ty))
+inst_code context (Brev8 info) = words (reverse_size context.flags (number_of info.rd.reg) (number_of info.tmp.reg) (number_of info.tmp2.reg) (number_of info.step.reg) (number_of info.rs) (bits_of info.ty))
+inst_code context (StackProbeLoop guard_size probe_count tmp) = words (probe_size context.flags (number_of tmp.reg) (low_word guard_size) (low_word probe_count))
+inst_code context (LoadExtNameGot rd name) = record (words 8) { records = λ start end. part_records start RiscvGotHi20 name (pos 0) }
+inst_code context (LoadExtNameNear rd name offset) = record (words 8) { records = λ start end. part_records start RiscvPCRelHi20 name offset }
+inst_code context (LoadExtNameFar rd name offset) = record (words (inline_size context.flags 8)) { records = λ start end. noted (end - 8) (event.Reloc Abs8 (ToName name) offset) }
+inst_code context (Call info) = record (extends (call_extent context.flags 8 info.callee_pop_size (loads_unless info.patchable info.defs) info.try_call_info)) { records = λ start end. noted start (event.Reloc RiscvCallPlt (ToName info.dest) (pos 0)) ++ return_records context.frame (start + 8) info.stack_map info.try_call_info ++ patch_records info.patchable (start + call_size context.flags 8 info.callee_pop_size) (call_size context.flags 8 info.callee_pop_size) }
+inst_code context (CallInd info) = record (extends (call_extent context.flags (short_jalr context.flags 1 (number_of info.dest) (pos 0)).len info.callee_pop_size (result_loads info.defs) info.try_call_info)) { records = λ start end. return_records context.frame (start + (short_jalr context.flags 1 (number_of info.dest) (pos 0)).len) info.stack_map info.try_call_info }
+inst_code context (ReturnCall info) = record (extends (tail_extent context info.new_stack_arg_size 8 8)) { records = λ start end. noted (end - 8) event.CallSite ++ noted (end - 8) (event.Reloc RiscvCallPlt (ToName info.dest) (pos 0)) }
+inst_code context (ReturnCallInd info) = extends (tail_extent context info.new_stack_arg_size 4 (short_jalr context.flags 0 5 (pos 0)).len)
+inst_code context (FpuRRR op width frm rd rs1 rs2) = one_word (decoded_fpu_rrr op width frm (number_of rd.reg) (number_of rs1) (number_of rs2))
+
 abbrev pub extent_of : Context → Inst → Extent
-extent_of context Nop0 = Words 0
-extent_of context Nop4 = Words 4
-extent_of context EBreak = Words (short_ebreak context.flags).len
-extent_of context SequencePoint = Words 0
-extent_of context (Args args) = Words 0
-extent_of context (Rets rets) = Words 0
-extent_of context (DummyUse reg) = Words 0
-extent_of context (Unwind inst) = Words 0
-extent_of context (EmitIsland needed_space) = Island needed_space
-extent_of context (RawData bytes) = Words (length bytes)
-extent_of context (Lui rd imm) = Words (short_lui context.flags (number_of rd.reg) imm.value).len
-extent_of context (Auipc rd imm) = Words 4
-extent_of context (LoadInlineConst rd type imm) = Words (inline_size context.flags (bits_of type / 8))
-extent_of context (AluRRR op rd rs1 rs2) = Words (short_rrr context.flags op (number_of rd.reg) (number_of rs1) (number_of rs2)).len
-extent_of context (AluRRImm12 op rd rs imm) = Words (short_rri context.flags op (number_of rd.reg) (number_of rs) imm.value).len
-extent_of context (Mov rd rm type) = Words (move_size context.flags (number_of rd.reg) (number_of rm))
-extent_of context (MovFromPReg rd rm) = Words (move_size context.flags (number_of rd.reg) rm.number)
-extent_of context (Extend rd rn signed from_bits to_bits) = Words (extend_size context.flags (number_of rd.reg) (number_of rn) signed from_bits)
-extent_of context (Select info) = Words (select_size context.flags info.dst info.x info.y)
-extent_of context (Load rd op flags from) = Words (load_size_at context.flags op (number_of rd.reg) (location_of context.frame from))
-extent_of context (Store src op flags to) = Words (store_size_at context.flags op (number_of src) (location_of context.frame to))
-extent_of context (LoadAddr rd mem) = Words (address_size context.flags (number_of rd.reg) (location_of context.frame mem))
-extent_of context (LabelAddress dst label) = Words 8
-extent_of context Ret = Words (short_jalr context.flags 0 1 (pos 0)).len
-extent_of context (TrapIf cmp code) = Words (4 + trap_size context.flags)
-extent_of context (Jal label) = Words (jump_size context.flags)
-extent_of context (CondBr taken not_taken kind) = Words (branch_size context.flags taken not_taken)
-extent_of context (BrTable index tmp1 tmp2 targets) = After (table_space (length targets)) (table_size context.flags (number_of index) (number_of tmp2.reg) (length targets)) (8 * length targets)
-extent_of context (Udf code) = Words (trap_size context.flags)
-extent_of context (Jalr rd base offset) = Words (short_jalr context.flags (number_of rd.reg) (number_of base) offset.value).len
-extent_of context (Popcnt info) = Words (count_size context.flags (number_of info.sum.reg) (number_of info.tmp.reg) (number_of info.step.reg) (number_of info.rs) (bits_of info.ty))
-extent_of context (Cltz leading info) = Words (zeros_size context.flags leading (number_of info.sum.reg) (number_of info.tmp.reg) (number_of info.step.reg) (number_of info.rs) (bits_of info.ty))
-extent_of context (Brev8 info) = Words (reverse_size context.flags (number_of info.rd.reg) (number_of info.tmp.reg) (number_of info.tmp2.reg) (number_of info.step.reg) (number_of info.rs) (bits_of info.ty))
-extent_of context (StackProbeLoop guard_size probe_count tmp) = Words (probe_size context.flags (number_of tmp.reg) (low_word guard_size) (low_word probe_count))
-extent_of context (LoadExtNameGot rd name) = Words 8
-extent_of context (LoadExtNameNear rd name offset) = Words 8
-extent_of context (LoadExtNameFar rd name offset) = Words (inline_size context.flags 8)
-extent_of context (Call info) = call_extent context.flags 8 info.callee_pop_size (loads_unless info.patchable info.defs) info.try_call_info
-extent_of context (CallInd info) = call_extent context.flags (short_jalr context.flags 1 (number_of info.dest) (pos 0)).len info.callee_pop_size (result_loads info.defs) info.try_call_info
-extent_of context (ReturnCall info) = tail_extent context info.new_stack_arg_size 8 8
-extent_of context (ReturnCallInd info) = tail_extent context info.new_stack_arg_size 4 (short_jalr context.flags 0 5 (pos 0)).len
-extent_of context (FpuRRR op width frm rd rs1 rs2) = Words 4
+extent_of context inst = (inst_code context inst).extent
+
+abbrev pub operation_of : Context → Inst → Option Decoded
+operation_of context inst = (inst_code context inst).operation
+
+abbrev pub inst_records : Context → ℕ → ℕ → Inst → List MachRecord
+inst_records context start end inst = (inst_code context inst).records start end
 
 abbrev pub space_in : Extent → Option ℕ
 space_in (Words size) = None

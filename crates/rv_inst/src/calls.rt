@@ -2,7 +2,7 @@
 
 ghost use Rattle.std.specs.Prelude.{◌≡◌, option_map, pos, length};
 ghost use Rattle.rv_base.specs.Regs.{number_of};
-ghost use Rattle.rv_inst.specs.Calls.{Return, return_of};
+ghost use Rattle.rv_inst.specs.Operands.{Return, return_of};
 ghost use Rattle.rv_inst.specs.Forms.{short_jalr};
 
 use crate::inst::Inst;

@@ -31,5 +31,5 @@ pub use generators::{SmallInstVec, gen_moves};
 pub use inst::{Brev8Info, CondBrTarget, CountInfo, Family, Inst, Line, SelectInfo};
 pub use job::Job;
 pub use label_use::LabelUse;
-pub use tail_calls::{TailCall, is_bad_frame, is_bad_frame_for};
+pub use tail_calls::{TailCall, is_bad_frame, is_bad_frame_for, is_unrestorable_for};
 pub use targets::{Targets, handler_label};

@@ -6,7 +6,7 @@ ghost use Rattle.rv_base.specs.declared.regs.Writable.{Writable as Saved};
 ghost use Rattle.rv_base.specs.Frame.{sp_to_args_end};
 ghost use Rattle.rv_inst.specs.Operands.{tail_call_of};
 ghost use Rattle.rv_inst.specs.Rules.{exceeds_arguments};
-ghost use Rattle.rv_inst.specs.Frames.{is_unsaved, is_unrestored, is_t0, is_bad_frame, is_unrestorable, is_bad_frame_for};
+ghost use Rattle.rv_inst.specs.Frames.{is_unsaved, is_unrestored, is_t0, is_bad_frame, is_unrestorable, is_unrestorable_for, is_bad_frame_for};
 
 use crate::inst::Inst;
 use crate::registers::is_x;
@@ -57,9 +57,20 @@ pub fn is_bad_frame(frame: &FrameLayout) -> bool
     is_frame_too_large(frame) || saves_unsaved(frame.clobbered_callee_saves.as_slice())
 }
 
-/// Returns whether a frame is one that the instruction, where it is a tail call, can't restore.
+/// Returns whether a frame is one that the instruction, where it is a tail call, can't take away: a bad one, or one that it can't
+/// restore.
 pub fn is_bad_frame_for(inst: &Inst, frame: &FrameLayout) -> bool
     ensures { result ≡ is_bad_frame_for frame.now (tail_call_of inst.now) }
+{
+    match inst.tail_call() {
+        None => false,
+        Some(tail) => is_bad_frame(frame) || is_unrestorable(frame, tail),
+    }
+}
+
+/// Returns whether a frame saves a register that the instruction, where it is a tail call, can't restore.
+pub fn is_unrestorable_for(inst: &Inst, frame: &FrameLayout) -> bool
+    ensures { result ≡ is_unrestorable_for frame.now (tail_call_of inst.now) }
 {
     match inst.tail_call() {
         None => false,
@@ -70,8 +81,7 @@ pub fn is_bad_frame_for(inst: &Inst, frame: &FrameLayout) -> bool
 fn is_unrestorable(frame: &FrameLayout, tail: TailCall) -> bool
     ensures { result ≡ is_unrestorable frame.now tail }
 {
-    is_bad_frame(frame)
-        || saves_unrestored(frame.clobbered_callee_saves.as_slice())
+    saves_unrestored(frame.clobbered_callee_saves.as_slice())
         || (tail.by_register && saves_t0(frame.clobbered_callee_saves.as_slice()))
 }
 

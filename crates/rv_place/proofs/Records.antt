@@ -25,9 +25,9 @@ use Rattle.rv_base.specs.Regs.{number_of}
 use Rattle.rv_inst.specs.Forms.{short_jalr}
 use Rattle.rv_machine.specs.State.{wrap}
 use Rattle.rv_inst.specs.Context.{Context, context_of}
-use Rattle.rv_inst.specs.Records.{access_records, patch_records, return_records, inst_records}
+use Rattle.rv_inst.specs.Records.{access_records, patch_records, return_records}
 use Rattle.rv_inst.specs.Relocations.{field_size}
-use Rattle.rv_inst.specs.Sizes.{Extent, Words, Island, After, Around, extent_of}
+use Rattle.rv_inst.specs.Sizes.{Extent, Words, Island, After, Around, extent_of, inst_records}
 use Rattle.rv_inst.specs.declared.code.Code.{Code}
 use Rattle.rv_inst.specs.declared.code.LineSpan.{LineSpan}
 use Rattle.rv_inst.specs.declared.inst.Inst.{Inst}

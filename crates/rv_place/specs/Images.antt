@@ -1,7 +1,7 @@
 -- What it is for an image to stand in a memory, and for code to run in every memory in which its image stands.
 use Rattle.std.specs.Prelude.{◌≡◌, ℕ, ◌+◌, ◌<◌, true, List, length, slice_get, slice_index, Some}
 use Rattle.rv_base.specs.declared.external_name.ExternalName.{ExternalName}
-use Rattle.rv_inst.specs.Calls.{Return, return_of}
+use Rattle.rv_inst.specs.Operands.{Return, return_of}
 use Rattle.rv_inst.specs.Core.{is_integer_line}
 use Rattle.rv_inst.specs.declared.code.Code.{Code}
 use Rattle.rv_inst.specs.declared.inst.Inst.{Inst}

@@ -1,9 +1,10 @@
 use Rattle.std.proofs.lemmas.Result.{on_ok_weaker}
-use Rattle.rv_emit.proofs.HalfwordCode.{held_half, held_word}
+use Rattle.rv_emit.proofs.HalfwordCode.{held_half, held_word, where_half}
+use Rattle.rv_inst.specs.Forms.{IsOwnForm}
 use Rattle.rv_emit.proofs.shortest.put_encoded.Goals as goal
 
 pub returns-in-Half-clause-slot : goal.returns-in-Half-clause-slot
-returns-in-Half-clause-slot c = on_ok_weaker c.put_half.result (λ p flags d h. p flags d (held_half flags c.args.encoded c.in-Half.half d c.in-Half.is h)) c.put_half.ensures.slot
+returns-in-Half-clause-slot c = on_ok_weaker c.put_half.result (λ p flags d h own. p flags d (held_half flags c.args.encoded c.in-Half.half d c.in-Half.is h) (where_half (IsOwnForm d) c.args.encoded c.in-Half.half c.in-Half.is own)) c.put_half.ensures.slot
 
 pub returns-in-Word-clause-slot : goal.returns-in-Word-clause-slot
-returns-in-Word-clause-slot c = on_ok_weaker c.put_word.result (λ p flags d h. let is = held_word flags c.args.encoded c.in-Word.word d c.in-Word.is h in p flags d is.long is.decodes) c.put_word.ensures.slot
+returns-in-Word-clause-slot c = on_ok_weaker c.put_word.result (λ p flags d h own. let is = held_word flags c.args.encoded c.in-Word.word d c.in-Word.is h in p flags d is.long is.decodes) c.put_word.ensures.slot
