@@ -4,7 +4,7 @@
 ghost use Rattle.std.specs.Prelude.{◌≡◌, ◌++◌, map};
 ghost use Rattle.rv_base.specs.Regs.{number_of};
 ghost use Rattle.rv_inst.specs.declared.inst.Inst.{Inst as Instruction};
-ghost use Rattle.rv_inst.specs.Meaning.{inst_temporaries};
+ghost use Rattle.rv_inst.specs.Operands.{inst_temporaries};
 ghost use Rattle.rv_operands.specs.Operands.{row_of, operands_of};
 ghost use Rattle.rv_operands.specs.Meeting.{AreChosen, KeepsRules, scratched_in};
 
