@@ -8,7 +8,7 @@ use Rattle.rv_machine.specs.Memory.{load_result, store_bytes}
 use Rattle.rv_machine.specs.declared.ops.LoadOp.TheVariants.{Ld}
 use Rattle.rv_machine.specs.declared.ops.StoreOp.TheVariants.{Sd}
 use Rattle.rv_asm.specs.Simulation.{At}
-use Rattle.rv_asm.specs.Users.{int_reg}
+use Rattle.rv_asm.specs.Users.{int_reg, is_integer_line}
 use Rattle.rv_asm.proofs.Laws.{reads_back, reads_other, stored_is_loaded, same_are_loaded_alike, elsewhere_unchanged}
 use Rattle.rv_expr.specs.Listing.{load_from, store_to}
 use Rattle.rv_expr.proofs.Places.{place, places_apart, place_inside}
