@@ -11,6 +11,7 @@ status_of (failures.Base word) = 2
 status_of (failures.NotReport line) = 3
 status_of failures.NotHex = 3
 status_of (failures.NotLine line) = 3
+status_of failures.NotReadBack = 4
 status_of failures.Read = 5
 status_of failures.Write = 6
 status_of failures.TooLong = 7

@@ -1,5 +1,5 @@
 -- Code as lines, and lines as code.
-use Rattle.std.specs.Prelude.{◌≡◌, ℕ, Bool, MatchBool, if◌then◌else◌, nat_eq, List, [], ◌++◌, map, codes, Result, Some, None, Ok, Err}
+use Rattle.std.specs.Prelude.{◌≡◌, ◌≢◌, ℕ, Bool, MatchBool, if◌then◌else◌, nat_eq, List, [], ◌++◌, map, codes, Result, Some, None, Ok, Err}
 use Rattle.std.specs.List.{starts_with}
 use Rattle.hex.specs.Hex.{encode_lower}
 use Rattle.rv_load.specs.declared.program.Program.{Program}
@@ -19,29 +19,42 @@ use Rattle.rvdis.specs.declared.making.MakeError.TheVariants as errors
 abbrev pub is_report : List ℕ → Bool
 is_report input = starts_with nat_eq input (codes "code ")
 
--- the lines of a report's code with its marks, or the first line that no report has there; being out of memory says nothing
+-- these lines of code, which are read back to it; there are none where they wouldn't be. Being out of memory says nothing
+abbrev pub Writes : Given → List ℕ → List ℕ → Result (List ℕ) MakeError → Type 0
+Writes g lines code (Ok text) = (text ≡ lines) × (reads_dump g.flags g.base text ≡ Ok code)
+Writes g lines code (Err (errors.NotReport line)) = ⊥
+Writes g lines code (Err errors.NotHex) = ⊥
+Writes g lines code (Err (errors.NotLine line)) = ⊥
+Writes g lines code (Err errors.NotReadBack) = reads_dump g.flags g.base lines ≢ Ok code
+Writes g lines code (Err errors.OutOfMemory) = Unit {0}
+
+abbrev pub OfReport : Given → List ℕ → Result (List ℕ) MakeError → Type 0
+OfReport g input result = (p : Program) × (marks : List Mark) × (reads_report input ≡ Ok p) × AreMarks input marks × Writes g (dump_text g.flags g.base (map seen marks) p.bytes) p.bytes result
+
+-- the lines of a report's code with its marks, or the first line that no report has there
 abbrev pub DumpsReport : Given → List ℕ → Result (List ℕ) MakeError → Type 0
-DumpsReport g input (Ok text) = (p : Program) × (marks : List Mark) × (reads_report input ≡ Ok p) × AreMarks input marks × (text ≡ dump_text g.flags g.base (map seen marks) p.bytes)
+DumpsReport g input (Ok text) = OfReport g input (Ok text)
 DumpsReport g input (Err (errors.NotReport line)) = reads_report input ≡ Err line
 DumpsReport g input (Err errors.NotHex) = ⊥
 DumpsReport g input (Err (errors.NotLine line)) = ⊥
+DumpsReport g input (Err errors.NotReadBack) = OfReport g input (Err errors.NotReadBack)
 DumpsReport g input (Err errors.OutOfMemory) = Unit {0}
 
 -- the lines of the code that hexadecimal digits give
+abbrev pub OfHex : Given → List ℕ → Result (List ℕ) MakeError → Type 0
+OfHex g input result = (bytes : List ℕ) × (reads_hex input ≡ Some bytes) × Writes g (dump_text g.flags g.base [] bytes) bytes result
+
 abbrev pub DumpsHex : Given → List ℕ → Result (List ℕ) MakeError → Type 0
-DumpsHex g input (Ok text) = (bytes : List ℕ) × (reads_hex input ≡ Some bytes) × (text ≡ dump_text g.flags g.base [] bytes)
+DumpsHex g input (Ok text) = OfHex g input (Ok text)
 DumpsHex g input (Err (errors.NotReport line)) = ⊥
 DumpsHex g input (Err errors.NotHex) = reads_hex input ≡ None
 DumpsHex g input (Err (errors.NotLine line)) = ⊥
+DumpsHex g input (Err errors.NotReadBack) = OfHex g input (Err errors.NotReadBack)
 DumpsHex g input (Err errors.OutOfMemory) = Unit {0}
 
 -- the lines of bytes
 abbrev pub DumpsRaw : Given → List ℕ → Result (List ℕ) MakeError → Type 0
-DumpsRaw g input (Ok text) = text ≡ dump_text g.flags g.base [] input
-DumpsRaw g input (Err (errors.NotReport line)) = ⊥
-DumpsRaw g input (Err errors.NotHex) = ⊥
-DumpsRaw g input (Err (errors.NotLine line)) = ⊥
-DumpsRaw g input (Err errors.OutOfMemory) = Unit {0}
+DumpsRaw g input result = Writes g (dump_text g.flags g.base [] input) input result
 
 abbrev pub Dumps : Given → List ℕ → Result (List ℕ) MakeError → Type 0
 Dumps g input result = MatchBool g.is_raw (DumpsRaw g input result) (MatchBool (is_report input) (DumpsReport g input result) (DumpsHex g input result))
@@ -61,6 +74,7 @@ Reads g input (Ok text) = (bytes : List ℕ) × (reads_dump g.flags g.base input
 Reads g input (Err (errors.NotReport line)) = ⊥
 Reads g input (Err errors.NotHex) = ⊥
 Reads g input (Err (errors.NotLine line)) = reads_dump g.flags g.base input ≡ Err line
+Reads g input (Err errors.NotReadBack) = ⊥
 Reads g input (Err errors.OutOfMemory) = Unit {0}
 
 -- ---- both

@@ -26,6 +26,9 @@ pub(crate) enum Failure {
     /// The first line of the input, counted from 1, that is none of this code.
     #[error("no line of this code at line {line}")]
     NotLine { line: usize },
+    /// The lines that were made aren't read back to the code.
+    #[error("the lines aren't read back to the code")]
+    NotReadBack,
     #[error("standard input can't be read")]
     Read,
     #[error("standard output can't be written")]
@@ -49,6 +52,7 @@ impl Failure {
             Failure::Words { text: _ } | Failure::Flags { word: _ } | Failure::Base { word: _ } =>
                 2,
             Failure::NotReport { line: _ } | Failure::NotHex | Failure::NotLine { line: _ } => 3,
+            Failure::NotReadBack => 4,
             Failure::Read => 5,
             Failure::Write => 6,
             Failure::TooLong => 7,
@@ -84,6 +88,7 @@ impl From<MakeError> for Failure {
             MakeError::NotReport { line } => Failure::NotReport { line },
             MakeError::NotHex => Failure::NotHex,
             MakeError::NotLine { line } => Failure::NotLine { line },
+            MakeError::NotReadBack => Failure::NotReadBack,
             MakeError::OutOfMemory => Failure::OutOfMemory,
         }
     }

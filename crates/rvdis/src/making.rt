@@ -1,10 +1,14 @@
 //! Code as lines, and lines as code.
 
-ghost use Rattle.std.specs.Prelude.{◌≡◌, IfOk};
-ghost use Rattle.rvdis.specs.Making.{is_report, digits_of, code_text, DumpsReport, DumpsHex, DumpsRaw, Dumps, Reads, Makes};
+ghost use Rattle.std.specs.Prelude.{◌≡◌, map, Ok, IfOk};
+ghost use Rattle.std.specs.Bool.{Decides};
+ghost use Rattle.rv_dump.specs.Dump.{dump_text};
+ghost use Rattle.rv_dump.specs.Marks.{seen};
+ghost use Rattle.rv_dump.specs.Reading.{reads_dump};
+ghost use Rattle.rvdis.specs.Making.{is_report, digits_of, code_text, Writes, DumpsReport, DumpsHex, DumpsRaw, Dumps, Reads, Makes};
 
 use rv_base::{IsaFlags, List, OutOfMemory};
-use rv_dump::{UndumpError, dump, marks_of, undump};
+use rv_dump::{Mark, UndumpError, dump, marks_of, undump};
 use rv_load::{ProgramError, read_hex, read_report};
 use std::alloc::Global;
 
@@ -29,6 +33,8 @@ pub enum MakeError {
     NotHex,
     /// The first line, counted from 1, that is none of this code.
     NotLine { line: usize },
+    /// The lines that were made aren't read back to the code.
+    NotReadBack,
     OutOfMemory,
 }
 
@@ -38,20 +44,46 @@ fn is_report(input: &[u8]) -> bool
     input.starts_with(b"code ")
 }
 
+// Returns whether lines are read back to the code; it takes memory.
+fn is_read_back(
+    alloc: Global,
+    given: &Given,
+    lines: &[u8],
+    code: &[u8],
+) -> Result<bool, OutOfMemory>
+    ensures { IfOk result (λ b. Decides b (reads_dump given.now.flags given.now.base lines.now ≡ Ok code.now)) }
+{
+    match undump(alloc, given.flags, given.base, lines) {
+        Ok(back) => Ok(back.as_slice() == code),
+        Err(UndumpError::NotLine { line: _ }) => Ok(false),
+        Err(UndumpError::OutOfMemory) => Err(OutOfMemory),
+    }
+}
+
+// The lines of code, which are read back before they are handed out.
+fn lines_of(
+    alloc: Global,
+    given: &Given,
+    marks: &[Mark],
+    code: &[u8],
+) -> Result<List<u8>, MakeError>
+    ensures { Writes given.now (dump_text given.now.flags given.now.base (map seen marks.now) code.now) code.now result }
+{
+    let lines = dump(alloc, given.flags, given.base, marks, code)?;
+    if is_read_back(alloc, given, &lines, code)? {
+        Ok(List::from_vec(lines))
+    } else {
+        Err(MakeError::NotReadBack)
+    }
+}
+
 fn report_lines(alloc: Global, given: &Given, input: &[u8]) -> Result<List<u8>, MakeError>
     ensures { DumpsReport given.now input.now result }
 {
     match read_report(alloc, input) {
         Ok(program) => {
             let marks = marks_of(alloc, input)?;
-            let lines = dump(
-                alloc,
-                given.flags,
-                given.base,
-                &marks,
-                program.bytes.as_slice(),
-            )?;
-            Ok(List::from_vec(lines))
+            lines_of(alloc, given, &marks, program.bytes.as_slice())
         }
         Err(ProgramError::NotReport { line }) => Err(MakeError::NotReport { line }),
         Err(ProgramError::NotHex) | Err(ProgramError::OutOfMemory) => Err(MakeError::OutOfMemory),
@@ -62,16 +94,7 @@ fn hex_lines(alloc: Global, given: &Given, input: &[u8]) -> Result<List<u8>, Mak
     ensures { DumpsHex given.now input.now result }
 {
     match read_hex(alloc, input) {
-        Ok(program) => {
-            let lines = dump(
-                alloc,
-                given.flags,
-                given.base,
-                &[],
-                program.bytes.as_slice(),
-            )?;
-            Ok(List::from_vec(lines))
-        }
+        Ok(program) => { lines_of(alloc, given, &[], program.bytes.as_slice()) }
         Err(ProgramError::NotHex) => Err(MakeError::NotHex),
         Err(ProgramError::NotReport { line: _ }) | Err(ProgramError::OutOfMemory) => {
             Err(MakeError::OutOfMemory)
@@ -82,11 +105,10 @@ fn hex_lines(alloc: Global, given: &Given, input: &[u8]) -> Result<List<u8>, Mak
 fn raw_lines(alloc: Global, given: &Given, input: &[u8]) -> Result<List<u8>, MakeError>
     ensures { DumpsRaw given.now input.now result }
 {
-    let lines = dump(alloc, given.flags, given.base, &[], input)?;
-    Ok(List::from_vec(lines))
+    lines_of(alloc, given, &[], input)
 }
 
-fn lines_of(alloc: Global, given: &Given, input: &[u8]) -> Result<List<u8>, MakeError>
+fn lines_of_input(alloc: Global, given: &Given, input: &[u8]) -> Result<List<u8>, MakeError>
     ensures { Dumps given.now input.now result }
 {
     if given.is_raw {
@@ -137,7 +159,7 @@ pub fn output_of(alloc: Global, given: &Given, input: &[u8]) -> Result<List<u8>,
     if given.is_reasm {
         code_of(alloc, given, input)
     } else {
-        lines_of(alloc, given, input)
+        lines_of_input(alloc, given, input)
     }
 }
 
