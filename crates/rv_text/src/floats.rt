@@ -1,8 +1,11 @@
 //! The texts of floating-point instructions.
 
 ghost use Rattle.std.specs.Prelude.{◌≡◌, ◌++◌, OnOk, string_bytes};
+ghost use Rattle.rv_base.specs.RegNames.{name_of};
+ghost use Rattle.rv_ops.specs.Fpu.{name_with_width};
 ghost use Rattle.rv_inst.specs.Families.{family_of};
 ghost use Rattle.rv_inst.specs.declared.inst.Family.TheVariants.{Float};
+ghost use Rattle.rv_text.specs.Operands.{three};
 ghost use Rattle.rv_text.specs.Texts.{text_of, mode_text, plain_fpu_rrr_text, same_source_text, fpu_rrr_text};
 
 use crate::operands::same_register;
@@ -35,6 +38,20 @@ fn put_mode(out: &mut String, shown: bool, frm: FRM) -> Result<(), OutOfMemory>
     Ok(())
 }
 
+fn put_named(
+    out: &mut String,
+    name: &str,
+    width: FpuOPWidth,
+    rd: Reg,
+    rs1: Reg,
+    rs2: Reg,
+) -> Result<(), OutOfMemory>
+    ensures { OnOk result (string_bytes out.new ≡ string_bytes out.old ++ three (name_with_width name.now width) (name_of rd) (name_of rs1) (name_of rs2)) }
+{
+    write!(out, "{name}.{width} {rd},{rs1},{rs2}")?;
+    Ok(())
+}
+
 fn put_plain(
     out: &mut String,
     op: FpuOPRRR,
@@ -46,9 +63,9 @@ fn put_plain(
 ) -> Result<(), OutOfMemory>
     ensures { OnOk result (string_bytes out.new ≡ string_bytes out.old ++ plain_fpu_rrr_text op width frm rd rs1 rs2) }
 {
-    let stem = op.stem();
-    write!(out, "{stem}.{width} {rd},{rs1},{rs2}")?;
-    put_mode(out, op.has_frm(), frm)
+    put_named(out, op.stem(), width, rd, rs1, rs2)?;
+    put_mode(out, op.has_frm(), frm)?;
+    Ok(())
 }
 
 fn put_fpu_rrr(
