@@ -54,7 +54,7 @@ module _ (job : Job) (code : Code) (accepted : refusal job ≡ None) (f : IsFini
   finished_full_runs =
       let short = finished_short (context_of job) job.lines f.sink code.bytes f.built.sound f.sized f.finished in
       let small = sum_small (context_of job) job.lines e in
-      built_full_runs job code f.sink f.built finished f.constants f.relocs f.traps (no_rule_broken (context_of job) job.lines e) (omega (arith, short, small)) f.end f.returns (none_unfit job.frame job.lines (accepted_frame job accepted)) (names_bound job.lines job.lines (parts (context_of job) job.lines e).unbound)
+      built_full_runs job code f.sink f.built finished f.constants f.relocs f.traps (no_rule_broken (context_of job) job.lines e) (omega (arith, short, small)) f.end f.returns (none_stuck job.frame job.lines (accepted_frame job accepted)) (names_bound job.lines job.lines (parts (context_of job) job.lines e).unbound)
 
   pub finished_operations : HasOperations job code
   finished_operations = built_operations job code f.sink f.built finished f.constants f.relocs f.traps (no_rule_broken (context_of job) job.lines e)
