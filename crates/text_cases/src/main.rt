@@ -2,6 +2,8 @@
 //! emission.
 #![tactic(auto)]
 
+mod summaries;
+
 use case_files::{Case, CaseError, Cases, blocks_of, expect_text, read, rows_of, run_cases};
 use rv_base::OutOfMemory;
 use rv_gen::gen_job;
@@ -20,6 +22,8 @@ enum Question {
     Texts,
     /// The texts of the job of a number.
     Job,
+    /// The summary of a code of three bytes.
+    Summary,
 }
 
 fn question_of(ending: &str) -> Option<Question> {
@@ -27,6 +31,7 @@ fn question_of(ending: &str) -> Option<Question> {
         "text" => Some(Question::Text),
         "texts" => Some(Question::Texts),
         "job" => Some(Question::Job),
+        "summary" => Some(Question::Summary),
         _ => None,
     }
 }
@@ -44,23 +49,29 @@ fn texts_of(alloc: Global, job: &Job) -> Result<String, OutOfMemory> {
     Ok(String::from_utf8_lossy(alloc, &bytes)?)
 }
 
-fn said_of(alloc: Global, question: Question, job: &Job) -> Result<String, OutOfMemory> {
-    match question {
-        Question::Text => text_of_first(alloc, job),
-        Question::Texts | Question::Job => texts_of(alloc, job),
+/// The texts of the job of a number.
+fn texts_of_job(alloc: Global, given: &str) -> Result<String, OutOfMemory> {
+    let number = given.trim().parse::<u64>().unwrap_or(0);
+    let job = gen_job(alloc, number)?;
+    texts_of(alloc, &job)
+}
+
+/// The text of a listing's first line, or the texts of all its instructions.
+fn texts_read(alloc: Global, is_whole: bool, given: &str) -> Result<String, OutOfMemory> {
+    match read_job(alloc, given.as_bytes()) {
+        Ok(job) if is_whole => texts_of(alloc, &job),
+        Ok(job) => text_of_first(alloc, &job),
+        Err(ReadError::Syntax { line }) => Ok(format!(in alloc; "no listing: line {line}")?),
+        Err(ReadError::OutOfMemory) => Err(OutOfMemory),
     }
 }
 
 fn answer(alloc: Global, question: Question, given: &str) -> Result<String, OutOfMemory> {
-    if let Question::Job = question {
-        let number = given.trim().parse::<u64>().unwrap_or(0);
-        let job = gen_job(alloc, number)?;
-        return said_of(alloc, question, &job);
-    }
-    match read_job(alloc, given.as_bytes()) {
-        Ok(job) => said_of(alloc, question, &job),
-        Err(ReadError::Syntax { line }) => Ok(format!(in alloc; "no listing: line {line}")?),
-        Err(ReadError::OutOfMemory) => Err(OutOfMemory),
+    match question {
+        Question::Text => texts_read(alloc, false, given),
+        Question::Texts => texts_read(alloc, true, given),
+        Question::Job => texts_of_job(alloc, given),
+        Question::Summary => summaries::summed(alloc, given),
     }
 }
 
@@ -90,7 +101,7 @@ impl Cases for Texts {
         };
         let text = read(rt, path)?;
         let cases = match question {
-            Question::Text => rows_of(rt.alloc(), path, &text)?,
+            Question::Text | Question::Summary => rows_of(rt.alloc(), path, &text)?,
             Question::Texts | Question::Job => blocks_of(rt.alloc(), path, &text)?,
         };
         go_through_cases(rt.alloc(), question, &cases)
