@@ -16,17 +16,10 @@ use Rattle.rv_inst.specs.SameValues.{is_among}
 use Rattle.rv_inst.specs.declared.inst.Inst.TheVariants.{Extend, Select}
 use Rattle.rv_code.specs.Choices.{same_numbers}
 use Rattle.rv_code.specs.Usable.{IsFineChoice, IsUsable}
-use Rattle.rv_code.proofs.Operands.{Keeps, are_usable}
+use Rattle.rv_code.proofs.Operands.{Keeps, AreUsable, are_usable}
 use Rattle.rv_code.proofs.CountRules.{numbers_differ}
 
 -- ---- an extension
-
--- usable registers, and from one bit to 64
-pub record IsExtension (rd rn bits : ℕ) : Type 0 where
-  pub rd_usable : rd < 30
-  pub rn_usable : rn < 30
-  pub some : 1 ≤ bits
-  pub few : bits ≤ 64
 
 in_range : (bits : ℕ) → not (nat_le 1 bits && nat_le bits 64) ≡ false → (1 ≤ bits) × (bits ≤ 64)
 in_range bits e = by (nat_le 1 bits) (nat_le bits 64) refl refl e
@@ -36,17 +29,12 @@ in_range bits e = by (nat_le 1 bits) (nat_le bits 64) refl refl e
     by true false some few e = absurd (cc)
     by false b some few e = absurd (cc)
 
-pub is_extension : (rd : Writable Reg) (rn : Reg) (signed : Bool) (from_bits to_bits : ℕ) → Keeps (Extend rd rn signed from_bits to_bits) → IsExtension (number_of rd.reg) (number_of rn) from_bits
-is_extension rd rn signed from_bits to_bits k =
+-- usable registers, and from one bit to 64
+pub extend_kept : (rd : Writable Reg) (rn : Reg) (signed : Bool) (from_bits to_bits : ℕ) → Keeps (Extend rd rn signed from_bits to_bits) → IsUsable rd.reg × IsUsable rn × (1 ≤ from_bits) × (from_bits ≤ 64)
+extend_kept rd rn signed from_bits to_bits k =
     let all = are_usable (rd.reg ∷ rn ∷ []) k.real k.placed k.free in
     let range = in_range from_bits k.ranged in
-    record { rd_usable = all.0.1; rn_usable = all.1.0.1; some = range.0; few = range.1 }
-
-pub extend_fine : (rd : Writable Reg) (rn : Reg) (signed : Bool) (from_bits to_bits : ℕ) → Keeps (Extend rd rn signed from_bits to_bits) → IsIntRegister rd.reg × IsIntRegister rn × (1 ≤ from_bits) × (from_bits ≤ 64)
-extend_fine rd rn signed from_bits to_bits k =
-    let all = are_usable (rd.reg ∷ rn ∷ []) k.real k.placed k.free in
-    let range = in_range from_bits k.ranged in
-    (all.0.0, all.1.0.0, range.0, range.1)
+    (all.0, all.1.0, range.0, range.1)
 
 -- ---- a choice
 
@@ -83,15 +71,18 @@ pub record IsChoice (rds xs ys : List ℕ) (rs1 rs2 : ℕ) : Type 0 where
   pub second : IsMovable rds ys
   pub others : same_numbers ys rds ≡ false → AreOthers rds ys
 
-test_of : (m n : ℕ) → m ≢ n → nat_eq m n ≡ false
-test_of m n other = grind (arith, nat_tests)
+-- a register is none of those from which it differs
+others_of : (r : Reg) (ss : List Reg) → IsUsable r → AreUsable ss → is_one_of r ss ≡ false → AreOthers (number_of r ∷ []) (map number_of ss)
+others_of r [] h all e = tt
+others_of r (s ∷ ss) h all e =
+    let parts = or_parts (same_register r s) (is_one_of r ss) e in
+    let other = numbers_differ r s h all.0 parts.0 in
+    let test : nat_eq (number_of r) (number_of s) ≡ false = grind (arith, nat_tests) in
+    ((λ i. test i || false), others_of r ss h all.1 parts.1)
 
--- a register isn't among one that it differs from, or two
-other_of : (r s : Reg) → IsUsable r → IsUsable s → same_register r s ≡ false → is_among (number_of r ∷ []) (number_of s) ≡ false
-other_of r s h g e = let test = test_of (number_of r) (number_of s) (numbers_differ r s h g e) in λ i. test i || false
-
-other_of_two : (r s t : Reg) → IsUsable r → IsUsable s → IsUsable t → same_register r t ≡ false → same_register s t ≡ false → is_among (number_of r ∷ number_of s ∷ []) (number_of t) ≡ false
-other_of_two r s t h g f e d = let test = test_of (number_of r) (number_of t) (numbers_differ r t h f e) in let rest = other_of s t g f d in λ i. test i || rest i
+-- one that differs from each of two is none of them
+both_other : (m n k : ℕ) → is_among (m ∷ []) k ≡ false → is_among (n ∷ []) k ≡ false → is_among (m ∷ n ∷ []) k ≡ false
+both_other m n k first second = λ i. (or_parts (nat_eq m k) false first).0 i || second i
 
 -- one register that isn't the result
 one_other : (n rd : ℕ) → same_numbers (n ∷ []) (rd ∷ []) ≡ false → is_among (rd ∷ []) n ≡ false
@@ -104,55 +95,33 @@ one_other n rd e = by (nat_eq n rd) refl e
 pub is_choice : (dst : ValueRegs (Writable Reg)) (condition : IntegerCompare) (x y : ValueRegs Reg) → Keeps (Select (record { dst = dst; condition = condition; x = x; y = y })) → IsChoice (map number_of (written_in dst)) (map number_of (all_of x)) (map number_of (all_of y)) (number_of condition.rs1) (number_of condition.rs2)
 is_choice (One r) condition (One a) (One b) k =
     let all = are_usable (r.reg ∷ condition.rs1 ∷ condition.rs2 ∷ a ∷ b ∷ []) k.real k.placed k.free in
-    let h = all.0 in
-    let h1 = all.1.0 in
-    let h2 = all.1.1.0 in
-    let e1 = or_parts (same_register r.reg condition.rs1) _ k.apart in
-    let e2 = or_parts (same_register r.reg condition.rs2) _ e1.1 in
+    let o = others_of r.reg (condition.rs1 ∷ condition.rs2 ∷ []) all.0 (all.1.0, (all.1.1.0, tt)) k.apart in
     record {
-      results = (h.1, tt);
-      rs1_usable = h1.1;
-      rs2_usable = h2.1;
-      rs1_other = other_of r.reg condition.rs1 h h1 e1.0;
-      rs2_other = other_of r.reg condition.rs2 h h2 e2.0;
+      results = (all.0.1, tt);
+      rs1_usable = all.1.0.1;
+      rs2_usable = all.1.1.0.1;
+      rs1_other = o.0;
+      rs2_other = o.1.0;
       first = record { count = refl; usable = (all.1.1.1.0.1, tt); ordered = (tt, tt) };
       second = record { count = refl; usable = (all.1.1.1.1.0.1, tt); ordered = (tt, tt) };
       others = λ e. (one_other (number_of b) (number_of r.reg) e, tt);
     }
 is_choice (Two r s) condition (Two a b) (Two c d) k =
-    let all = are_usable (r.reg ∷ s.reg ∷ condition.rs1 ∷ condition.rs2 ∷ a ∷ b ∷ c ∷ d ∷ []) k.real k.placed k.free in
-    let hr = all.0 in
-    let hs = all.1.0 in
-    let h1 = all.1.1.0 in
-    let h2 = all.1.1.1.0 in
-    let ha = all.1.1.1.1.0 in
-    let hb = all.1.1.1.1.1.0 in
-    let hc = all.1.1.1.1.1.1.0 in
-    let hd = all.1.1.1.1.1.1.1.0 in
-    let both = or_parts (is_one_of r.reg (s.reg ∷ condition.rs1 ∷ condition.rs2 ∷ a ∷ b ∷ c ∷ d ∷ [])) _ k.apart in
-    let rs = or_parts (same_register r.reg s.reg) _ both.0 in
-    let r1 = or_parts (same_register r.reg condition.rs1) _ rs.1 in
-    let r2 = or_parts (same_register r.reg condition.rs2) _ r1.1 in
-    let ra = or_parts (same_register r.reg a) _ r2.1 in
-    let rb = or_parts (same_register r.reg b) _ ra.1 in
-    let rc = or_parts (same_register r.reg c) _ rb.1 in
-    let rd = or_parts (same_register r.reg d) _ rc.1 in
-    let last = or_parts (is_one_of s.reg (condition.rs1 ∷ condition.rs2 ∷ a ∷ b ∷ c ∷ d ∷ [])) _ both.1 in
-    let s1 = or_parts (same_register s.reg condition.rs1) _ last.0 in
-    let s2 = or_parts (same_register s.reg condition.rs2) _ s1.1 in
-    let sa = or_parts (same_register s.reg a) _ s2.1 in
-    let sb = or_parts (same_register s.reg b) _ sa.1 in
-    let sc = or_parts (same_register s.reg c) _ sb.1 in
-    let sd = or_parts (same_register s.reg d) _ sc.1 in
+    let inputs = condition.rs1 ∷ condition.rs2 ∷ a ∷ b ∷ c ∷ d ∷ [] in
+    let all = are_usable (r.reg ∷ s.reg ∷ inputs) k.real k.placed k.free in
+    let rest = all.1.1 in
+    let clashes = or_parts (is_one_of r.reg (s.reg ∷ inputs)) _ k.apart in
+    let o = others_of r.reg (s.reg ∷ inputs) all.0 all.1 clashes.0 in
+    let p = others_of s.reg inputs all.1.0 rest (or_parts (is_one_of s.reg inputs) _ clashes.1).0 in
     record {
-      results = (hr.1, (hs.1, tt));
-      rs1_usable = h1.1;
-      rs2_usable = h2.1;
-      rs1_other = other_of_two r.reg s.reg condition.rs1 hr hs h1 r1.0 s1.0;
-      rs2_other = other_of_two r.reg s.reg condition.rs2 hr hs h2 r2.0 s2.0;
-      first = record { count = refl; usable = (ha.1, (hb.1, tt)); ordered = ((other_of r.reg b hr hb rb.0, tt), (tt, tt)) };
-      second = record { count = refl; usable = (hc.1, (hd.1, tt)); ordered = ((other_of r.reg d hr hd rd.0, tt), (tt, tt)) };
-      others = λ e. (other_of_two r.reg s.reg c hr hs hc rc.0 sc.0, (other_of_two r.reg s.reg d hr hs hd rd.0 sd.0, tt));
+      results = (all.0.1, (all.1.0.1, tt));
+      rs1_usable = rest.0.1;
+      rs2_usable = rest.1.0.1;
+      rs1_other = both_other _ _ _ o.1.0 p.0;
+      rs2_other = both_other _ _ _ o.1.1.0 p.1.0;
+      first = record { count = refl; usable = (rest.1.1.0.1, (rest.1.1.1.0.1, tt)); ordered = ((o.1.1.1.1.0, tt), (tt, tt)) };
+      second = record { count = refl; usable = (rest.1.1.1.1.0.1, (rest.1.1.1.1.1.0.1, tt)); ordered = ((o.1.1.1.1.1.1.0, tt), (tt, tt)) };
+      others = λ e. (both_other _ _ _ o.1.1.1.1.1.0 p.1.1.1.1.0, (both_other _ _ _ o.1.1.1.1.1.1.0 p.1.1.1.1.1.0, tt));
     }
 is_choice (One r) condition (One a) (Two c d) k = absurd (cc)
 is_choice (One r) condition (Two a b) y k = absurd (cc)

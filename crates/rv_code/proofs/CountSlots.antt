@@ -20,9 +20,6 @@ use Rattle.rv_code.proofs.ShortOps.{window_long}
 ones_long : (flags : IsaFlags) (sum tmp step rs bits : ℕ) → count_size flags sum tmp step rs bits ≡ pieces_size flags (ones_pieces sum tmp step rs bits)
 ones_long flags sum tmp step rs bits = let jump = window_long flags in omega arith
 
-pub ones_short : (flags : IsaFlags) (sum tmp step rs bits : ℕ) → count_size flags sum tmp step rs bits ≤ 44
-ones_short flags sum tmp step rs bits = subst (λ n. n ≤ 44) (sym (ones_long flags sum tmp step rs bits)) (pieces_few flags (ones_pieces sum tmp step rs bits))
-
 ones_closed : (sum tmp step rs bits : ℕ) → AreClosedPieces (ones_pieces sum tmp step rs bits)
 ones_closed sum tmp step rs bits = record { among = (lit< tt, (lit< tt, (lit< tt, (lit< tt, (lit< tt, (lit< tt, tt)))))); bound = bound }
   where
@@ -36,6 +33,7 @@ pub popcnt_made : (context : Context) (info : CountInfo) → IsMadeOf context (P
 popcnt_made context info = record {
   closed = ones_closed (number_of info.sum.reg) (number_of info.tmp.reg) (number_of info.step.reg) (number_of info.rs) (bits_of info.ty);
   short = lit≤ tt;
+  within = lit≤ tt;
   nowhere = tt;
   owns = refl;
   long = ap Words (ones_long context.flags (number_of info.sum.reg) (number_of info.tmp.reg) (number_of info.step.reg) (number_of info.rs) (bits_of info.ty));
@@ -49,10 +47,6 @@ popcnt_made context info = record {
 zeros_long : (flags : IsaFlags) (leading : Bool) (sum tmp step rs bits : ℕ) → zeros_size flags leading sum tmp step rs bits ≡ pieces_size flags (zeros_pieces leading sum tmp step rs bits)
 zeros_long flags true sum tmp step rs bits = let jump = window_long flags in omega arith
 zeros_long flags false sum tmp step rs bits = let jump = window_long flags in omega arith
-
-pub zeros_short : (flags : IsaFlags) (leading : Bool) (sum tmp step rs bits : ℕ) → zeros_size flags leading sum tmp step rs bits ≤ 44
-zeros_short flags true sum tmp step rs bits = subst (λ n. n ≤ 44) (sym (zeros_long flags true sum tmp step rs bits)) (pieces_few flags (zeros_pieces true sum tmp step rs bits))
-zeros_short flags false sum tmp step rs bits = let e = zeros_long flags false sum tmp step rs bits in let few = pieces_few flags (zeros_pieces false sum tmp step rs bits) in omega arith
 
 zeros_closed : (leading : Bool) (sum tmp step rs bits : ℕ) → AreClosedPieces (zeros_pieces leading sum tmp step rs bits)
 zeros_closed true sum tmp step rs bits = record { among = (lit< tt, (lit< tt, (lit< tt, (lit< tt, (lit< tt, tt))))); bound = bound }
@@ -75,6 +69,7 @@ zeros_made context leading info = by leading
     by true = record {
       closed = zeros_closed true (number_of info.sum.reg) (number_of info.tmp.reg) (number_of info.step.reg) (number_of info.rs) (bits_of info.ty);
       short = lit≤ tt;
+      within = lit≤ tt;
       nowhere = tt;
       owns = refl;
       long = ap Words (zeros_long context.flags true (number_of info.sum.reg) (number_of info.tmp.reg) (number_of info.step.reg) (number_of info.rs) (bits_of info.ty));
@@ -85,6 +80,7 @@ zeros_made context leading info = by leading
     by false = record {
       closed = zeros_closed false (number_of info.sum.reg) (number_of info.tmp.reg) (number_of info.step.reg) (number_of info.rs) (bits_of info.ty);
       short = lit≤ tt;
+      within = lit≤ tt;
       nowhere = tt;
       owns = refl;
       long = ap Words (zeros_long context.flags false (number_of info.sum.reg) (number_of info.tmp.reg) (number_of info.step.reg) (number_of info.rs) (bits_of info.ty));
@@ -97,9 +93,6 @@ zeros_made context leading info = by leading
 
 reverse_long : (flags : IsaFlags) (rd tmp tmp2 step rs bits : ℕ) → reverse_size flags rd tmp tmp2 step rs bits ≡ pieces_size flags (reverse_pieces rd tmp tmp2 step rs bits)
 reverse_long flags rd tmp tmp2 step rs bits = let jump = window_long flags in omega arith
-
-pub reverse_short : (flags : IsaFlags) (rd tmp tmp2 step rs bits : ℕ) → reverse_size flags rd tmp tmp2 step rs bits ≤ 76
-reverse_short flags rd tmp tmp2 step rs bits = subst (λ n. n ≤ 76) (sym (reverse_long flags rd tmp tmp2 step rs bits)) (pieces_few flags (reverse_pieces rd tmp tmp2 step rs bits))
 
 reverse_closed : (rd tmp tmp2 step rs bits : ℕ) → AreClosedPieces (reverse_pieces rd tmp tmp2 step rs bits)
 reverse_closed rd tmp tmp2 step rs bits = record { among = (lit< tt, (lit< tt, (lit< tt, (lit< tt, (lit< tt, (lit< tt, (lit< tt, (lit< tt, (lit< tt, (lit< tt, tt)))))))))); bound = bound }
@@ -116,6 +109,7 @@ pub reverse_made : (context : Context) (info : Brev8Info) → IsMadeOf context (
 reverse_made context info = record {
   closed = reverse_closed (number_of info.rd.reg) (number_of info.tmp.reg) (number_of info.tmp2.reg) (number_of info.step.reg) (number_of info.rs) (bits_of info.ty);
   short = lit≤ tt;
+  within = lit≤ tt;
   nowhere = tt;
   owns = refl;
   long = ap Words (reverse_long context.flags (number_of info.rd.reg) (number_of info.tmp.reg) (number_of info.tmp2.reg) (number_of info.step.reg) (number_of info.rs) (bits_of info.ty));

@@ -13,7 +13,7 @@ use Rattle.rv_code.proofs.Operands.{Keeps, keeps, are_usable, data_kept, constan
 use Rattle.rv_code.proofs.AddressOperands.{load_fine, store_fine, load_addr_fine, label_address_fine}
 use Rattle.rv_code.proofs.FloatRules.{are_real}
 use Rattle.rv_code.proofs.CallRules.{call_kept, call_ind_kept}
-use Rattle.rv_code.proofs.ChoiceRules.{extend_fine, select_fine}
+use Rattle.rv_code.proofs.ChoiceRules.{extend_kept, select_fine}
 use Rattle.rv_code.proofs.ZerosRules.{zeros_fine}
 use Rattle.rv_code.proofs.ReverseRules.{reverse_fine}
 use Rattle.rv_code.proofs.ProbeRules.{probe_fine}
@@ -40,7 +40,7 @@ fine context inst e = kept inst (keeps context inst e) (breaks_none context inst
     kept (AluRRImm12 op rd rs imm) k there = let all = are_usable (rd.reg ∷ rs ∷ []) k.real k.placed k.free in (all.0.0, all.1.0.0)
     kept (Mov rd rm type) k there = let both = move_usable rd rm type k in (both.0.0, both.1.0)
     kept (MovFromPReg rd rm) k there = let both = preg_usable rd rm k in (both.0.0, both.1.0)
-    kept (Extend rd rn signed from_bits to_bits) k there = extend_fine rd rn signed from_bits to_bits k
+    kept (Extend rd rn signed from_bits to_bits) k there = let h = extend_kept rd rn signed from_bits to_bits k in (h.0.0, h.1.0, h.2, h.3)
     kept (Select info) k there = select_fine info.dst info.condition info.x info.y k
     kept (Load rd op flags from) k there = load_fine context.constants rd op flags from k there
     kept (Store src op flags to) k there = store_fine context.constants to op flags src k there

@@ -23,7 +23,8 @@ use Rattle.rv_code.proofs.InstTraps.{udf_runs, raw_data_runs, trap_if_runs}
 use Rattle.rv_code.proofs.InstConstants.{constant_runs}
 use Rattle.rv_code.proofs.PopcntRuns.{popcnt_runs}
 use Rattle.rv_code.proofs.CountRules.{is_count}
-use Rattle.rv_code.proofs.ChoiceRuns.{extend_runs, select_runs}
+use Rattle.rv_code.proofs.ExtendRuns.{extend_runs}
+use Rattle.rv_code.proofs.SelectRuns.{select_runs}
 use Rattle.rv_code.proofs.ZerosRuns.{zeros_runs}
 use Rattle.rv_code.proofs.ReverseRuns.{reverse_runs}
 use Rattle.rv_code.proofs.ProbeRuns.{probe_runs}

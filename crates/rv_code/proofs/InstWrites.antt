@@ -27,6 +27,7 @@ use Rattle.rv_inst.specs.Forms.{short_rrr, short_rri, short_lui, short_jalr}
 use Rattle.rv_code.specs.declared.state.EmitVState.{EmitVState}
 use Rattle.rv_code.specs.Operations.{decoded_addi}
 use Rattle.rv_code.specs.Usable.{IsUsable}
+use Rattle.rv_code.specs.Pieces.{Rri, Do, slots_of}
 use Rattle.rv_code.specs.Slots.{Op, Part}
 use Rattle.rv_code.specs.Sites.{Site}
 use Rattle.rv_code.specs.InstParts.{slots_alone}
@@ -101,7 +102,7 @@ auipc_runs site setting rd imm h = record {
 }
 
 -- a move, by whether it is one to itself
-move_out : {site : Site} {start after : ℕ} {s : State} {v : Values} (own : Bool) (rd rs : ℕ) → nat_eq rd rs ≡ own → rd < 30 → rs < 30 → Enters site start after (slots_alone (if own then [] else Op (short_rri site.context.flags Addi rd rs (pos 0)) ∷ [])) s v → ComesOut site start after Next [] (set_reg v rd (reg v rs)) s
+move_out : {site : Site} {start after : ℕ} {s : State} {v : Values} (own : Bool) (rd rs : ℕ) → nat_eq rd rs ≡ own → rd < 30 → rs < 30 → Enters site start after (slots_alone (slots_of site.context.flags (if own then [] else Do (Rri Addi rd rs (pos 0)) ∷ []))) s v → ComesOut site start after Next [] (set_reg v rd (reg v rs)) s
 move_out {site} {start} {after} {s} {v} true rd rs test h h1 e =
     let same = eqb-true rd rs test in
     let kept : set_reg v rd (reg v rs) ≡ v = ap (λ n. set_reg v rd (reg v n)) (sym same) ∙ set_own v rd in

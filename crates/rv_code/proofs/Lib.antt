@@ -21,10 +21,11 @@ mod CountRules
 mod CountRuns
 pub mod CountSlots
 mod PopcntRuns
+pub mod ChoicePieces
 mod ChoiceRules
-mod ChoiceRuns
-pub mod ChoiceSlots
-mod ChoiceSteps
+mod ExtendRuns
+mod SelectRuns
+mod SetRegisters
 mod ZerosRules
 mod ZeroNumbers
 mod ZerosRuns

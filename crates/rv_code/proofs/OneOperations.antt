@@ -24,6 +24,7 @@ use Rattle.rv_inst.specs.Context.{Context}
 use Rattle.rv_inst.specs.Sizes.{is_byte, address_operation, load_operation, store_operation, operation_of}
 use Rattle.rv_code.specs.declared.state.EmitVState.{EmitVState}
 use Rattle.rv_code.specs.InstParts.{slots_alone, access_slots, address_slots, load_slots, store_slots, parts_of}
+use Rattle.rv_code.specs.Pieces.{Action, Rri, Piece, Do, op_of, slots_of}
 use Rattle.rv_code.specs.Slots.{Slot, Op, Part}
 use Rattle.rv_code.specs.Sites.{Site, IsPlacedAt, CodeHas, PartsStand}
 use Rattle.rv_code.proofs.FormActs.{Does, short_rrr_does, short_rri_does, short_lui_does, short_jalr_does, short_ebreak_is, short_load_does, short_store_does}
@@ -53,9 +54,13 @@ alone x integer e = after_trap None x integer e
 of_unit : {d : Decoded} (x : Decoded) → Some x ≡ Some d → IsAlone false (slots_alone (Op x ∷ [])) d
 of_unit {d} x e = record { trap = None; only = ap (λ (y : Decoded). slots_alone (Op y ∷ [])) (same_Some x d e); integer = λ core. absurd (cc) }
 
-unless : {core : Bool} {d : Decoded} (c : Bool) (x : Decoded) → is_integer_op x.op ≡ true → (if c then None else Some x) ≡ Some d → IsAlone core (slots_alone (if c then [] else Op x ∷ [])) d
-unless true x integer e = absurd (cc)
-unless false x integer e = alone x integer e
+unless : {core : Bool} {d : Decoded} (flags : IsaFlags) (c : Bool) (a : Action) → is_integer_op (op_of flags a).op ≡ true → (if c then None else Some (op_of flags a)) ≡ Some d → IsAlone core (slots_alone (slots_of flags (if c then [] else Do a ∷ []))) d
+unless flags true a integer e = absurd (cc)
+unless flags false a integer e = alone (op_of flags a) integer e
+
+only_where : {core : Bool} {d : Decoded} (flags : IsaFlags) (c : Bool) (a : Action) (others : List Piece) → is_integer_op (op_of flags a).op ≡ true → (if c then Some (op_of flags a) else None) ≡ Some d → IsAlone core (slots_alone (slots_of flags (if c then Do a ∷ [] else others))) d
+only_where flags true a others integer e = alone (op_of flags a) integer e
+only_where flags false a others integer e = absurd (cc)
 
 near : {core : Bool} {d : Decoded} (c : Bool) (trap : Option TrapCode) (x : Decoded) (far : List Slot) → is_integer_op x.op ≡ true → (if c then Some x else None) ≡ Some d → IsAlone core (slots_alone (if c then access_slots trap ++ Op x ∷ [] else far)) d
 near true trap x far integer e = after_trap trap x integer e
@@ -91,9 +96,9 @@ one_slot context setting (Auipc rd imm) d e = alone _ refl e
 one_slot context setting (LoadInlineConst rd type imm) d e = absurd (cc)
 one_slot context setting (AluRRR op rd rs1 rs2) d e = alone _ (does_integer (short_rrr_does context.flags op (number_of rd.reg) (number_of rs1) (number_of rs2))) e
 one_slot context setting (AluRRImm12 op rd rs imm) d e = alone _ (does_integer (short_rri_does context.flags op (number_of rd.reg) (number_of rs) imm.value)) e
-one_slot context setting (Mov rd rm type) d e = unless (nat_eq (number_of rd.reg) (number_of rm)) _ (does_integer (short_rri_does context.flags Addi (number_of rd.reg) (number_of rm) (pos 0))) e
-one_slot context setting (MovFromPReg rd rm) d e = unless (nat_eq (number_of rd.reg) rm.number) _ (does_integer (short_rri_does context.flags Addi (number_of rd.reg) rm.number (pos 0))) e
-one_slot context setting (Extend rd rn signed from_bits to_bits) d e = near (is_byte signed from_bits) None _ _ (does_integer (short_rri_does context.flags Andi (number_of rd.reg) (number_of rn) (pos 255))) e
+one_slot context setting (Mov rd rm type) d e = unless context.flags (nat_eq (number_of rd.reg) (number_of rm)) (Rri Addi (number_of rd.reg) (number_of rm) (pos 0)) (does_integer (short_rri_does context.flags Addi (number_of rd.reg) (number_of rm) (pos 0))) e
+one_slot context setting (MovFromPReg rd rm) d e = unless context.flags (nat_eq (number_of rd.reg) rm.number) (Rri Addi (number_of rd.reg) rm.number (pos 0)) (does_integer (short_rri_does context.flags Addi (number_of rd.reg) rm.number (pos 0))) e
+one_slot context setting (Extend rd rn signed from_bits to_bits) d e = only_where context.flags (is_byte signed from_bits) (Rri Andi (number_of rd.reg) (number_of rn) (pos 255)) _ (does_integer (short_rri_does context.flags Andi (number_of rd.reg) (number_of rn) (pos 255))) e
 one_slot context setting (Select info) d e = absurd (cc)
 one_slot context setting (Load rd op flags from) d e = loads context.flags op (number_of rd.reg) flags.trap (location_of context.frame from) e
 one_slot context setting (Store src op flags to) d e = stores context.flags op (number_of src) flags.trap (location_of context.frame to) e

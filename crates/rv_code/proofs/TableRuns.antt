@@ -25,7 +25,8 @@ use Rattle.rv_inst.specs.declared.inst.Inst.TheVariants.{BrTable}
 use Rattle.rv_inst.specs.declared.label_use.LabelUse.TheVariants.{PCRel32}
 use Rattle.rv_code.specs.declared.state.EmitVState.{EmitVState}
 use Rattle.rv_code.specs.Chains.{Goes, IsAt, IsBeside}
-use Rattle.rv_code.specs.Choices.{extend_slots}
+use Rattle.rv_code.specs.Choices.{extend_pieces}
+use Rattle.rv_code.specs.Pieces.{slots_of}
 use Rattle.rv_code.specs.Immediates.{upper_of, lower_of}
 use Rattle.rv_code.specs.InstParts.{number_slots, table_slots}
 use Rattle.rv_code.specs.InstRuns.{Enters, ComesOut, RunsIn}
@@ -239,7 +240,7 @@ jumps_out {site} {start} {after} {offset} {v} {s} allocated source tmp1 tmp2 ind
 low_bits_left : (x : ℕ) → wrap (x * 2 ^ 32) / 2 ^ 32 ≡ low_word x
 low_bits_left x = omega arith
 
-extend_goes : {site : Site} {offset : ℕ} {s : State} (allocated index : ℕ) → IsState s → IsAt site offset (size_of (extend_slots site.context.flags 31 index false 32)) s → StandsIn site allocated offset (extend_slots site.context.flags 31 index false 32) → Sets site.context.flags (size_of (extend_slots site.context.flags 31 index false 32)) s 31 (low_word (reg s.values index))
+extend_goes : {site : Site} {offset : ℕ} {s : State} (allocated index : ℕ) → IsState s → IsAt site offset (size_of (slots_of site.context.flags (extend_pieces 31 index false 32))) s → StandsIn site allocated offset (slots_of site.context.flags (extend_pieces 31 index false 32)) → Sets site.context.flags (size_of (slots_of site.context.flags (extend_pieces 31 index false 32))) s 31 (low_word (reg s.values index))
 extend_goes {site} {offset} {s} allocated index is_state h stands =
     let flags = site.context.flags in
     let up = short_rri flags Slli 31 index (pos 32) in
@@ -277,7 +278,7 @@ table_out {site} {start} {after} {s} {v} space index tmp1 tmp2 default labels r 
     let inside = e.within in
     let short = e.short in
     let n = length labels in
-    let extend = extend_slots flags 31 index false 32 in
+    let extend = slots_of flags (extend_pieces 31 index false 32) in
     let number = number_slots flags tmp2 (pos n) in
     let jumps = jump_slots tmp1 tmp2 default labels in
     let both_long = size_append extend (number ++ jumps) in

@@ -12,7 +12,8 @@ use Rattle.rv_inst.specs.Addresses.{is_splittable, inline_size}
 use Rattle.rv_inst.specs.Forms.{short_rri, short_lui}
 use Rattle.rv_inst.specs.LabelUse.{marks_of}
 use Rattle.rv_inst.specs.Sizes.{number_size, table_size}
-use Rattle.rv_code.specs.Choices.{extend_slots}
+use Rattle.rv_code.specs.Choices.{extend_pieces}
+use Rattle.rv_code.specs.Pieces.{slots_of}
 use Rattle.rv_code.specs.Immediates.{upper_of, lower_of}
 use Rattle.rv_code.specs.InstParts.{inline_slots, number_slots, table_slots}
 use Rattle.rv_code.specs.Operations.{jump_size}
@@ -84,10 +85,10 @@ even_both (CallTo name ops ∷ slots) more e f = even_both slots more e f
 
 -- ---- the pieces of a branch by a table
 
-pub extend_even : (flags : IsaFlags) (rd rn : ℕ) → AreEven (extend_slots flags rd rn false 32)
+pub extend_even : (flags : IsaFlags) (rd rn : ℕ) → AreEven (slots_of flags (extend_pieces rd rn false 32))
 extend_even flags rd rn = ((rri_sized flags Slli rd rn (pos 32)).even, ((rri_sized flags Srli rd rd (pos 32)).even, tt))
 
-pub extend_few : (flags : IsaFlags) (rd rn : ℕ) → size_of (extend_slots flags rd rn false 32) ≤ 8
+pub extend_few : (flags : IsaFlags) (rd rn : ℕ) → size_of (slots_of flags (extend_pieces rd rn false 32)) ≤ 8
 extend_few flags rd rn = let a = (rri_sized flags Slli rd rn (pos 32)).few in let b = (rri_sized flags Srli rd rd (pos 32)).few in omega arith
 
 -- what a number is put by: one immediate, two, the upper one, or bytes among the code
@@ -144,7 +145,7 @@ jumps_long tmp1 tmp2 default labels = let e = far_jumps_long tmp2 labels in omeg
 pub table_long : (flags : IsaFlags) (index tmp1 tmp2 : ℕ) (targets : List MachLabel) → 1 ≤ length targets → size_of (table_slots flags index tmp1 tmp2 targets) ≡ table_size flags index tmp2 (length targets)
 table_long flags index tmp1 tmp2 [] some = absurd (omega arith)
 table_long flags index tmp1 tmp2 (default ∷ labels) some =
-    let first = size_append (extend_slots flags 31 index false 32) (number_slots flags tmp2 (pos (length labels)) ++ jump_slots tmp1 tmp2 default labels) in
+    let first = size_append (slots_of flags (extend_pieces 31 index false 32)) (number_slots flags tmp2 (pos (length labels)) ++ jump_slots tmp1 tmp2 default labels) in
     let second = size_append (number_slots flags tmp2 (pos (length labels))) (jump_slots tmp1 tmp2 default labels) in
     let others : length labels ≡ length (default ∷ labels) - 1 = omega arith in
     let number : size_of (number_slots flags tmp2 (pos (length labels))) ≡ number_size flags tmp2 (pos (length (default ∷ labels) - 1)) = number_long flags tmp2 (pos (length labels)) ∙ ap (λ n. number_size flags tmp2 (pos n)) others in
@@ -155,7 +156,7 @@ pub table_contained : (flags : IsaFlags) (index tmp1 tmp2 : ℕ) (targets : List
 table_contained flags index tmp1 tmp2 [] = tt
 table_contained flags index tmp1 tmp2 (default ∷ labels) =
     even_closed _ 0 (table_slots flags index tmp1 tmp2 (default ∷ labels))
-    (even_both (extend_slots flags 31 index false 32) (number_slots flags tmp2 (pos (length labels)) ++ jump_slots tmp1 tmp2 default labels) (extend_even flags 31 index)
+    (even_both (slots_of flags (extend_pieces 31 index false 32)) (number_slots flags tmp2 (pos (length labels)) ++ jump_slots tmp1 tmp2 default labels) (extend_even flags 31 index)
     (even_both (number_slots flags tmp2 (pos (length labels))) (jump_slots tmp1 tmp2 default labels) (number_even flags tmp2 (pos (length labels))) (jumps_even tmp1 tmp2 default labels)))
 
 -- four bytes less than the space before which an island is asked for; so many labels need at most two instructions for their number

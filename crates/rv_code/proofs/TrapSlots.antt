@@ -22,6 +22,7 @@ pub udf_made : (context : Context) (code : TrapCode) → IsMadeOf context (Udf c
 udf_made context code = record {
   closed = record { among = tt; bound = λ k lt. absurd (omega arith) };
   short = lit≤ tt;
+  within = lit≤ tt;
   nowhere = tt;
   owns = refl;
   long = let t = trap_long context.flags in let e : trap_size context.flags ≡ pieces_size context.flags (Trap code ∷ []) = omega arith in ap Words e;
@@ -34,6 +35,7 @@ pub trap_if_made : (context : Context) (cmp : IntegerCompare) (code : TrapCode) 
 trap_if_made context cmp code = record {
   closed = record { among = (lit< tt, (lit< tt, tt)); bound = bound };
   short = lit≤ tt;
+  within = lit≤ tt;
   nowhere = tt;
   owns = refl;
   long = let t = trap_long context.flags in let e : 4 + trap_size context.flags ≡ pieces_size context.flags (trap_if_pieces cmp code) = omega arith in ap Words e;

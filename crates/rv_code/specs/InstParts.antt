@@ -42,7 +42,7 @@ use Rattle.mach_records.specs.declared.records.Event.TheVariants as event
 use Rattle.rv_code.specs.declared.state.EmitVState.{EmitVState}
 use Rattle.rv_code.specs.Operations.{decoded_addi, decoded_jalr, decoded_jump, short_jump, jump_size}
 use Rattle.rv_code.specs.Counts.{ones_pieces, zeros_pieces}
-pub use Rattle.rv_code.specs.Choices.{complement, move_slots, extend_slots, select_slots}
+use Rattle.rv_code.specs.Choices.{extend_pieces, move_pieces, select_pieces}
 use Rattle.rv_code.specs.Reversals.{reverse_pieces}
 pub use Rattle.rv_code.specs.Pieces.{trap_bytes, trap_slots}
 use Rattle.rv_code.specs.Pieces.{slots_of}
@@ -161,7 +161,7 @@ probe_slots flags tmp guard count = number_slots flags 31 (cast_signed w64 (guar
 -- the low 32 bits of the index in x31, how many labels there are beside the default, and the jumps
 abbrev pub table_slots : IsaFlags → ℕ → ℕ → ℕ → List MachLabel → List Slot
 table_slots flags index tmp1 tmp2 [] = []
-table_slots flags index tmp1 tmp2 (default ∷ labels) = extend_slots flags 31 index false 32 ++ number_slots flags tmp2 (pos (length labels)) ++ jump_slots tmp1 tmp2 default labels
+table_slots flags index tmp1 tmp2 (default ∷ labels) = slots_of flags (extend_pieces 31 index false 32) ++ number_slots flags tmp2 (pos (length labels)) ++ jump_slots tmp1 tmp2 default labels
 
 -- ---- symbols
 
@@ -271,10 +271,10 @@ parts_of context setting (Auipc rd imm) = slots_alone (Op (decoded (Base base.Au
 parts_of context setting (LoadInlineConst rd type imm) = slots_alone (constant_slots context.flags (number_of rd.reg) type imm)
 parts_of context setting (AluRRR op rd rs1 rs2) = slots_alone (Op (short_rrr context.flags op (number_of rd.reg) (number_of rs1) (number_of rs2)) ∷ [])
 parts_of context setting (AluRRImm12 op rd rs imm) = slots_alone (Op (short_rri context.flags op (number_of rd.reg) (number_of rs) imm.value) ∷ [])
-parts_of context setting (Mov rd rm type) = slots_alone (move_slots context.flags (number_of rd.reg) (number_of rm))
-parts_of context setting (MovFromPReg rd rm) = slots_alone (move_slots context.flags (number_of rd.reg) rm.number)
-parts_of context setting (Extend rd rn signed from_bits to_bits) = slots_alone (extend_slots context.flags (number_of rd.reg) (number_of rn) signed from_bits)
-parts_of context setting (Select info) = slots_alone (select_slots context.flags info.dst info.condition info.x info.y)
+parts_of context setting (Mov rd rm type) = slots_alone (slots_of context.flags (move_pieces (number_of rd.reg) (number_of rm)))
+parts_of context setting (MovFromPReg rd rm) = slots_alone (slots_of context.flags (move_pieces (number_of rd.reg) rm.number))
+parts_of context setting (Extend rd rn signed from_bits to_bits) = slots_alone (slots_of context.flags (extend_pieces (number_of rd.reg) (number_of rn) signed from_bits))
+parts_of context setting (Select info) = slots_alone (slots_of context.flags (select_pieces info))
 parts_of context setting (Load rd op flags from) = slots_alone (load_slots context.flags (number_of rd.reg) op flags.trap (location_of context.frame from))
 parts_of context setting (Store src op flags to) = slots_alone (store_slots context.flags op (number_of src) flags.trap (location_of context.frame to))
 parts_of context setting (LoadAddr rd mem) = slots_alone (address_slots context.flags (number_of rd.reg) (location_of context.frame mem))

@@ -1,5 +1,5 @@
 -- A sequence's code is put, piece by piece.
-use Rattle.std.proofs.Common.{◌≡◌, ◌≢◌, ℕ, suc, ◌+◌, ◌^◌, ◌<◌, ◌≤◌, ℤ, Bool, true, false, nat_eq, [], ◌∷◌, List, length, drop, None, Some, get_or, drop-cons, arith, refl, sym, ap, subst, ◌∙◌}
+use Rattle.std.proofs.Common.{◌≡◌, ◌≢◌, ℕ, suc, ◌+◌, ◌^◌, ◌<◌, ◌≤◌, ℤ, Bool, true, false, nat_eq, [], ◌∷◌, ◌++◌, List, length, drop, None, Some, get_or, drop-cons, append_assoc, pos, arith, refl, sym, ap, subst, ◌∙◌}
 use Rattle.std.specs.Prelude.{if◌then◌else◌}
 use Rattle.std.proofs.Math.ListN.{drop_of_length-le}
 use Rattle.std.proofs.lemmas.Bool.{or_parts}
@@ -9,6 +9,7 @@ use Rattle.rv_base.specs.declared.label.MachLabel.{MachLabel}
 use Rattle.rv_base.specs.declared.regs.Reg.{Reg}
 use Rattle.rv_base.specs.Regs.{number_of}
 use Rattle.rv_ops.specs.Compare.{branch_of, is_reversed}
+use Rattle.rv_ops.specs.declared.alu.AluOPRRI.TheVariants.{Addi}
 use Rattle.rv_ops.specs.declared.compare.IntegerCompare.{IntegerCompare}
 use Rattle.rv_machine.specs.declared.decoding.Decoded.{Decoded}
 use Rattle.rv_machine.specs.declared.ops.MOp.TheVariants.{Base}
@@ -19,19 +20,20 @@ use Rattle.rv_inst.specs.declared.label_use.LabelUse.{LabelUse}
 use Rattle.rv_inst.specs.declared.label_use.LabelUse.TheVariants.{B12}
 use Rattle.mach_labels.specs.Table.{first_inner}
 use Rattle.mach_uses.specs.Labels.{inner_count}
-use Rattle.mach_buffer.specs.Buffer.{shape_of}
+use Rattle.mach_buffer.specs.Buffer.{shape_of, allocated_of}
 use Rattle.mach_buffer.specs.Shape.{Shape, with_bytes, with_use}
 use Rattle.rv_emit.specs.Emitted.{Buffer, IsSoundBuffer}
 use Rattle.rv_emit.specs.Emission.{PutsAlone, PutsSlots}
 use Rattle.rv_code.specs.InstParts.{branch_to}
 use Rattle.rv_emit.specs.Puts.{Puts, IsPatchable}
 use Rattle.rv_code.specs.Slots.{Label, own_label}
-use Rattle.rv_code.specs.Pieces.{Branch, branches, slots_for, slots_of, pieces_most}
+use Rattle.rv_code.specs.Choices.{move_pieces}
+use Rattle.rv_code.specs.Pieces.{Action, Rri, Piece, Do, Branch, branches, slots_for, slots_of, pieces_most}
 use Rattle.rv_emit.specs.Code.{shown, pieces_of, AreSound, IsLabelled, IsUsableAt, IsBaseFor, IsNext}
 use Rattle.rv_emit.specs.declared.code.CodePiece.{CodePiece}
 use Rattle.rv_emit.specs.declared.code.CodePiece.TheVariants as code
 use Rattle.rv_emit.specs.declared.code.OwnLabels.{OwnLabels}
-use Rattle.rv_code.proofs.ClosedPieces.{piece_few, piece_long}
+use Rattle.rv_code.proofs.ClosedPieces.{pieces_few, pieces_long}
 use Rattle.rv_emit.proofs.BufferAfterSlots.{puts_bytes}
 use Rattle.rv_emit.proofs.SlotsOfOnePut.{alone}
 use Rattle.rv_emit.proofs.SlotsOfSeveralPuts.{puts_after}
@@ -53,6 +55,34 @@ pub branch_puts : (flags : IsaFlags) (kind : IntegerCompare) (label : MachLabel)
 branch_puts flags kind label base k allocated old new number is p =
     let q = p.puts in
     (q.0, (q.1.0, subst (IsPatchable flags B12 q.1.0) (same_branch kind) q.1.1, q.1.2 ∙ ap (λ l. with_bytes q.1.0 (with_use (use_at (length (shape_of old).bytes) l B12) (shape_of old))) (is_own label base k allocated number is)), q.2)
+
+-- ---- a move
+
+-- what an operation's bytes don't change is the same after a move
+move_kept : (flags : IsaFlags) (allocated : ℕ) {A : Type 0} (f : Shape LabelUse → A) → ((bytes : List ℕ) (s : Shape LabelUse) → f (with_bytes bytes s) ≡ f s) → (s t : Shape LabelUse) (own : Bool) (a : Action) → Puts flags allocated (slots_of flags (if own then [] else Do a ∷ [])) s t → f t ≡ f s
+move_kept flags allocated f kept s t true a put = ap f put
+move_kept flags allocated f kept s t false a put = ap f (put.2 ∙ put.1.3) ∙ kept put.1.0 s
+
+-- whatever labels were allocated before
+pub move_puts : {flags : IsaFlags} (allocated rd rs : ℕ) (old new : Buffer) → PutsAlone flags (slots_of flags (move_pieces rd rs)) old new → Puts flags allocated (slots_of flags (move_pieces rd rs)) (shape_of old) (shape_of new)
+move_puts {flags} allocated rd rs old new p = subst (λ (b : Buffer). Puts flags allocated (slots_of flags (move_pieces rd rs)) (shape_of old) (shape_of b)) (sym p.2) (by (nat_eq rd rs) p.1.puts)
+  where
+    by : (own : Bool) → Puts flags (allocated_of old) (slots_of flags (if own then [] else Do (Rri Addi rd rs (pos 0)) ∷ [])) (shape_of old) (shape_of p.0) → Puts flags allocated (slots_of flags (if own then [] else Do (Rri Addi rd rs (pos 0)) ∷ [])) (shape_of old) (shape_of p.0)
+    by true put = put
+    by false put = put
+
+-- ---- pieces, and others after them
+
+slots_both : (flags : IsaFlags) (ps qs : List Piece) → slots_of flags (ps ++ qs) ≡ slots_of flags ps ++ slots_of flags qs
+slots_both flags [] qs = refl
+slots_both flags (p ∷ ps) qs = ap (λ slots. slots_for flags p ++ slots) (slots_both flags ps qs) ∙ sym (append_assoc (slots_for flags p) (slots_of flags ps) (slots_of flags qs))
+
+most_both : (ps qs : List Piece) → pieces_most (ps ++ qs) ≡ pieces_most ps + pieces_most qs
+most_both [] qs = omega arith
+most_both (p ∷ ps) qs = let e = most_both ps qs in omega arith
+
+puts_more : (flags : IsaFlags) (allocated : ℕ) (s t u : Shape LabelUse) (x : CodePiece) (left : List CodePiece) → Puts flags allocated (slots_of flags (shown x)) s t → Puts flags allocated (slots_of flags (pieces_of left)) t u → Puts flags allocated (slots_of flags (pieces_of (x ∷ left))) s u
+puts_more flags allocated s t u x left put more = subst (λ slots. Puts flags allocated slots s u) (sym (slots_both flags (shown x) (pieces_of left))) (puts_after flags allocated (slots_of flags (shown x)) (slots_of flags (pieces_of left)) s t u put more)
 
 -- ---- the loop
 
@@ -88,6 +118,7 @@ first_left xs i x is lt = let e : suc i ≡ i + 1 = omega arith in drop-cons xs 
 pub usable : {flags : IsaFlags} {all left : List CodePiece} {start now : Shape LabelUse} {own : OwnLabels} (x : CodePiece) → Putting flags all start (x ∷ left) own now → IsUsableAt own.base x now
 usable (code.Rrr op rd rs1 rs2) k = tt
 usable (code.Rri op rd rs imm) k = tt
+usable (code.Move rd rs) k = tt
 usable (code.Branch kind label) k = let lt = k.labelled.0 in let count = k.count in let base = k.base (omega arith) in omega arith
 usable (code.Jump label) k = let lt = k.labelled.0 in let count = k.count in let base = k.base (omega arith) in omega arith
 usable code.New k = tt
@@ -101,6 +132,7 @@ usable {start = start} {now = now} {own = own} (code.Bind label) k =
 pub known_base : {flags : IsaFlags} {all left : List CodePiece} {start now : Shape LabelUse} {own : OwnLabels} (x : CodePiece) → Putting flags all start (x ∷ left) own now → IsBaseFor own.base start.allocated x
 known_base (code.Rrr op rd rs1 rs2) k = tt
 known_base (code.Rri op rd rs imm) k = tt
+known_base (code.Move rd rs) k = tt
 known_base (code.Branch kind label) k = let lt = k.labelled.0 in k.base (omega arith)
 known_base (code.Jump label) k = let lt = k.labelled.0 in k.base (omega arith)
 known_base code.New k = tt
@@ -108,16 +140,17 @@ known_base (code.Trap code) k = tt
 known_base (code.Bind label) k = let lt = k.labelled.0 in k.base (omega arith)
 
 -- a piece has at most so many bytes
-room_left : {flags : IsaFlags} {all left : List CodePiece} {start now : Shape LabelUse} {own : OwnLabels} (next_shape : Shape LabelUse) (x : CodePiece) → Putting flags all start (x ∷ left) own now → Puts flags start.allocated (slots_for flags (shown x)) now next_shape → length next_shape.bytes + pieces_most (pieces_of left) ≤ length start.bytes + pieces_most (pieces_of all)
-room_left {flags} {start = start} {now = now} next_shape x k put =
-    let long = puts_bytes flags start.allocated (slots_for flags (shown x)) now next_shape put in
-    let size = piece_long flags (shown x) in
-    let few = piece_few flags (shown x) in
+room_left : {flags : IsaFlags} {all left : List CodePiece} {start now : Shape LabelUse} {own : OwnLabels} (next_shape : Shape LabelUse) (x : CodePiece) → Putting flags all start (x ∷ left) own now → Puts flags start.allocated (slots_of flags (shown x)) now next_shape → length next_shape.bytes + pieces_most (pieces_of left) ≤ length start.bytes + pieces_most (pieces_of all)
+room_left {flags} {left = left} {start = start} {now = now} next_shape x k put =
+    let long = puts_bytes flags start.allocated (slots_of flags (shown x)) now next_shape put in
+    let size = pieces_long flags (shown x) in
+    let few = pieces_few flags (shown x) in
+    let both = most_both (shown x) (pieces_of left) in
     let room = k.room in
-    omega (arith, long, size, few, room)
+    omega (arith, long, size, few, both, room)
 
 -- after a piece that leaves all labels as they were
-same_labels : {flags : IsaFlags} {all left : List CodePiece} {start now next_shape : Shape LabelUse} {own next : OwnLabels} (x : CodePiece) (k : Putting flags all start (x ∷ left) own now) → IsLabelled own.count k.bound left → next_shape.allocated ≡ now.allocated → next_shape.place ≡ now.place → next ≡ own → Puts flags start.allocated (slots_for flags (shown x)) now next_shape → Putting flags all start left next next_shape
+same_labels : {flags : IsaFlags} {all left : List CodePiece} {start now next_shape : Shape LabelUse} {own next : OwnLabels} (x : CodePiece) (k : Putting flags all start (x ∷ left) own now) → IsLabelled own.count k.bound left → next_shape.allocated ≡ now.allocated → next_shape.place ≡ now.place → next ≡ own → Puts flags start.allocated (slots_of flags (shown x)) now next_shape → Putting flags all start left next next_shape
 same_labels {flags} {all} {left} {start} {now} {next_shape} {own} {next} x k labelled allocated place same put = subst (λ o. Putting flags all start left o next_shape) (sym same) (record {
   bound = k.bound;
   count = k.count ∙ sym allocated;
@@ -126,13 +159,14 @@ same_labels {flags} {all} {left} {start} {now} {next_shape} {own} {next} x k lab
   unbound = λ j lt other. ap (λ (p : ℕ → _). p (first_inner + (start.allocated + j))) place ∙ k.unbound j lt other;
   sound = k.sound.1;
   labelled = labelled;
-  puts = λ t p. k.puts t (puts_after flags start.allocated (slots_for flags (shown x)) (slots_of flags (pieces_of left)) now next_shape t put p);
+  puts = λ t p. k.puts t (puts_more flags start.allocated now next_shape t x left put p);
   room = room_left next_shape x k put;
 })
 
-goes_on : {flags : IsaFlags} {all left : List CodePiece} {start now next_shape : Shape LabelUse} {own next : OwnLabels} (x : CodePiece) → start.allocated < inner_count → Putting flags all start (x ∷ left) own now → IsNext own next x now next_shape → Puts flags start.allocated (slots_for flags (shown x)) now next_shape → Putting flags all start left next next_shape
+goes_on : {flags : IsaFlags} {all left : List CodePiece} {start now next_shape : Shape LabelUse} {own next : OwnLabels} (x : CodePiece) → start.allocated < inner_count → Putting flags all start (x ∷ left) own now → IsNext own next x now next_shape → Puts flags start.allocated (slots_of flags (shown x)) now next_shape → Putting flags all start left next next_shape
 goes_on (code.Rrr op rd rs1 rs2) few k same put = same_labels (code.Rrr op rd rs1 rs2) k k.labelled (ap (λ s. s.allocated) (put.2 ∙ put.1.3)) (ap (λ s. s.place) (put.2 ∙ put.1.3)) same put
 goes_on (code.Rri op rd rs imm) few k same put = same_labels (code.Rri op rd rs imm) k k.labelled (ap (λ s. s.allocated) (put.2 ∙ put.1.3)) (ap (λ s. s.place) (put.2 ∙ put.1.3)) same put
+goes_on {flags} {start = start} {now = now} {next_shape = next_shape} (code.Move rd rs) few k same put = same_labels (code.Move rd rs) k k.labelled (move_kept flags start.allocated (λ s. s.allocated) (λ bytes s. refl) now next_shape (nat_eq (number_of rd.reg) (number_of rs)) _ put) (move_kept flags start.allocated (λ s. s.place) (λ bytes s. refl) now next_shape (nat_eq (number_of rd.reg) (number_of rs)) _ put) same put
 goes_on (code.Branch kind label) few k same put = same_labels (code.Branch kind label) k k.labelled.1 (ap (λ s. s.allocated) (put.2 ∙ put.1.2)) (ap (λ s. s.place) (put.2 ∙ put.1.2)) same put
 goes_on (code.Jump label) few k same put = same_labels (code.Jump label) k k.labelled.1 (ap (λ s. s.allocated) (put.2 ∙ put.1.2)) (ap (λ s. s.place) (put.2 ∙ put.1.2)) same put
 goes_on (code.Trap trap) few k same put = same_labels (code.Trap trap) k k.labelled (ap (λ s. s.allocated) (put.2.2 ∙ put.2.1 ∙ ap (with_bytes _) put.1.1)) (ap (λ s. s.place) (put.2.2 ∙ put.2.1 ∙ ap (with_bytes _) put.1.1)) same put
@@ -149,7 +183,7 @@ goes_on {flags} {all} {left} {start} {now} {next_shape} {own} {next} code.New fe
       unbound = λ j lt other. by j lt other (nat_eq j own.count) refl;
       sound = k.sound.1;
       labelled = subst (λ m. IsLabelled m k.bound left) (sym more) k.labelled;
-      puts = λ t p. k.puts t (puts_after flags start.allocated (slots_for flags (shown code.New)) (slots_of flags (pieces_of left)) now next_shape t put p);
+      puts = λ t p. k.puts t (puts_more flags start.allocated now next_shape t code.New left put p);
       room = room_left next_shape code.New k put;
     }
   where
@@ -174,7 +208,7 @@ goes_on {flags} {all} {left} {start} {now} {next_shape} {own} {next} (code.Bind 
       ap (λ s. s.place (first_inner + (start.allocated + j))) (put.2 ∙ put.1.1) ∙ ap (λ c. if c then Some (length now.bytes) else now.place (first_inner + (start.allocated + j))) e ∙ k.unbound j lt parts.1;
   sound = k.sound.1;
   labelled = k.labelled.2;
-  puts = λ t p. k.puts t (puts_after flags start.allocated (slots_for flags (shown (code.Bind label))) (slots_of flags (pieces_of left)) now next_shape t put p);
+  puts = λ t p. k.puts t (puts_more flags start.allocated now next_shape t (code.Bind label) left put p);
   room = room_left next_shape (code.Bind label) k put;
 })
   where
@@ -182,7 +216,7 @@ goes_on {flags} {all} {left} {start} {now} {next_shape} {own} {next} (code.Bind 
     apart j test = grind (arith, nat_tests)
 
 -- one more piece was put
-pub puts_next : {flags : IsaFlags} {all : List CodePiece} {start now next_shape : Shape LabelUse} {own next : OwnLabels} (i : ℕ) (x : CodePiece) → x ≡ get_or all i x → i < length all → start.allocated < inner_count → Putting flags all start (drop i all) own now → IsNext own next x now next_shape → ((allocated : ℕ) → IsBaseFor own.base allocated x → Puts flags allocated (slots_for flags (shown x)) now next_shape) → Putting flags all start (drop (i + 1) all) next next_shape
+pub puts_next : {flags : IsaFlags} {all : List CodePiece} {start now next_shape : Shape LabelUse} {own next : OwnLabels} (i : ℕ) (x : CodePiece) → x ≡ get_or all i x → i < length all → start.allocated < inner_count → Putting flags all start (drop i all) own now → IsNext own next x now next_shape → ((allocated : ℕ) → IsBaseFor own.base allocated x → Puts flags allocated (slots_of flags (shown x)) now next_shape) → Putting flags all start (drop (i + 1) all) next next_shape
 puts_next {flags} {all} {start} {now} {next_shape} {own} {next} i x is lt few k n put =
     let k1 = subst (λ ps. Putting flags all start ps own now) (first_left all i x is lt) k in
     goes_on x few k1 n (put start.allocated (known_base x k1))
@@ -197,6 +231,7 @@ all_put {flags} all i own old new le k sound =
 pub next_few : (own next : OwnLabels) (s t : Shape LabelUse) (x : CodePiece) → IsNext own next x s t → next.count ≤ 1 + own.count
 next_few own next s t (code.Rrr op rd rs1 rs2) same = let e = ap (λ (o : OwnLabels). o.count) same in omega arith
 next_few own next s t (code.Rri op rd rs imm) same = let e = ap (λ (o : OwnLabels). o.count) same in omega arith
+next_few own next s t (code.Move rd rs) same = let e = ap (λ (o : OwnLabels). o.count) same in omega arith
 next_few own next s t (code.Branch kind label) same = let e = ap (λ (o : OwnLabels). o.count) same in omega arith
 next_few own next s t (code.Jump label) same = let e = ap (λ (o : OwnLabels). o.count) same in omega arith
 next_few own next s t code.New more = let e = more.0 in omega arith

@@ -31,7 +31,7 @@ use Rattle.rv_inst.specs.Forms.{jump_kind, short_rrr, short_rri, short_lui, shor
 use Rattle.rv_inst.specs.LabelUse.{marks_of}
 use Rattle.rv_emit.specs.Emitted.{Buffer, IsSoundBuffer, AppendsInst, IslandIfNeeded}
 use Rattle.rv_code.specs.Slots.{Label, Op, Data, AreSelfContained, PartsAreSelfContained}
-use Rattle.rv_code.specs.InstParts.{move_slots, branch_slots, jump_to, inline_slots, constant_slots, parts_of}
+use Rattle.rv_code.specs.InstParts.{branch_slots, jump_to, inline_slots, constant_slots, parts_of}
 use Rattle.rv_code.specs.declared.state.EmitVState.TheVariants.{Unknown}
 use Rattle.rv_emit.specs.Emission.{EmitsIn, Emits}
 use Rattle.rv_code.proofs.AddressRuns.{inline_size}
@@ -45,7 +45,7 @@ use Rattle.rv_code.proofs.CountSlots.{popcnt_made, zeros_made, reverse_made}
 use Rattle.rv_code.proofs.MadeOfPieces.{made_contained}
 use Rattle.rv_code.proofs.TrapSlots.{udf_made, trap_if_made}
 use Rattle.rv_emit.proofs.OwnPieces.{made_appends}
-use Rattle.rv_code.proofs.ChoiceSlots.{extend_summed, extend_contained, select_summed, select_contained}
+use Rattle.rv_code.proofs.ChoicePieces.{mov_made, mov_from_preg_made, extend_made, select_made}
 use Rattle.rv_code.proofs.ProbeSlots.{probe_summed, probe_contained}
 use Rattle.rv_code.proofs.SymbolSlots.{got_summed, near_summed, far_summed, unwind_summed, far_contained}
 use Rattle.rv_code.proofs.TableSlots.{table_contained}
@@ -54,16 +54,6 @@ use Rattle.rv_emit.proofs.CallSlots.{words_alone, call_appends, call_ind_appends
 
 one : (context : Context) (inst : Inst) (d : Decoded) → extent_of context inst ≡ Words d.len → ((start end : ℕ) → [] ≡ uses_in context start end inst) → ((start end : ℕ) → [] ≡ inst_records context start end inst) → ((named : List VCodeConstant) → named ≡ named_by (inst_constant inst) named) → IsSummed context inst (Op d ∷ [])
 one context inst d long uses records names = record { plain = tt; long = long ∙ (let e : d.len ≡ d.len + 0 = omega arith in ap Words e); uses = λ allocated start. uses start (start + (d.len + 0)); records = λ start. records start (start + (d.len + 0)); names = names }
-
-moves : (context : Context) (inst : Inst) (rd rs : ℕ) → extent_of context inst ≡ Words (move_size context.flags rd rs) → ((start end : ℕ) → [] ≡ uses_in context start end inst) → ((start end : ℕ) → [] ≡ inst_records context start end inst) → ((named : List VCodeConstant) → named ≡ named_by (inst_constant inst) named) → IsSummed context inst (move_slots context.flags rd rs)
-moves context inst rd rs long uses records names = on (nat_eq rd rs) long
-  where
-    d : Decoded
-    d = short_rri context.flags Addi rd rs (pos 0)
-
-    on : (c : Bool) → extent_of context inst ≡ Words (if c then 0 else d.len) → IsSummed context inst (if c then [] else Op d ∷ [])
-    on true e = record { plain = tt; long = e; uses = λ allocated start. uses start (start + 0); records = λ start. records start (start + 0); names = names }
-    on false e = one context inst d e uses records names
 
 -- a branch, and a jump or none
 branches : (context : Context) (kind : IntegerCompare) (taken not_taken : CondBrTarget) → IsSummed context (CondBr taken not_taken kind) (branch_slots context.flags kind taken not_taken)
@@ -98,10 +88,10 @@ appends_inst context setting (Auipc rd imm) old new rule s asks p = summed conte
 appends_inst context setting (LoadInlineConst rd type imm) old new rule s asks p = summed context (LoadInlineConst rd type imm) _ old new refl (constants context rd type imm (constant_kept rd type imm (keeps context _ rule)).typed) context.flags p
 appends_inst context setting (AluRRR op rd rs1 rs2) old new rule s asks p = summed context (AluRRR op rd rs1 rs2) _ old new refl (one context (AluRRR op rd rs1 rs2) _ refl (λ start end. refl) (λ start end. refl) (λ named. refl)) context.flags p
 appends_inst context setting (AluRRImm12 op rd rs imm) old new rule s asks p = summed context (AluRRImm12 op rd rs imm) _ old new refl (one context (AluRRImm12 op rd rs imm) _ refl (λ start end. refl) (λ start end. refl) (λ named. refl)) context.flags p
-appends_inst context setting (Mov rd rm type) old new rule s asks p = summed context (Mov rd rm type) _ old new refl (moves context (Mov rd rm type) (number_of rd.reg) (number_of rm) refl (λ start end. refl) (λ start end. refl) (λ named. refl)) context.flags p
-appends_inst context setting (MovFromPReg rd rm) old new rule s asks p = summed context (MovFromPReg rd rm) _ old new refl (moves context (MovFromPReg rd rm) (number_of rd.reg) rm.number refl (λ start end. refl) (λ start end. refl) (λ named. refl)) context.flags p
-appends_inst context setting (Extend rd rn signed from_bits to_bits) old new rule s asks p = summed context (Extend rd rn signed from_bits to_bits) _ old new refl (extend_summed context rd rn signed from_bits to_bits) context.flags p
-appends_inst context setting (Select info) old new rule s asks p = summed context (Select info) _ old new refl (select_summed context info) context.flags p
+appends_inst context setting (Mov rd rm type) old new rule s asks p = made_appends context (Mov rd rm type) _ old new (mov_made context rd rm type) s p
+appends_inst context setting (MovFromPReg rd rm) old new rule s asks p = made_appends context (MovFromPReg rd rm) _ old new (mov_from_preg_made context rd rm) s p
+appends_inst context setting (Extend rd rn signed from_bits to_bits) old new rule s asks p = made_appends context (Extend rd rn signed from_bits to_bits) _ old new (extend_made context rd rn signed from_bits to_bits) s p
+appends_inst context setting (Select info) old new rule s asks p = made_appends context (Select info) _ old new (select_made context info) s p
 appends_inst context setting (Load rd op flags from) old new rule s asks p = summed context (Load rd op flags from) _ old new refl (load_summed context rd op flags from) context.flags p
 appends_inst context setting (Store src op flags to) old new rule s asks p = summed context (Store src op flags to) _ old new refl (store_summed context to op flags src) context.flags p
 appends_inst context setting (LoadAddr rd mem) old new rule s asks p = summed context (LoadAddr rd mem) _ old new refl (load_addr_summed context rd mem) context.flags p
@@ -139,13 +129,6 @@ asked context space old new made r setting = (new, made, r, refl)
 op_contained : (d : Decoded) → HasSize d → AreSelfContained (Op d ∷ [])
 op_contained d size = (size.even, tt)
 
-move_contained : (flags : IsaFlags) (rd rs : ℕ) → AreSelfContained (move_slots flags rd rs)
-move_contained flags rd rs = on (nat_eq rd rs)
-  where
-    on : (c : Bool) → AreSelfContained (if c then [] else Op (short_rri flags Addi rd rs (pos 0)) ∷ [])
-    on true = tt
-    on false = op_contained (short_rri flags Addi rd rs (pos 0)) (rri_sized flags Addi rd rs (pos 0))
-
 branch_contained : (flags : IsaFlags) (kind : IntegerCompare) (taken not_taken : CondBrTarget) → AreSelfContained (branch_slots flags kind taken not_taken)
 branch_contained flags kind Fallthrough not_taken = tt
 branch_contained flags kind (ToLabel t) Fallthrough = (tt, tt)
@@ -180,10 +163,10 @@ parts_are_self_contained context setting (Auipc rd imm) rule = ((refl, tt), tt)
 parts_are_self_contained context setting (LoadInlineConst rd type imm) rule = (constant_contained context.flags (number_of rd.reg) type imm (constant_kept rd type imm (keeps context _ rule)).typed, tt)
 parts_are_self_contained context setting (AluRRR op rd rs1 rs2) rule = (op_contained (short_rrr context.flags op (number_of rd.reg) (number_of rs1) (number_of rs2)) (rrr_sized context.flags op (number_of rd.reg) (number_of rs1) (number_of rs2)), tt)
 parts_are_self_contained context setting (AluRRImm12 op rd rs imm) rule = (op_contained (short_rri context.flags op (number_of rd.reg) (number_of rs) imm.value) (rri_sized context.flags op (number_of rd.reg) (number_of rs) imm.value), tt)
-parts_are_self_contained context setting (Mov rd rm type) rule = (move_contained context.flags (number_of rd.reg) (number_of rm), tt)
-parts_are_self_contained context setting (MovFromPReg rd rm) rule = (move_contained context.flags (number_of rd.reg) rm.number, tt)
-parts_are_self_contained context setting (Extend rd rn signed from_bits to_bits) rule = (extend_contained context.flags (number_of rd.reg) (number_of rn) signed from_bits, tt)
-parts_are_self_contained context setting (Select info) rule = (select_contained context.flags info.dst info.condition info.x info.y, tt)
+parts_are_self_contained context setting (Mov rd rm type) rule = (made_contained (mov_made context rd rm type), tt)
+parts_are_self_contained context setting (MovFromPReg rd rm) rule = (made_contained (mov_from_preg_made context rd rm), tt)
+parts_are_self_contained context setting (Extend rd rn signed from_bits to_bits) rule = (made_contained (extend_made context rd rn signed from_bits to_bits), tt)
+parts_are_self_contained context setting (Select info) rule = (made_contained (select_made context info), tt)
 parts_are_self_contained context setting (Load rd op flags from) rule = (load_contained context.flags (number_of rd.reg) op flags.trap (location_of context.frame from), tt)
 parts_are_self_contained context setting (Store src op flags to) rule = (store_contained context.flags op (number_of src) flags.trap (location_of context.frame to), tt)
 parts_are_self_contained context setting (LoadAddr rd mem) rule = (address_contained context.flags (number_of rd.reg) (location_of context.frame mem), tt)

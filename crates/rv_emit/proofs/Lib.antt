@@ -40,7 +40,6 @@ mod CallAppends
 mod CallsPut
 mod ResultsPut
 mod TailEmits
-mod ChoicesPut
 mod CodePut
 mod OwnPieces
 mod InstKeeps

@@ -39,7 +39,7 @@ use Rattle.rv_inst.specs.declared.inst.CondBrTarget.TheVariants.{Label, Fallthro
 use Rattle.rv_inst.specs.declared.inst.Inst.{Inst}
 use Rattle.rv_inst.specs.declared.inst.Inst.TheVariants.{Nop0, Nop4, EBreak, SequencePoint, Args, Rets, DummyUse, EmitIsland, RawData, Lui, Auipc, LoadInlineConst, AluRRR, AluRRImm12, Mov, MovFromPReg, Extend, Select, Load, Store, LoadAddr, LabelAddress, Ret, TrapIf, Jal, CondBr, BrTable, Udf, Jalr, Popcnt, Cltz, Brev8, StackProbeLoop, LoadExtNameGot, LoadExtNameNear, LoadExtNameFar, Call, CallInd, ReturnCall, ReturnCallInd, FpuRRR, Unwind}
 use Rattle.rv_emit.proofs.CallSlots.{try_few}
-use Rattle.rv_code.proofs.ChoiceSlots.{extend_short, select_short}
+use Rattle.rv_code.proofs.ChoicePieces.{mov_made, mov_from_preg_made, extend_made, select_made}
 use Rattle.rv_code.proofs.FineOperands.{fine}
 use Rattle.rv_code.proofs.OffsetSizes.{far_short}
 use Rattle.rv_code.proofs.Operands.{keeps, data_kept, constant_kept}
@@ -47,16 +47,11 @@ use Rattle.rv_code.proofs.ProbeSlots.{probe_short}
 use Rattle.rv_code.proofs.ShortOps.{HasSize, rrr_sized, rri_sized, lui_sized, jalr_sized, ebreak_sized, load_sized, store_sized, least_few}
 use Rattle.rv_code.proofs.TableSlots.{table_short}
 use Rattle.rv_code.proofs.TailSlots.{loads_most, step_most, saves_long, setup_few}
-use Rattle.rv_code.proofs.CountSlots.{ones_short, zeros_short, reverse_short}
+use Rattle.rv_code.proofs.CountSlots.{popcnt_made, zeros_made, reverse_made}
+use Rattle.rv_code.proofs.MadeOfPieces.{made_short}
+use Rattle.rv_code.proofs.TrapSlots.{trap_if_made, udf_made}
 
 -- ---- pieces
-
-move_short : (flags : IsaFlags) (rd rs : ℕ) → move_size flags rd rs ≤ 4
-move_short flags rd rs = on (nat_eq rd rs)
-  where
-    on : (c : Bool) → (if c then 0 else (short_rri flags Addi rd rs (pos 0)).len) ≤ 4
-    on true = omega arith
-    on false = (rri_sized flags Addi rd rs (pos 0)).few
 
 data_short : (bytes : List ℕ) → (length bytes ≡ 4) ⊎ (length bytes ≡ 8) → length bytes ≤ 8
 data_short bytes (inl e) = omega arith
@@ -190,24 +185,24 @@ words_within context (Auipc rd imm) rule small = omega arith
 words_within context (LoadInlineConst rd type imm) rule small = constant_short context.flags type (constant_kept rd type imm (keeps context _ rule)).typed
 words_within context (AluRRR op rd rs1 rs2) rule small = (rrr_sized context.flags op (number_of rd.reg) (number_of rs1) (number_of rs2)).few
 words_within context (AluRRImm12 op rd rs imm) rule small = (rri_sized context.flags op (number_of rd.reg) (number_of rs) imm.value).few
-words_within context (Mov rd rm type) rule small = move_short context.flags _ _
-words_within context (MovFromPReg rd rm) rule small = move_short context.flags _ _
-words_within context (Extend rd rn signed from_bits to_bits) rule small = extend_short context.flags (number_of rd.reg) (number_of rn) signed from_bits
-words_within context (Select info) rule small = select_short context.flags info.dst info.x info.y
+words_within context (Mov rd rm type) rule small = made_short (mov_made context rd rm type)
+words_within context (MovFromPReg rd rm) rule small = made_short (mov_from_preg_made context rd rm)
+words_within context (Extend rd rn signed from_bits to_bits) rule small = made_short (extend_made context rd rn signed from_bits to_bits)
+words_within context (Select info) rule small = made_short (select_made context info)
 words_within context (Load rd op flags from) rule small = load_short context.flags op (number_of rd.reg) (location_of context.frame from)
 words_within context (Store src op flags to) rule small = store_short context.flags op (number_of src) (location_of context.frame to)
 words_within context (LoadAddr rd mem) rule small = address_short context.flags (number_of rd.reg) (location_of context.frame mem)
 words_within context (LabelAddress dst label) rule small = omega arith
 words_within context Ret rule small = (jalr_sized context.flags 0 1 (pos 0)).few
-words_within context (TrapIf cmp code) rule small = let few : trap_size context.flags ≤ 4 = least_few context.flags in omega arith
+words_within context (TrapIf cmp code) rule small = made_short (trap_if_made context cmp code)
 words_within context (Jal label) rule small = least_few context.flags
 words_within context (CondBr t f kind) rule small = branch_short context.flags t f
 words_within context (BrTable index tmp1 tmp2 targets) rule small = let some = (fine context (BrTable index tmp1 tmp2 targets) rule).4 in let short = table_short context.flags (number_of index) (number_of tmp2.reg) (length targets) some (omega arith) in omega arith
-words_within context (Udf code) rule small = least_few context.flags
+words_within context (Udf code) rule small = made_short (udf_made context code)
 words_within context (Jalr rd base offset) rule small = (jalr_sized context.flags (number_of rd.reg) (number_of base) offset.value).few
-words_within context (Popcnt info) rule small = ones_short context.flags (number_of info.sum.reg) (number_of info.tmp.reg) (number_of info.step.reg) (number_of info.rs) (bits_of info.ty)
-words_within context (Cltz leading info) rule small = zeros_short context.flags leading (number_of info.sum.reg) (number_of info.tmp.reg) (number_of info.step.reg) (number_of info.rs) (bits_of info.ty)
-words_within context (Brev8 info) rule small = reverse_short context.flags (number_of info.rd.reg) (number_of info.tmp.reg) (number_of info.tmp2.reg) (number_of info.step.reg) (number_of info.rs) (bits_of info.ty)
+words_within context (Popcnt info) rule small = made_short (popcnt_made context info)
+words_within context (Cltz leading info) rule small = made_short (zeros_made context leading info)
+words_within context (Brev8 info) rule small = made_short (reverse_made context info)
 words_within context (StackProbeLoop guard_size probe_count tmp) rule small = probe_short context.flags (number_of tmp.reg) (low_word guard_size) (low_word probe_count)
 words_within context (LoadExtNameGot rd name) rule small = omega arith
 words_within context (LoadExtNameNear rd name offset) rule small = omega arith

@@ -24,14 +24,15 @@ use Rattle.rv_inst.specs.LabelUseBridges.{with_immediate, PairDecodes}
 use Rattle.rv_inst.specs.LabelUseWords.{word_at, word_bytes}
 use Rattle.rv_inst.specs.Uses.{use_at}
 use Rattle.rv_inst.proofs.Bridges.{decode-patched_pair}
-use Rattle.mach_buffer.specs.Buffer.{shape_of, bytes_of}
+use Rattle.mach_buffer.specs.Buffer.{shape_of, bytes_of, allocated_of}
 use Rattle.mach_buffer.specs.Shape.{Shape, with_bytes, with_use}
 use Rattle.rv_emit.specs.Emission.{PutsAlone, Emits}
 use Rattle.rv_emit.specs.Emitted.{Buffer, IsSoundBuffer, AppendsIsland, IslandIfNeeded, pending}
 use Rattle.rv_code.specs.Immediates.{upper_of, lower_of}
 use Rattle.rv_code.specs.Operations.{decoded_jalr}
 use Rattle.rv_emit.specs.Puts.{AllBytes, IsPatchable}
-use Rattle.rv_code.specs.Choices.{extend_slots}
+use Rattle.rv_code.specs.Choices.{extend_pieces}
+use Rattle.rv_code.specs.Pieces.{slots_of}
 use Rattle.rv_code.specs.InstParts.{number_slots, table_slots}
 use Rattle.rv_code.specs.Tables.{far_jump, jump_slots}
 use Rattle.rv_code.specs.Usable.{AreListed, IsListed}
@@ -171,8 +172,8 @@ others_fewer [] some = absurd (omega arith)
 others_fewer (default ∷ labels) some = let e = length-take (length (default ∷ labels) - 1) labels in omega arith
 
 -- the index goes to x31
-pub extended : {flags : IsaFlags} {old new : Buffer} (spare index : ℕ) → spare ≡ 31 → PutsAlone flags (extend_slots flags spare index false 32) old new → PutsAlone flags (extend_slots flags 31 index false 32) old new
-extended {flags} {old} {new} spare index e p = subst (λ n. PutsAlone flags (extend_slots flags n index false 32) old new) e p
+pub extended : {flags : IsaFlags} {old new : Buffer} (spare index : ℕ) → spare ≡ 31 → PutsAlone flags (slots_of flags (extend_pieces spare index false 32)) old new → PutsAlone flags (slots_of flags (extend_pieces 31 index false 32)) old new
+extended {flags} {old} {new} spare index e p = subst (λ n. PutsAlone flags (slots_of flags (extend_pieces n index false 32)) old new) e p
 
 -- a number of few bits, signed
 small_signed : (n : ℕ) → n < 2 ^ 32 → cast_signed w64 n ≡ pos n
@@ -182,22 +183,22 @@ pub counted : {flags : IsaFlags} {old new : Buffer} (tmp2 n : ℕ) → n < 2 ^ 3
 counted {flags} {old} {new} tmp2 n lt p = subst (λ z. PutsAlone flags (number_slots flags tmp2 z) old new) (small_signed n lt) p
 
 -- how long the pieces are before the jumps
-pub before_few : {flags : IsaFlags} (index tmp2 n : ℕ) (old mid new : Buffer) → n < 2 ^ 30 → PutsAlone flags (extend_slots flags 31 index false 32) old mid → PutsAlone flags (number_slots flags tmp2 (pos n)) mid new → length (bytes_of new) ≤ length (bytes_of old) + 16
+pub before_few : {flags : IsaFlags} (index tmp2 n : ℕ) (old mid new : Buffer) → n < 2 ^ 30 → PutsAlone flags (slots_of flags (extend_pieces 31 index false 32)) old mid → PutsAlone flags (number_slots flags tmp2 (pos n)) mid new → length (bytes_of new) ≤ length (bytes_of old) + 16
 before_few {flags} index tmp2 n old mid new lt p q =
-    let a = alone_long (extend_slots flags 31 index false 32) old mid p in
+    let a = alone_long (slots_of flags (extend_pieces 31 index false 32)) old mid p in
     let b = alone_long (number_slots flags tmp2 (pos n)) mid new q in
     let c = extend_few flags 31 index in
     let d = number_long flags tmp2 (pos n) in
     let e = number_few flags tmp2 (pos n) (count_splits n lt) in
     omega arith
 
-pub table_put : {flags : IsaFlags} (index tmp1 tmp2 : ℕ) (targets : List MachLabel) (d : MachLabel) (old a b new : Buffer) → 1 ≤ length targets → PutsAlone flags (extend_slots flags 31 index false 32) old a → PutsAlone flags (number_slots flags tmp2 (pos (length (others targets)))) a b → PutsAlone flags (jump_slots tmp1 tmp2 (get_or targets 0 d) (others targets)) b new → PutsAlone flags (table_slots flags index tmp1 tmp2 targets) old new
+pub table_put : {flags : IsaFlags} (index tmp1 tmp2 : ℕ) (targets : List MachLabel) (d : MachLabel) (old a b new : Buffer) → 1 ≤ length targets → PutsAlone flags (slots_of flags (extend_pieces 31 index false 32)) old a → PutsAlone flags (number_slots flags tmp2 (pos (length (others targets)))) a b → PutsAlone flags (jump_slots tmp1 tmp2 (get_or targets 0 d) (others targets)) b new → PutsAlone flags (table_slots flags index tmp1 tmp2 targets) old new
 table_put index tmp1 tmp2 [] d old a b new some p q r = absurd (omega arith)
 table_put {flags} index tmp1 tmp2 (default ∷ labels) d old a b new some p q r =
     let same : others (default ∷ labels) ≡ labels = take_all (length (default ∷ labels) - 1) labels (omega arith) in
     let number = subst (λ ls. PutsAlone flags (number_slots flags tmp2 (pos (length ls))) a b) same q in
     let jumps = subst (λ ls. PutsAlone flags (jump_slots tmp1 tmp2 default ls) b new) same r in
-    let extend = extend_slots flags 31 index false 32 in
+    let extend = slots_of flags (extend_pieces 31 index false 32) in
     let count = number_slots flags tmp2 (pos (length labels)) in
     both_alone extend (count ++ jump_slots tmp1 tmp2 default labels) old a new (even_plain extend (extend_even flags 31 index)) p
     (both_alone count (jump_slots tmp1 tmp2 default labels) a b new (even_plain count (number_even flags tmp2 (pos (length labels)))) number jumps)
@@ -221,6 +222,10 @@ island_room space extra old new made room m = ⊎_elim
 
 pub island_sound : (space : ℕ) (old new : Buffer) (made : Bool) → IsSoundBuffer old → IslandIfNeeded space old new made → IsSoundBuffer new
 island_sound space old new made sound m = ⊎_elim (λ same. subst IsSoundBuffer (sym same.1) sound) (λ put. put.1.sound) m.put
+
+-- at most one label more is allocated
+pub island_few : (space : ℕ) (old new : Buffer) (made : Bool) → IslandIfNeeded space old new made → allocated_of new ≤ 1 + allocated_of old
+island_few space old new made m = ⊎_elim (λ same. let e : allocated_of new ≡ allocated_of old = ap (λ (b : Buffer). allocated_of b) same.1 in omega arith) (λ put. let e = put.1.allocated in omega arith) m.put
 
 -- an island alone
 pub island_emits : (context : Context) (inst : Inst) (space : ℕ) (old new : Buffer) (made : Bool) → inst ≡ EmitIsland space → IslandIfNeeded space old new made → Emits context inst old new

@@ -1,5 +1,5 @@
 -- The code of an instruction as a value: the pieces that it is, and what these ask of the buffer into which they are put.
-use Rattle.std.specs.Prelude.{◌≡◌, ℕ, ◌+◌, ◌<◌, false, map, List, [], ◌∷◌, None}
+use Rattle.std.specs.Prelude.{◌≡◌, ℕ, ◌+◌, ◌<◌, false, List, [], ◌∷◌, ◌++◌, None}
 use Rattle.rv_base.specs.Regs.{number_of}
 use Rattle.mach_labels.specs.Table.{first_inner}
 use Rattle.rv_encode.specs.Registers.{IsIntRegister}
@@ -9,25 +9,29 @@ use Rattle.mach_buffer.specs.Shape.{Shape, IsKnown}
 use Rattle.rv_emit.specs.declared.code.CodePiece.{CodePiece}
 use Rattle.rv_emit.specs.declared.code.OwnLabels.{OwnLabels}
 use Rattle.rv_emit.specs.declared.code.CodePiece.TheVariants as code
+use Rattle.rv_code.specs.Choices.{move_pieces}
 use Rattle.rv_code.specs.Pieces.{Piece, Rrr, Rri, Do, Branch, Jump, New, Bind, Trap}
 
--- the piece that it is
-abbrev pub shown : CodePiece → Piece
-shown (code.Rrr op rd rs1 rs2) = Do (Rrr op (number_of rd.reg) (number_of rs1) (number_of rs2))
-shown (code.Rri op rd rs imm) = Do (Rri op (number_of rd.reg) (number_of rs) imm.value)
-shown (code.Branch kind label) = Branch kind.kind (number_of kind.rs1) (number_of kind.rs2) label
-shown (code.Jump label) = Jump label
-shown code.New = New
-shown (code.Bind label) = Bind label
-shown (code.Trap code) = Trap code
+-- the pieces that it is: one, but of a move of a register to itself none
+abbrev pub shown : CodePiece → List Piece
+shown (code.Rrr op rd rs1 rs2) = Do (Rrr op (number_of rd.reg) (number_of rs1) (number_of rs2)) ∷ []
+shown (code.Rri op rd rs imm) = Do (Rri op (number_of rd.reg) (number_of rs) imm.value) ∷ []
+shown (code.Move rd rs) = move_pieces (number_of rd.reg) (number_of rs)
+shown (code.Branch kind label) = Branch kind.kind (number_of kind.rs1) (number_of kind.rs2) label ∷ []
+shown (code.Jump label) = Jump label ∷ []
+shown code.New = New ∷ []
+shown (code.Bind label) = Bind label ∷ []
+shown (code.Trap code) = Trap code ∷ []
 
 abbrev pub pieces_of : List CodePiece → List Piece
-pieces_of pieces = map shown pieces
+pieces_of [] = []
+pieces_of (p ∷ ps) = shown p ++ pieces_of ps
 
 -- integer registers
 abbrev pub IsSound : CodePiece → Type 0
 IsSound (code.Rrr op rd rs1 rs2) = IsIntRegister rd.reg × IsIntRegister rs1 × IsIntRegister rs2
 IsSound (code.Rri op rd rs imm) = IsIntRegister rd.reg × IsIntRegister rs
+IsSound (code.Move rd rs) = IsIntRegister rd.reg × IsIntRegister rs
 IsSound (code.Branch kind label) = IsIntRegister kind.rs1 × IsIntRegister kind.rs2
 IsSound (code.Jump label) = Unit {0}
 IsSound code.New = Unit {0}
@@ -39,6 +43,7 @@ abbrev pub IsLabelled : ℕ → List ℕ → List CodePiece → Type 0
 IsLabelled news bound [] = Unit {0}
 IsLabelled news bound (code.Rrr op rd rs1 rs2 ∷ ps) = IsLabelled news bound ps
 IsLabelled news bound (code.Rri op rd rs imm ∷ ps) = IsLabelled news bound ps
+IsLabelled news bound (code.Move rd rs ∷ ps) = IsLabelled news bound ps
 IsLabelled news bound (code.Branch kind label ∷ ps) = (label < news) × IsLabelled news bound ps
 IsLabelled news bound (code.Jump label ∷ ps) = (label < news) × IsLabelled news bound ps
 IsLabelled news bound (code.New ∷ ps) = IsLabelled (1 + news) bound ps
@@ -53,6 +58,7 @@ AreSound (p ∷ ps) = IsSound p × AreSound ps
 abbrev pub IsUsableAt : ℕ → CodePiece → Shape LabelUse → Type 0
 IsUsableAt base (code.Rrr op rd rs1 rs2) s = Unit {0}
 IsUsableAt base (code.Rri op rd rs imm) s = Unit {0}
+IsUsableAt base (code.Move rd rs) s = Unit {0}
 IsUsableAt base (code.Branch kind label) s = IsKnown (base + label) s.allocated
 IsUsableAt base (code.Jump label) s = IsKnown (base + label) s.allocated
 IsUsableAt base code.New s = Unit {0}
@@ -63,6 +69,7 @@ IsUsableAt base (code.Trap code) s = Unit {0}
 abbrev pub IsBaseFor : ℕ → ℕ → CodePiece → Type 0
 IsBaseFor base allocated (code.Rrr op rd rs1 rs2) = Unit {0}
 IsBaseFor base allocated (code.Rri op rd rs imm) = Unit {0}
+IsBaseFor base allocated (code.Move rd rs) = Unit {0}
 IsBaseFor base allocated (code.Branch kind label) = base ≡ first_inner + allocated
 IsBaseFor base allocated (code.Jump label) = base ≡ first_inner + allocated
 IsBaseFor base allocated code.New = Unit {0}
@@ -73,6 +80,7 @@ IsBaseFor base allocated (code.Trap code) = Unit {0}
 abbrev pub IsNext : OwnLabels → OwnLabels → CodePiece → Shape LabelUse → Shape LabelUse → Type 0
 IsNext own next (code.Rrr op rd rs1 rs2) s t = next ≡ own
 IsNext own next (code.Rri op rd rs imm) s t = next ≡ own
+IsNext own next (code.Move rd rs) s t = next ≡ own
 IsNext own next (code.Branch kind label) s t = next ≡ own
 IsNext own next (code.Jump label) s t = next ≡ own
 IsNext own next code.New s t = (next.count ≡ 1 + own.count) × (next.base + own.count ≡ first_inner + s.allocated) × (t.place (first_inner + s.allocated) ≡ None)

@@ -1,33 +1,30 @@
-//! The sequences that extend a number, and that choose one of two values.
+//! The code that extends a number, and that chooses one of two values. Label 0 stands past the second moves of a choice.
 
-ghost use Rattle.std.specs.Prelude.{◌≡◌, [], ◌∷◌, ◌+◌, ◌-◌, ◌%◌, ◌<◌, ◌≤◌, length, map, pos, OnOk, OnErr, Some, true};
-ghost use Rattle.rv_base.specs.declared.flags.IsaFlags.{IsaFlags};
+ghost use Rattle.std.specs.Prelude.{◌≡◌, [], ◌∷◌, ◌+◌, ◌-◌, ◌<◌, ◌≤◌, ◌^◌, length, map, pos, OnOk, OnErr, true};
 ghost use Rattle.rv_base.specs.LabelUse.{code_limit};
 ghost use Rattle.rv_base.specs.Regs.{number_of};
-ghost use Rattle.rv_base.specs.ValueRegs.{count_of};
-ghost use Rattle.rv_ops.specs.declared.alu.AluOPRRI.TheVariants.{Slli};
+ghost use Rattle.rv_ops.specs.declared.alu.AluOPRRI.TheVariants.{Andi, Slli};
 ghost use Rattle.rv_encode.specs.Registers.{IsIntRegister};
-ghost use Rattle.rv_encode.specs.Operations.{decoded_branch};
-ghost use Rattle.rv_machine.specs.Decode.{decode};
-ghost use Rattle.mach_buffer.specs.Buffer.{bytes_of, spoiled_of};
-ghost use Rattle.rv_inst.specs.Forms.{short_rri};
+ghost use Rattle.mach_uses.specs.Labels.{inner_count};
+ghost use Rattle.mach_buffer.specs.Buffer.{bytes_of, allocated_of, spoiled_of};
 ghost use Rattle.rv_inst.specs.Operands.{all_of, written_in};
 ghost use Rattle.rv_inst.specs.Sizes as sizes;
+ghost use Rattle.rv_code.specs.Choices.{choice_pieces, chosen_pieces, extend_pieces, same_numbers};
+ghost use Rattle.rv_code.specs.Pieces.{Rri, Do, slots_of};
+ghost use Rattle.rv_code.specs.Usable.{IsFineChoice};
+ghost use Rattle.rv_emit.specs.Code.{pieces_of, AreSound, IsLabelled};
 ghost use Rattle.rv_emit.specs.Emitted.{IsSoundBuffer};
 ghost use Rattle.rv_emit.specs.Emission.{PutsAlone};
-ghost use Rattle.rv_code.specs.Choices.{choice_slots, extend_slots, moves_slots, same_numbers, select_slots};
-ghost use Rattle.rv_code.specs.Slots.{Op};
-ghost use Rattle.rv_code.specs.Usable.{AreInt, IsFineChoice};
 
-use crate::compressed::{encoded_rri, number};
-use crate::sequence::{put_move, put_word};
-use crate::shortest::{length_of, put_rri};
+use crate::code::{CodePiece, bind, branch, copy, put_code, rri};
+use crate::compressed::number;
 use mach_buffer::MachBuffer;
 use rv_base::{IsaFlags, OutOfMemory, Reg, ValueRegs, WritableReg};
-use rv_encode::encode_branch;
 use rv_imms::Imm12;
 use rv_inst::LabelUse;
 use rv_ops::{AluOPRRI, IntegerCompare};
+
+// ---- an extension
 
 /// The low bits of a register, as many as these, sign-extended or zero-extended: by `andi` of 255 for a byte that is
 /// zero-extended, and else by a shift to the left and one back.
@@ -43,15 +40,21 @@ pub(crate) fn put_extend(
     requires rn { IsIntRegister rn }
     requires some { 1 ≤ from_bits }
     requires few { from_bits ≤ 64 }
-    requires room { length (bytes_of sink.old) + 8 < code_limit }
+    requires allocated { allocated_of sink.old + 2 < inner_count }
+    requires room { length (bytes_of sink.old) + 12 < code_limit }
     requires sound { IsSoundBuffer sink.old }
-    ensures slots { OnOk result (PutsAlone flags (extend_slots flags (number_of rd.reg) (number_of rn) signed from_bits) sink.old sink.new) }
+    ensures slots { OnOk result (PutsAlone flags (slots_of flags (extend_pieces (number_of rd.reg) (number_of rn) signed from_bits)) sink.old sink.new) }
     ensures refused { OnErr result (spoiled_of sink.new ≡ true) }
 {
     if is_byte(signed, from_bits) {
-        return put_rri(sink, flags, AluOPRRI::Andi, rd, rn, Imm12::from_i16(255));
+        put_code(sink, flags, &byte_code(rd, rn))
+    } else {
+        put_code(
+            sink,
+            flags,
+            &shifts_code(rd, rn, right_shift(signed), others(from_bits)),
+        )
     }
-    put_shifts(sink, flags, rd, rn, right_shift(signed), others(from_bits))
 }
 
 /// Returns whether a byte is zero-extended.
@@ -59,6 +62,36 @@ fn is_byte(signed: bool, from_bits: u8) -> bool
     ensures { result ≡ sizes.is_byte signed from_bits }
 {
     !signed && from_bits == 8
+}
+
+fn byte_code(rd: WritableReg, rn: Reg) -> [CodePiece; 1]
+    requires rd { IsIntRegister rd.reg }
+    requires rn { IsIntRegister rn }
+    ensures pieces { pieces_of result ≡ Do (Rri Andi (number_of rd.reg) (number_of rn) (pos 255)) ∷ [] }
+    ensures registers { AreSound result }
+    ensures labels { IsLabelled 0 [] result }
+{
+    [rri(AluOPRRI::Andi, rd, rn, low_byte())]
+}
+
+/// All bits of a byte.
+fn low_byte() -> Imm12
+    ensures { result.value ≡ pos 255 }
+{
+    Imm12::from_i16(255)
+}
+
+fn shifts_code(rd: WritableReg, rn: Reg, back: AluOPRRI, amount: Imm12) -> [CodePiece; 2]
+    requires rd { IsIntRegister rd.reg }
+    requires rn { IsIntRegister rn }
+    ensures pieces { pieces_of result ≡ Do (Rri Slli (number_of rd.reg) (number_of rn) amount.value) ∷ Do (Rri back (number_of rd.reg) (number_of rd.reg) amount.value) ∷ [] }
+    ensures registers { AreSound result }
+    ensures labels { IsLabelled 0 [] result }
+{
+    [
+        rri(AluOPRRI::Slli, rd, rn, amount),
+        rri(back, rd, rd.reg, amount),
+    ]
 }
 
 /// The shift to the right that extends a number.
@@ -80,26 +113,7 @@ fn others(bits: u8) -> Imm12
     Imm12::from_i16(i16::from(64 - bits))
 }
 
-/// A shift to the left, and one back.
-fn put_shifts(
-    sink: &mut MachBuffer<LabelUse>,
-    flags: IsaFlags,
-    rd: WritableReg,
-    rn: Reg,
-    back: AluOPRRI,
-    amount: Imm12,
-) -> Result<(), OutOfMemory>
-    requires rd { IsIntRegister rd.reg }
-    requires rn { IsIntRegister rn }
-    requires room { length (bytes_of sink.old) + 8 < code_limit }
-    requires sound { IsSoundBuffer sink.old }
-    ensures slots { OnOk result (PutsAlone flags (Op (short_rri flags Slli (number_of rd.reg) (number_of rn) amount.value) ∷ Op (short_rri flags back (number_of rd.reg) (number_of rd.reg) amount.value) ∷ []) sink.old sink.new) }
-    ensures refused { OnErr result (spoiled_of sink.new ≡ true) }
-{
-    put_rri(sink, flags, AluOPRRI::Slli, rd, rn, amount)?;
-    put_rri(sink, flags, back, rd, rd.reg, amount)?;
-    Ok(())
-}
+// ---- a choice
 
 /// The registers of one value or of another: the one is moved, and then the other, unless a branch leads over that. Where the
 /// results are the other's registers already, the two change places.
@@ -112,15 +126,17 @@ pub(crate) fn put_select(
     y: ValueRegs<Reg>,
 ) -> Result<(), OutOfMemory>
     requires fine { IsFineChoice dst condition x y }
-    requires room { length (bytes_of sink.old) + 20 < code_limit }
+    requires allocated { allocated_of sink.old < 2 ^ 29 }
+    requires room { length (bytes_of sink.old) + 24 < code_limit }
     requires sound { IsSoundBuffer sink.old }
-    ensures slots { OnOk result (PutsAlone flags (select_slots flags dst condition x y) sink.old sink.new) }
+    ensures slots { OnOk result (PutsAlone flags (slots_of flags (chosen_pieces (map number_of (written_in dst)) condition.kind (number_of condition.rs1) (number_of condition.rs2) (map number_of (all_of x)) (map number_of (all_of y)))) sink.old sink.new) }
     ensures refused { OnErr result (spoiled_of sink.new ≡ true) }
 {
     if are_results(y, dst) {
-        return put_choice(sink, flags, dst, condition.inverse(), y, x);
+        put_choice(sink, flags, dst, condition.inverse(), y, x)
+    } else {
+        put_choice(sink, flags, dst, condition, x, y)
     }
-    put_choice(sink, flags, dst, condition, x, y)
 }
 
 /// Returns whether the registers of a value are those of the results.
@@ -147,102 +163,70 @@ fn put_choice(
     second: ValueRegs<Reg>,
 ) -> Result<(), OutOfMemory>
     requires fine { IsFineChoice dst skip first second }
-    requires room { length (bytes_of sink.old) + 20 < code_limit }
+    requires allocated { allocated_of sink.old < 2 ^ 29 }
+    requires room { length (bytes_of sink.old) + 24 < code_limit }
     requires sound { IsSoundBuffer sink.old }
-    ensures slots { OnOk result (PutsAlone flags (choice_slots flags (map number_of (written_in dst)) (map number_of (all_of first)) (map number_of (all_of second)) skip) sink.old sink.new) }
+    ensures slots { OnOk result (PutsAlone flags (slots_of flags (choice_pieces (map number_of (written_in dst)) (map number_of (all_of first)) (map number_of (all_of second)) skip.kind (number_of skip.rs1) (number_of skip.rs2))) sink.old sink.new) }
     ensures refused { OnErr result (spoiled_of sink.new ≡ true) }
 {
-    put_moves(sink, flags, dst, first)?;
-    put_word(sink, skip_word(skip, 4 + moves_size(flags, dst, second)))?;
-    put_moves(sink, flags, dst, second)?;
-    Ok(())
+    match (dst, first, second) {
+        (ValueRegs::One(rd), ValueRegs::One(r), ValueRegs::One(s)) => {
+            put_code(sink, flags, &choice_of_one(rd, skip, r, s))
+        }
+        (ValueRegs::Two(rd, sd), ValueRegs::Two(r, s), ValueRegs::Two(t, u)) => {
+            put_code(sink, flags, &choice_of_two(rd, sd, skip, r, s, t, u))
+        }
+        _ => Ok(()),
+    }
 }
 
-/// Past so many bytes where a comparison holds.
-fn skip_word(skip: IntegerCompare, size: u8) -> u32
+fn choice_of_one(rd: WritableReg, skip: IntegerCompare, r: Reg, s: Reg) -> [CodePiece; 5]
+    requires rd { IsIntRegister rd.reg }
     requires rs1 { IsIntRegister skip.rs1 }
     requires rs2 { IsIntRegister skip.rs2 }
-    requires even { size % 2 ≡ 0 }
-    ensures { (flags : IsaFlags) → decode flags result ≡ Some (decoded_branch skip (pos size)) }
-{
-    encode_branch(skip, i32::from(size))
-}
-
-/// Moves of a value's registers, each to its own result.
-fn put_moves(
-    sink: &mut MachBuffer<LabelUse>,
-    flags: IsaFlags,
-    dst: ValueRegs<WritableReg>,
-    value: ValueRegs<Reg>,
-) -> Result<(), OutOfMemory>
-    requires dst { AreInt (written_in dst) }
-    requires value { AreInt (all_of value) }
-    requires count { count_of dst ≡ count_of value }
-    requires room { length (bytes_of sink.old) + 8 < code_limit }
-    requires sound { IsSoundBuffer sink.old }
-    ensures slots { OnOk result (PutsAlone flags (moves_slots flags (map number_of (written_in dst)) (map number_of (all_of value))) sink.old sink.new) }
-    ensures refused { OnErr result (spoiled_of sink.new ≡ true) }
-{
-    match (dst, value) {
-        (ValueRegs::One(rd), ValueRegs::One(r)) => put_move(sink, flags, rd, r),
-        (ValueRegs::Two(rd, sd), ValueRegs::Two(r, s)) => put_two_moves(sink, flags, rd, r, sd, s),
-        (ValueRegs::One(_), ValueRegs::Two(_, _)) => Ok(()),
-        (ValueRegs::Two(_, _), ValueRegs::One(_)) => Ok(()),
-    }
-}
-
-/// A move, and another one.
-fn put_two_moves(
-    sink: &mut MachBuffer<LabelUse>,
-    flags: IsaFlags,
-    rd: WritableReg,
-    r: Reg,
-    sd: WritableReg,
-    s: Reg,
-) -> Result<(), OutOfMemory>
-    requires rd { IsIntRegister rd.reg }
     requires r { IsIntRegister r }
-    requires sd { IsIntRegister sd.reg }
     requires s { IsIntRegister s }
-    requires room { length (bytes_of sink.old) + 8 < code_limit }
-    requires sound { IsSoundBuffer sink.old }
-    ensures slots { OnOk result (PutsAlone flags (moves_slots flags (number_of rd.reg ∷ number_of sd.reg ∷ []) (number_of r ∷ number_of s ∷ [])) sink.old sink.new) }
-    ensures refused { OnErr result (spoiled_of sink.new ≡ true) }
+    ensures pieces { pieces_of result ≡ choice_pieces (number_of rd.reg ∷ []) (number_of r ∷ []) (number_of s ∷ []) skip.kind (number_of skip.rs1) (number_of skip.rs2) }
+    ensures registers { AreSound result }
+    ensures labels { IsLabelled 0 [] result }
 {
-    put_move(sink, flags, rd, r)?;
-    put_move(sink, flags, sd, s)?;
-    Ok(())
+    [
+        CodePiece::New,
+        copy(rd, r),
+        branch(skip, 0),
+        copy(rd, s),
+        bind(0),
+    ]
 }
 
-/// How long such moves are.
-fn moves_size(flags: IsaFlags, dst: ValueRegs<WritableReg>, value: ValueRegs<Reg>) -> u8
-    requires dst { AreInt (written_in dst) }
-    requires value { AreInt (all_of value) }
-    requires count { count_of dst ≡ count_of value }
-    ensures size { result ≡ sizes.moves_size flags (map number_of (written_in dst)) (map number_of (all_of value)) }
-    ensures even { result % 2 ≡ 0 }
-    ensures few { result ≤ 8 }
-{
-    match (dst, value) {
-        (ValueRegs::One(rd), ValueRegs::One(r)) => move_size(flags, rd, r),
-        (ValueRegs::Two(rd, sd), ValueRegs::Two(r, s)) => {
-            move_size(flags, rd, r) + move_size(flags, sd, s)
-        }
-        (ValueRegs::One(_), ValueRegs::Two(_, _)) => 0,
-        (ValueRegs::Two(_, _), ValueRegs::One(_)) => 0,
-    }
-}
-
-/// How long a move is.
-fn move_size(flags: IsaFlags, rd: WritableReg, rm: Reg) -> u8
+fn choice_of_two(
+    rd: WritableReg,
+    sd: WritableReg,
+    skip: IntegerCompare,
+    r: Reg,
+    s: Reg,
+    t: Reg,
+    u: Reg,
+) -> [CodePiece; 7]
     requires rd { IsIntRegister rd.reg }
-    requires rm { IsIntRegister rm }
-    ensures size { result ≡ sizes.move_size flags (number_of rd.reg) (number_of rm) }
-    ensures even { result % 2 ≡ 0 }
-    ensures few { result ≤ 4 }
+    requires sd { IsIntRegister sd.reg }
+    requires rs1 { IsIntRegister skip.rs1 }
+    requires rs2 { IsIntRegister skip.rs2 }
+    requires r { IsIntRegister r }
+    requires s { IsIntRegister s }
+    requires t { IsIntRegister t }
+    requires u { IsIntRegister u }
+    ensures pieces { pieces_of result ≡ choice_pieces (number_of rd.reg ∷ number_of sd.reg ∷ []) (number_of r ∷ number_of s ∷ []) (number_of t ∷ number_of u ∷ []) skip.kind (number_of skip.rs1) (number_of skip.rs2) }
+    ensures registers { AreSound result }
+    ensures labels { IsLabelled 0 [] result }
 {
-    if number(rd.reg) == number(rm) {
-        return 0;
-    }
-    length_of(encoded_rri(flags, AluOPRRI::Addi, rd, rm, Imm12::ZERO))
+    [
+        CodePiece::New,
+        copy(rd, r),
+        copy(sd, s),
+        branch(skip, 0),
+        copy(rd, t),
+        copy(sd, u),
+        bind(0),
+    ]
 }

@@ -12,13 +12,13 @@ ghost use Rattle.rv_emit.specs.Code.{shown, pieces_of, IsSound, AreSound, IsLabe
 ghost use Rattle.rv_emit.specs.Emitted.{IsSoundBuffer};
 ghost use Rattle.rv_emit.specs.Emission.{PutsAlone, PutsSlots};
 ghost use Rattle.rv_code.specs.InstParts.{jump_to};
-ghost use Rattle.rv_code.specs.Pieces.{slots_for, slots_of, pieces_most};
+ghost use Rattle.rv_code.specs.Pieces.{slots_of, pieces_most};
 ghost use Rattle.rv_emit.specs.Puts.{Puts};
 ghost use Rattle.rv_code.specs.Slots.{Label};
 ghost use Rattle.rv_emit.specs.declared.code.CodePiece.TheVariants as code;
 
 use crate::expansions::put_trap;
-use crate::sequence::{put_compare, put_wide_jump};
+use crate::sequence::{put_compare, put_move, put_wide_jump};
 use crate::shortest::{put_rri, put_rrr};
 use mach_buffer::MachBuffer;
 use rv_base::{IsaFlags, MachLabel, OutOfMemory, Reg, TrapCode, WritableReg};
@@ -41,6 +41,11 @@ pub(crate) enum CodePiece {
         rd: WritableReg,
         rs: Reg,
         imm: Imm12,
+    },
+    /// None to the same register.
+    Move {
+        rd: WritableReg,
+        rs: Reg,
     },
     Branch {
         kind: IntegerCompare,
@@ -100,7 +105,7 @@ fn put_next(
     requires few { allocated_of sink.old < inner_count }
     requires room { length (bytes_of sink.old) + 4 < code_limit }
     requires sound { IsSoundBuffer sink.old }
-    ensures slot { OnOk result ((allocated : ℕ) → IsBaseFor own.base allocated piece → Puts flags allocated (slots_for flags (shown piece)) (shape_of sink.old) (shape_of sink.new)) }
+    ensures slot { OnOk result ((allocated : ℕ) → IsBaseFor own.base allocated piece → Puts flags allocated (slots_of flags (shown piece)) (shape_of sink.old) (shape_of sink.new)) }
     ensures next { IfOk result (λ next. IsNext own next piece (shape_of sink.old) (shape_of sink.new)) }
     ensures sound { OnOk result (IsSoundBuffer sink.new) }
     ensures refused { OnErr result (spoiled_of sink.new ≡ true) }
@@ -144,13 +149,14 @@ fn put_piece(
     requires few { allocated_of sink.old < inner_count }
     requires room { length (bytes_of sink.old) + 4 < code_limit }
     requires sound { IsSoundBuffer sink.old }
-    ensures slot { OnOk result ((allocated : ℕ) → IsBaseFor base allocated piece → Puts flags allocated (slots_for flags (shown piece)) (shape_of sink.old) (shape_of sink.new)) }
+    ensures slot { OnOk result ((allocated : ℕ) → IsBaseFor base allocated piece → Puts flags allocated (slots_of flags (shown piece)) (shape_of sink.old) (shape_of sink.new)) }
     ensures sound { OnOk result (IsSoundBuffer sink.new) }
     ensures refused { OnErr result (spoiled_of sink.new ≡ true) }
 {
     match piece {
         CodePiece::Rrr { op, rd, rs1, rs2 } => put_rrr(sink, flags, op, rd, rs1, rs2),
         CodePiece::Rri { op, rd, rs, imm } => put_rri(sink, flags, op, rd, rs, imm),
+        CodePiece::Move { rd, rs } => put_move(sink, flags, rd, rs),
         CodePiece::Branch { kind, label } => put_compare(sink, kind, own_label(base, label)),
         CodePiece::Jump { label } => put_own_jump(sink, flags, own_label(base, label)),
         CodePiece::New => put_unused(sink),
@@ -258,6 +264,16 @@ pub(crate) fn rrr(op: AluOPRRR, rd: WritableReg, rs1: Reg, rs2: Reg) -> CodePiec
     ensures sound { IsSound result }
 {
     CodePiece::Rrr { op, rd, rs1, rs2 }
+}
+
+/// A move of one register to another; none to itself.
+pub(crate) fn copy(rd: WritableReg, rs: Reg) -> CodePiece
+    requires rd { IsIntRegister rd.reg }
+    requires rs { IsIntRegister rs }
+    ensures is { result ≡ code.Move rd rs }
+    ensures sound { IsSound result }
+{
+    CodePiece::Move { rd, rs }
 }
 
 pub(crate) fn branch(kind: IntegerCompare, label: u8) -> CodePiece

@@ -23,8 +23,10 @@ ghost use Rattle.rv_code.specs.Usable.{IsFine, IsFineBranch};
 ghost use Rattle.rv_emit.specs.Emitted.{IsSoundBuffer};
 ghost use Rattle.rv_emit.specs.Emission.{PutsAlone, PutsSlots, Emits, EmitsAnyhow};
 ghost use Rattle.rv_emit.specs.StackMaps.{with_map};
+ghost use Rattle.rv_code.specs.Choices.{move_pieces};
+ghost use Rattle.rv_code.specs.Pieces.{slots_of};
 ghost use Rattle.rv_code.specs.Slots.{Label, Op};
-ghost use Rattle.rv_code.specs.InstParts.{jump_to, wide_jump_to, branch_to, move_slots, branch_slots};
+ghost use Rattle.rv_code.specs.InstParts.{jump_to, wide_jump_to, branch_to, branch_slots};
 ghost use Rattle.rv_code.specs.Operations.{jump_word};
 ghost use Rattle.rv_inst.specs.MostBytes.{sequence_limit};
 ghost use Rattle.rv_inst.specs.Sizes.{island_space};
@@ -133,6 +135,7 @@ fn put_integer(
     inst: &Inst,
 ) -> Result<(), OutOfMemory>
     requires fine { IsFine (registered_of sink.old) inst.now }
+    requires few { allocated_of sink.old < 2 ^ 29 }
     requires room { length (bytes_of sink.old) + sequence_limit < code_limit }
     requires sound { IsSoundBuffer sink.old }
     ensures parts { family_of inst.now ≡ Integer → OnOk result (EmitsAnyhow flags inst.now sink.old sink.new) }
@@ -182,7 +185,7 @@ pub(crate) fn put_move(
     requires rm { IsIntRegister rm }
     requires room { length (bytes_of sink.old) + 4 < code_limit }
     requires sound { IsSoundBuffer sink.old }
-    ensures slots { OnOk result (PutsAlone flags (move_slots flags (number_of rd.reg) (number_of rm)) sink.old sink.new) }
+    ensures slots { OnOk result (PutsAlone flags (slots_of flags (move_pieces (number_of rd.reg) (number_of rm))) sink.old sink.new) }
     ensures refused { OnErr result (spoiled_of sink.new ≡ true) }
 {
     if number(rd.reg) == number(rm) {

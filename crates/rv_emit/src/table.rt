@@ -10,7 +10,8 @@ ghost use Rattle.rv_encode.specs.Registers.{IsIntRegister};
 ghost use Rattle.rv_machine.specs.Decode.{decode};
 ghost use Rattle.rv_machine.specs.Opcodes.{JALR};
 ghost use Rattle.rv_ops.specs.declared.alu.AluOPRRI.TheVariants.{Slli};
-ghost use Rattle.mach_buffer.specs.Buffer.{bytes_of, spoiled_of};
+ghost use Rattle.mach_uses.specs.Labels.{inner_count};
+ghost use Rattle.mach_buffer.specs.Buffer.{bytes_of, allocated_of, spoiled_of};
 ghost use Rattle.rv_emit.specs.Emitted.{IsSoundBuffer};
 ghost use Rattle.rv_emit.specs.Emission.{PutsAlone};
 ghost use Rattle.rv_code.specs.InstParts.{table_slots};
@@ -49,6 +50,7 @@ pub(crate) fn put_table(
     requires tmp2 { IsIntRegister tmp2.reg }
     requires listed { AreListed targets.now }
     requires some { 1 ≤ length targets.now }
+    requires allocated { allocated_of sink.old + 2 < inner_count }
     requires room { length (bytes_of sink.old) + 40 + 8 * length targets.now < code_limit }
     requires sound { IsSoundBuffer sink.old }
     ensures slots { OnOk result (PutsAlone flags (table_slots flags (number_of index) (number_of tmp1.reg) (number_of tmp2.reg) targets.now) sink.old sink.new) }

@@ -5,7 +5,7 @@ use Rattle.rv_inst.specs.Sizes.{table_space}
 use Rattle.mach_buffer.specs.Buffer.{registered_of}
 use Rattle.rv_code.specs.Usable.{AreListed}
 use Rattle.rv_emit.proofs.ReachAfterInst.{reach_calm}
-use Rattle.rv_emit.proofs.TableCode.{table_kept, table_sum, island_room, island_sound, island_emits, table_emits}
+use Rattle.rv_emit.proofs.TableCode.{table_kept, table_sum, island_room, island_few, island_sound, island_emits, table_emits}
 use Rattle.rv_code.proofs.CallRules.{call_asks, call_ind_asks}
 use Rattle.rv_emit.proofs.CallSlots.{loading_emits, loading_ind_emits, call_sum, call_ind_sum}
 use Rattle.rv_emit.proofs.Settings.{island_asked, table_asked, call_asked, call_ind_asked, tail_asked, jump_asked}
@@ -47,6 +47,9 @@ put_table-requires-clause-room c =
     let e = ap length (c.as_slice.ensures ∙ c.as_ref-targets.ensures) in
     let left = island_room c.table_space-space.result (8 * length c.in-BrTable.targets) c.args.sink.now c.emit_island_if_needed-in-BrTable.new.sink _ (omega arith) c.in_ok-emit_island_if_needed-in-BrTable.ensures.made in
     omega arith
+
+pub put_table-requires-clause-allocated : goal.put_table-requires-clause-allocated
+put_table-requires-clause-allocated c = let few = c.requires.few in let more = island_few c.table_space-space.result c.args.sink.now c.emit_island_if_needed-in-BrTable.new.sink _ c.in_ok-emit_island_if_needed-in-BrTable.ensures.made in omega arith
 
 pub put_table-requires-clause-sound : goal.put_table-requires-clause-sound
 put_table-requires-clause-sound c = island_sound c.table_space-space.result c.args.sink.now c.emit_island_if_needed-in-BrTable.new.sink _ c.requires.sound c.in_ok-emit_island_if_needed-in-BrTable.ensures.made
