@@ -27,7 +27,7 @@ use Rattle.rv_code.specs.declared.state.EmitVState.{EmitVState}
 use Rattle.rv_emit.specs.Standing.{PartsIn, IsFinishedTo}
 use Rattle.rv_emit.proofs.Laws.{parts_are_self_contained, gap_stands, parts_stand, one_slot, has_operation, reads_operation, own_stands}
 use Rattle.rv_asm.specs.Reported.{start_of, end_of, end_before, returns_from}
-use Rattle.rv_asm.specs.FullSimulation.{FullRuns}
+use Rattle.rv_asm.specs.FullSimulation.{FullRuns, HasFullOperations}
 use Rattle.rv_asm.specs.Simulation.{RunsAsListed, HasOperations}
 use Rattle.rv_asm.specs.LinesInBuffer.{is_stuck, StandsAfter, LinesStand}
 use Rattle.rv_asm.specs.Placed.{Addresses, IsPlaced}
@@ -86,8 +86,16 @@ module _ (job : Job) (code : Code) (b : Buffer) (built : LinesStand (context_of 
   built_operations = record {
     each = λ i inst d base symbols slots mem listed core one placed.
         let line = (each_in base symbols slots mem placed i (Put inst) listed).0 in
-        has_operation (site_of job code known base symbols slots mem) (start_of code.lines i) d line.setting inst (end_of code.lines i) core one line.stands mem (placed_at code base symbols slots mem (context_of job) f.finishes.put.place (records_of b) placed);
-    all = λ i inst d base symbols slots mem listed one placed.
+        let there = placed_at code base symbols slots mem (context_of job) f.finishes.put.place (records_of b) placed in (
+          has_operation (site_of job code known base symbols slots mem) (start_of code.lines i) d line.setting inst (end_of code.lines i) core one line.stands mem there,
+          own_form base symbols slots mem placed inst d (start_of code.lines i) (end_of code.lines i) (built.each i (Put inst) listed).there.0 one (built.each i (Put inst) listed).there.1 there,
+        );
+  }
+
+  -- and so it is by the decoder of all units' operations
+  pub built_full_operations : HasFullOperations job code
+  built_full_operations = record {
+    each = λ i inst d base symbols slots mem listed one placed.
         let line = (each_in base symbols slots mem placed i (Put inst) listed).0 in
         let there = placed_at code base symbols slots mem (context_of job) f.finishes.put.place (records_of b) placed in (
           reads_operation (site_of job code known base symbols slots mem) (start_of code.lines i) d line.setting inst (end_of code.lines i) one line.stands mem there,

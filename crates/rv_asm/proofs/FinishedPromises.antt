@@ -10,7 +10,7 @@ use Rattle.rv_emit.specs.Standing.{IsFinishedTo}
 use Rattle.rv_listing.specs.CodeRanges.{CodeFits}
 use Rattle.rv_asm.specs.Refusal.{refusal, lines_refusal}
 use Rattle.rv_asm.specs.Reported.{Reported}
-use Rattle.rv_asm.specs.FullSimulation.{FullRuns}
+use Rattle.rv_asm.specs.FullSimulation.{FullRuns, HasFullOperations}
 use Rattle.rv_asm.specs.Simulation.{RunsAsListed, HasOperations}
 use Rattle.rv_asm.specs.FinishedCode.{IsFinished}
 use Rattle.rv_asm.specs.SavedRegisters.{SavesReal}
@@ -19,7 +19,7 @@ use Rattle.rv_asm.specs.Reach.{InReach}
 use Rattle.rv_asm.proofs.AfterLastLine.{built_tail}
 use Rattle.rv_asm.proofs.Finish.{finished_short}
 use Rattle.rv_asm.specs.Jumps.{HasJumps}
-use Rattle.rv_asm.proofs.FinishedLines.{built_runs, built_full_runs, built_operations}
+use Rattle.rv_asm.proofs.FinishedLines.{built_runs, built_full_runs, built_operations, built_full_operations}
 use Rattle.rv_asm.proofs.JumpsStand.{built_jumps}
 use Rattle.rv_asm.proofs.RefusalOrder.{accepted_lines, accepted_frame, none_stuck, parts, no_rule_broken, sum_small}
 use Rattle.rv_asm.proofs.RulesOfLines.{names_bound}
@@ -58,6 +58,9 @@ module _ (job : Job) (code : Code) (accepted : refusal job ≡ None) (f : IsFini
 
   pub finished_operations : HasOperations job code
   finished_operations = built_operations job code f.sink f.built finished f.constants f.relocs f.traps (no_rule_broken (context_of job) job.lines e)
+
+  pub finished_full_operations : HasFullOperations job code
+  finished_full_operations = built_full_operations job code f.sink f.built finished f.constants f.relocs f.traps (no_rule_broken (context_of job) job.lines e)
 
   pub finished_jumps : HasJumps job code
   finished_jumps =

@@ -42,7 +42,7 @@ refused_job input errors.TooLarge is = is
 pub runs_fully : (c : Call) (returned : Outcome) → Ended c returned → RunsFully c returned
 runs_fully c (ends.Done code) ended =
     let read = ended.0.1 in
-    let (job, means, accepted, reported, runs, full, operations, jumps, reach, ranges) = read.3 in
+    let (job, means, accepted, reported, runs, full, operations, full_operations, jumps, reach, ranges) = read.3 in
     (read.0, read.1, job, means, full)
 runs_fully c ends.Usage ended = tt
 runs_fully c ends.TooLong ended = tt
@@ -113,7 +113,7 @@ settles_syntax c (ends.Refused error) input line is ended asked fine short bad =
     let (job, read, found) = refused_job input error (means_input c (ends.Refused error) input is ended.0.1) in
     absurd (cc)
 settles_syntax c (ends.Done code) input line is ended asked fine short bad =
-    let (job, read, found, reported, runs, full, operations, jumps, reach, ranges) = means_input c (ends.Done code) input is ended.0.1 in
+    let (job, read, found, reported, runs, full, operations, full_operations, jumps, reach, ranges) = means_input c (ends.Done code) input is ended.0.1 in
     absurd (cc)
 
 settles_refused : (c : Call) (returned : Outcome) (input : List ℕ) (job : Job) (error : EmitError) → c.left ≡ Some input → Ended c returned → Asked c → NoFault c → length input ≤ input_limit → reads input ≡ Ok job → refusal job ≡ Some error → IsOrOutOfMemory returned (ends.Refused error)
@@ -131,7 +131,7 @@ settles_refused c (ends.Refused other) input job error is ended asked fine short
     let same : other ≡ error = cc (ap (λ (j : Job). refusal j) jobs) in
     inl (ap (λ (e : EmitError). ends.Refused e) same)
 settles_refused c (ends.Done code) input job error is ended asked fine short good due =
-    let (own, read, found, reported, runs, full, operations, jumps, reach, ranges) = means_input c (ends.Done code) input is ended.0.1 in
+    let (own, read, found, reported, runs, full, operations, full_operations, jumps, reach, ranges) = means_input c (ends.Done code) input is ended.0.1 in
     let jobs : own ≡ job = cc in
     absurd (cc (ap (λ (j : Job). refusal j) jobs))
 

@@ -1,6 +1,8 @@
 -- What it is for code to run as its job says on the machine with all units: from an entry on, over any number of lines, while the units'
 -- answers are taken in order.
 use Rattle.std.specs.Prelude.{◌≡◌, ℕ, zero, suc, ◌+◌, ◌*◌, ◌<◌, ◌≤◌, ◌⊎◌, ◌||◌, Bool, true, false, List, [], ◌++◌, length, slice_get, slice_index, Some}
+use Rattle.rv_inst.specs.Context.{context_of}
+use Rattle.rv_inst.specs.Forms.{IsOwnForm}
 use Rattle.rv_inst.specs.Operands.{Return, return_of}
 use Rattle.rv_inst.specs.declared.code.Code.{Code}
 use Rattle.rv_inst.specs.declared.inst.Inst.{Inst}
@@ -8,13 +10,18 @@ use Rattle.rv_inst.specs.declared.inst.Line.{Line}
 use Rattle.rv_inst.specs.declared.inst.Line.TheVariants.{Inst as Put, Bind}
 use Rattle.rv_inst.specs.declared.job.Job.{Job}
 use Rattle.rv_inst.specs.Meaning.{Environment}
-use Rattle.rv_machine.specs.State.{AreValues}
+use Rattle.rv_inst.specs.Sizes.{operation_of}
+use Rattle.rv_machine.specs.Decode.{decode}
+use Rattle.rv_machine.specs.declared.decoding.Decoded.{Decoded}
+use Rattle.rv_machine.specs.State.{AreValues, Memory}
+use Rattle.rv_machine.specs.Steps.{fetch}
 use Rattle.rv_full.specs.declared.answer.Answer.{Answer}
 use Rattle.rv_full.specs.Steps.{Asks, fiter, fnext}
 use Rattle.rv_full.specs.Units.{FullState, FullValues, IsFullState, values_of}
 use Rattle.rv_full.specs.Vectors.{is_legal}
 use Rattle.rv_asm.specs.FullMeaning.{FullMeaning, SameFull, SameFullBut, meaning_of, all_core}
 use Rattle.rv_asm.specs.Placed.{Addresses, IsPlaced}
+use Rattle.rv_asm.specs.Reported.{start_of}
 use Rattle.rv_asm.specs.Simulation.{Point, At, Returned, Out, End, Stop, Trapped, InData, Entry, IsBack, IsStopped, Leads, address_of, entry_point, environment_of, exit_from, temporaries_from}
 
 -- the code of a job, and where it is placed
@@ -175,3 +182,8 @@ IsEntry job (InData i) = ⊥
 -- Wherever the code is placed and its symbols are, from each entry, with all values and answers, it runs on by any number of lines.
 pub record FullRuns (job : Job) (code : Code) : Type 0 where
   pub from : (base : ℕ) (symbols slots : Addresses) (p : Point) (v : FullValues) (b : FullState) (k : ℕ) → IsEntry job p → StandsAt (record { job = job; code = code; base = base; symbols = symbols; slots = slots }) p v b → RunsOn (record { job = job; code = code; base = base; symbols = symbols; slots = slots }) k p v b
+
+-- Wherever the code is placed, the machine with all units reads at the start of each line of one machine word the operation that stands
+-- for it, in that operation's own form.
+pub record HasFullOperations (job : Job) (code : Code) : Type 0 where
+  pub each : (i : ℕ) (inst : Inst) (d : Decoded) (base : ℕ) (symbols slots : Addresses) (mem : Memory) → slice_get job.lines i ≡ Some (Put inst) → operation_of (context_of job) inst ≡ Some d → IsPlaced code base symbols slots mem → (decode job.flags (fetch mem (base + start_of code.lines i)) ≡ Some d) × IsOwnForm d (fetch mem (base + start_of code.lines i))

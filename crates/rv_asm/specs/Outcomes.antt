@@ -16,7 +16,7 @@ use Rattle.rv_stream.specs.Ends.{Rose, TookFront, Gave}
 use Rattle.rv_asm.specs.Refusal.{refusal}
 use Rattle.rv_asm.specs.Reported.{Reported}
 use Rattle.rv_asm.specs.Simulation.{RunsAsListed, HasOperations}
-use Rattle.rv_asm.specs.FullSimulation.{FullRuns}
+use Rattle.rv_asm.specs.FullSimulation.{FullRuns, HasFullOperations}
 use Rattle.rv_asm.specs.Jumps.{HasJumps}
 use Rattle.rv_asm.specs.Reach.{InReach}
 use Rattle.rv_asm.specs.declared.outcome.Outcome.{Outcome}
@@ -75,7 +75,7 @@ status_of ends.OutOfMemory = 8
 -- the code of the job that the input means, which reports its lines and runs as they say, in operations as short as they have, whose
 -- jumps go straight where they can, with no island early, and its numbers in the ranges in which no other code has its report
 abbrev pub IsCodeOf : List ℕ → Code → Type 0
-IsCodeOf input code = (job : Job) × (reads input ≡ Ok job) × (refusal job ≡ None) × Reported job code × RunsAsListed job code × FullRuns job code × HasOperations job code × HasJumps job code × InReach job code × CodeFits code
+IsCodeOf input code = (job : Job) × (reads input ≡ Ok job) × (refusal job ≡ None) × Reported job code × RunsAsListed job code × FullRuns job code × HasOperations job code × HasFullOperations job code × HasJumps job code × InReach job code × CodeFits code
 
 -- the input means a job that is refused so; never when out of memory
 abbrev pub IsRefused : List ℕ → EmitError → Type 0

@@ -17,7 +17,7 @@ use Rattle.rv_inst.specs.Meaning.{Environment, Exit, Next, To, Leave, Break, Tra
 use Rattle.rv_machine.specs.State.{State, IsState, Values, AreValues, Memory, wrap}
 use Rattle.rv_base.specs.declared.flags.IsaFlags.{IsaFlags}
 use Rattle.rv_machine.specs.declared.decoding.Decoded.{Decoded}
-use Rattle.rv_machine.specs.Decode.{decode, int_decode}
+use Rattle.rv_machine.specs.Decode.{int_decode}
 use Rattle.rv_machine.specs.Steps.{IsBreak, IsZeroHalf, fetch, iter}
 use Rattle.rv_inst.specs.Forms.{IsOwnForm}
 use Rattle.rv_inst.specs.SameValues.{Same, SameBut}
@@ -155,9 +155,7 @@ pub record RunsAsListed (job : Job) (code : Code) : Type 0 where
   pub from : (base : ℕ) (symbols slots : Addresses) (i : ℕ) (line : Line) (s : State) (v : Values) → slice_get job.lines i ≡ Some line → is_integer_line line ≡ true → WritesOutside job code base symbols slots i line v → IsPlaced code base symbols slots s.values.mem → IsState s → AreValues v → s.pc ≡ address_of code base (At i) → Same v s.values → Comes job code base symbols slots (At i) v s
   pub back : (base : ℕ) (symbols slots : Addresses) (i : ℕ) (inst : Inst) (r : Return) (s : State) (v : Values) → slice_get job.lines i ≡ Some (Put inst) → return_of job.flags inst ≡ Some r → IsPlaced code base symbols slots s.values.mem → IsState s → AreValues v → s.pc ≡ address_of code base (Returned i) → Same v s.values → Comes job code base symbols slots (Returned i) v s
 
--- Wherever the code is placed, the machine reads at the start of a line of one machine word the operation that stands for it: in two
--- bytes where the instruction has a form of sixteen bits, and then that form's own, else in four. The integer machine reads those of the
--- integer core, and the machine with all units each.
+-- Wherever the code is placed, the machine reads at the start of a line of the integer core of one machine word the operation that stands
+-- for it: in two bytes where the instruction has a form of sixteen bits, and then that form's own, else in four.
 pub record HasOperations (job : Job) (code : Code) : Type 0 where
-  pub each : (i : ℕ) (inst : Inst) (d : Decoded) (base : ℕ) (symbols slots : Addresses) (mem : Memory) → slice_get job.lines i ≡ Some (Put inst) → is_integer inst ≡ true → operation_of (context_of job) inst ≡ Some d → IsPlaced code base symbols slots mem → int_decode job.flags (fetch mem (base + start_of code.lines i)) ≡ Some d
-  pub all : (i : ℕ) (inst : Inst) (d : Decoded) (base : ℕ) (symbols slots : Addresses) (mem : Memory) → slice_get job.lines i ≡ Some (Put inst) → operation_of (context_of job) inst ≡ Some d → IsPlaced code base symbols slots mem → (decode job.flags (fetch mem (base + start_of code.lines i)) ≡ Some d) × IsOwnForm d (fetch mem (base + start_of code.lines i))
+  pub each : (i : ℕ) (inst : Inst) (d : Decoded) (base : ℕ) (symbols slots : Addresses) (mem : Memory) → slice_get job.lines i ≡ Some (Put inst) → is_integer inst ≡ true → operation_of (context_of job) inst ≡ Some d → IsPlaced code base symbols slots mem → (int_decode job.flags (fetch mem (base + start_of code.lines i)) ≡ Some d) × IsOwnForm d (fetch mem (base + start_of code.lines i))

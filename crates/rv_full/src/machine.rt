@@ -256,15 +256,11 @@ impl FullMachine {
         Ok(())
     }
 
-    pub(crate) fn word(&self, at: u64) -> u32
+    /// The four bytes from an address on, the lowest first; after the last address comes 0.
+    pub fn word(&self, at: u64) -> u32
         ensures { result ≡ fetch self.now.full.state.values.mem at }
     {
-        u32::from_le_bytes([
-            self.byte(at),
-            self.byte(at.wrapping_add(1)),
-            self.byte(at.wrapping_add(2)),
-            self.byte(at.wrapping_add(3)),
-        ])
+        self.integers.word(at)
     }
 
     /// To the address after an operation's word.

@@ -5,13 +5,17 @@ use Rattle.std.specs.FinMap.{get, insert, remove, from_entries, from_sorted, ent
 use Rattle.std.specs.FinMap.Entries.{below_all, is_sorted}
 use Rattle.std.specs.List.Sorted.{IsStrictlySortedBy}
 use Rattle.std.specs.Ordering.{nat_cmp, eq_by_cmp, is_lt}
-use Rattle.std.specs.List.{AllByRecursion}
-use Rattle.std.specs.Prelude.{T, ◌&&◌, map}
+use Rattle.std.specs.List.{All, AllByRecursion}
+use Rattle.std.specs.declared.ops.Bound.{Bound}
+use Rattle.std.specs.declared.ops.Bound.TheVariants.{Unbounded}
+use Rattle.std.specs.BTreeMap.Range.{IsEntryInRange}
+use Rattle.std.specs.Prelude.{T, ◌+◌, ◌*◌, ◌^◌, ◌<◌, ◌&&◌, map, unwrap_or}
 use Rattle.std.specs.declared.cmp.Ordering.TheVariants.{Less}
 use Rattle.std.specs.Cmp.{nat_cmp_total, eq_by_cmp_equiv, unsigned_tied}
 use Rattle.std.specs.Map.{lookup}
-use Rattle.std.specs.BTreeMap.{is_at}
-use Rattle.rv_machine.specs.State.{Memory}
+use Rattle.std.specs.BTreeMap.{BTreeMap, is_at}
+use Rattle.rv_machine.specs.Memory.{load_bytes}
+use Rattle.rv_machine.specs.State.{Memory, byte, wrap}
 use Rattle.rv_machine.specs.Steps.{Machine, with_memory}
 
 find_at : (es : List (ℕ × ℕ)) (q : ℕ) → find nat_cmp q es ≡ lookup (is_at (nat_cmp q)) es
@@ -118,3 +122,23 @@ has_entries es h =
 
 pub has_keys : (es : List (ℕ × ℕ)) → IsStrictlySortedBy nat_cmp (firsts es) → keys (from_entries {R = nat_cmp} es) ≡ firsts es
 has_keys es h = ap firsts (has_entries es h)
+
+-- ---- bytes that stand one after the other
+
+-- an entry of a range is the byte at its address
+byte_there : (m : BTreeMap ℕ ℕ) (from : Bound ℕ) (e : ℕ × ℕ) → IsEntryInRange nat_cmp from Unbounded m e → byte (from_entries m.entries) e.0 ≡ e.1
+byte_there m from e there = ap (λ o. unwrap_or o 0) (get_at m.entries e.0 ∙ there.1)
+
+-- four of them, each at the address after the one before
+pub word_there : (m : BTreeMap ℕ ℕ) (from : Bound ℕ) (at a b c d : ℕ) (more : List (ℕ × ℕ)) → All (IsEntryInRange nat_cmp from Unbounded m) ((at, a) ∷ (at + 1, b) ∷ (at + 2, c) ∷ (at + 3, d) ∷ more) → at + 3 < 2 ^ 64 → load_bytes (from_entries m.entries) at 4 ≡ a + b * 256 + c * 65536 + d * 16777216
+word_there m from at a b c d more all fits =
+    let mem : Memory = from_entries m.entries in
+    let at0 : wrap (at + 0) ≡ at = omega arith in
+    let at1 : wrap (at + 1) ≡ at + 1 = omega arith in
+    let at2 : wrap (at + 2) ≡ at + 2 = omega arith in
+    let at3 : wrap (at + 3) ≡ at + 3 = omega arith in
+    let first = ap (byte mem) at0 ∙ byte_there m from (at, a) (all 0 (0, 0) (omega arith)) in
+    let second = ap (byte mem) at1 ∙ byte_there m from (at + 1, b) (all 1 (0, 0) (omega arith)) in
+    let third = ap (byte mem) at2 ∙ byte_there m from (at + 2, c) (all 2 (0, 0) (omega arith)) in
+    let fourth = ap (byte mem) at3 ∙ byte_there m from (at + 3, d) (all 3 (0, 0) (omega arith)) in
+    (λ i. 0 + first i * 1 + second i * 256 + third i * 65536 + fourth i * 16777216) ∙ omega arith

@@ -1,6 +1,6 @@
 //! A machine that does one operation at a time: one hart of "2.1 Programmers' Model", with the integer registers.
 
-ghost use Rattle.std.specs.Prelude.{◌≡◌, ℕ, ◌+◌, ◌^◌, ◌<◌, ◌≤◌, length, take, OnOk, OnErr, IfOk, None};
+ghost use Rattle.std.specs.Prelude.{◌≡◌, ℕ, ◌+◌, ◌^◌, ◌<◌, ◌≤◌, length, take, ◌∷◌, OnOk, OnErr, IfOk, IfSome, None};
 ghost use Rattle.std.specs.FinMap as map;
 ghost use Rattle.rv_machine.specs.Layout.{HasFileRegisters};
 ghost use Rattle.rv_machine.specs.State.{IsState, byte, reg};
@@ -18,6 +18,7 @@ use crate::ops::{AluOp, BaseOp, LoadOp, MOp, StoreOp};
 use rv_base::{IsaFlags, OutOfMemory};
 use std::alloc::{AllocError, Global};
 use std::collections::BTreeMap;
+use std::collections::btree_map::Range;
 use std::marker::Model;
 
 /// What a step returns.
@@ -60,6 +61,16 @@ fn alu_result(op: AluOp, x: u64, y: u64, imm: u64) -> u64
         AluOp::Int(op) => int_result(op, x, y, imm),
         AluOp::Mul(op) => mul_result(op, x, y),
         AluOp::Bit(op) => bit_result(op, x, y, imm),
+    }
+}
+
+/// The next byte of those written from some address on, where it is at this address.
+fn byte_at(bytes: &mut Range<'_, u64, u8>, at: u64) -> Option<u8>
+    ensures { IfSome result (λ byte. bytes.old ≡ (at, byte) ∷ bytes.new) }
+{
+    match bytes.next() {
+        Some((place, byte)) if *place == at => Some(*byte),
+        _ => None,
     }
 }
 
@@ -196,10 +207,29 @@ impl IntMachine {
         u16::from_le_bytes([self.byte(at), self.byte(at.wrapping_add(1))])
     }
 
-    fn word(&self, at: u64) -> u32
+    /// The word at an address, found at once: where each of its bytes was written, and none is after the last address.
+    fn written_word(&self, at: u64) -> Option<u32>
+        ensures { IfSome result (λ word. word ≡ load_bytes self.now.state.values.mem at 4) }
+    {
+        if at > u64::MAX - 3 {
+            return None;
+        }
+        let mut bytes = self.bytes.range(at..);
+        let first = byte_at(&mut bytes, at)?;
+        let second = byte_at(&mut bytes, at + 1)?;
+        let third = byte_at(&mut bytes, at + 2)?;
+        let fourth = byte_at(&mut bytes, at + 3)?;
+        Some(u32::from_le_bytes([first, second, third, fourth]))
+    }
+
+    /// The four bytes from an address on, the lowest first; after the last address comes 0.
+    pub fn word(&self, at: u64) -> u32
         ensures value { result ≡ load_bytes self.now.state.values.mem at 4 }
         ensures fetched { result ≡ fetch self.now.state.values.mem at }
     {
+        if let Some(word) = self.written_word(at) {
+            return word;
+        }
         u32::from_le_bytes([
             self.byte(at),
             self.byte(at.wrapping_add(1)),
@@ -211,16 +241,9 @@ impl IntMachine {
     fn doubleword(&self, at: u64) -> u64
         ensures { result ≡ load_bytes self.now.state.values.mem at 8 }
     {
-        u64::from_le_bytes([
-            self.byte(at),
-            self.byte(at.wrapping_add(1)),
-            self.byte(at.wrapping_add(2)),
-            self.byte(at.wrapping_add(3)),
-            self.byte(at.wrapping_add(4)),
-            self.byte(at.wrapping_add(5)),
-            self.byte(at.wrapping_add(6)),
-            self.byte(at.wrapping_add(7)),
-        ])
+        let low = self.word(at);
+        let high = self.word(at.wrapping_add(4));
+        u64::from(high) * (1 << 32) + u64::from(low)
     }
 
     fn put(&mut self, d: Decoded, value: u64) -> Step

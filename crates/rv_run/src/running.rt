@@ -25,13 +25,7 @@ fn offset_in(place: Place, address: u64) -> Option<u64>
 pub(crate) fn word_at(machine: &FullMachine) -> u32
     ensures { result ≡ word_at machine.now.full.state }
 {
-    let pc = machine.pc();
-    u32::from_le_bytes([
-        machine.byte(pc),
-        machine.byte(pc.wrapping_add(1)),
-        machine.byte(pc.wrapping_add(2)),
-        machine.byte(pc.wrapping_add(3)),
-    ])
+    machine.word(machine.pc())
 }
 
 fn is_break_base(op: BaseOp) -> bool
