@@ -1,36 +1,47 @@
--- What a float operation that breaks no rule gives: registers of the machine, and a result in a register of its class.
-use Rattle.std.proofs.Common.{◌≡◌, ℕ, ◌<◌, Bool, true, false, List, [], ◌∷◌, refl, arith}
-use Rattle.std.specs.Prelude.{◌&&◌, ◌||◌, nat_le, not}
+-- What a word of a unit that breaks no rule gives: registers of the machine, each in its place, and fields that its operation takes.
+use Rattle.std.proofs.Common.{◌≡◌, ℕ, ◌<◌, false, List, [], ◌∷◌, Some, refl, arith, ap}
+use Rattle.std.specs.Prelude.{◌&&◌, nat_le, not}
 use Rattle.std.specs.List.{list_any}
 use Rattle.std.proofs.lemmas.Bool.Decides.{nat_tests}
-use Rattle.rv_base.specs.declared.regs.PReg.{PReg}
+use Rattle.std.proofs.lemmas.Option.{same_Some}
 use Rattle.rv_base.specs.declared.regs.Reg.{Reg}
 use Rattle.rv_base.specs.declared.regs.Reg.TheVariants.{Real, Virtual as AVirtual}
 use Rattle.rv_base.specs.declared.regs.RegClass.{RegClass}
 use Rattle.rv_base.specs.declared.regs.RegClass.TheVariants.{Int, Float, Vector}
-use Rattle.rv_base.specs.declared.regs.Writable.{Writable}
-use Rattle.rv_base.specs.Regs.{number_of}
-use Rattle.rv_ops.specs.declared.float_fields.FpuOPWidth.{FpuOPWidth}
-use Rattle.rv_ops.specs.declared.float_fields.FRM.{FRM}
-use Rattle.rv_ops.specs.declared.fpu.FpuOPRRR.{FpuOPRRR}
-use Rattle.rv_ops.specs.Fpu.{fpu_rrr_result}
-use Rattle.rv_encode.specs.Registers.{IsRealRegister}
-use Rattle.rv_inst.specs.declared.inst.Inst.TheVariants.{FpuRRR}
-use Rattle.rv_inst.specs.Rules.{is_int_class, is_not_of, is_reserved, is_virtual, same_class}
-use Rattle.rv_code.specs.UnitRuns.{IsUsableIn}
-use Rattle.rv_code.proofs.Operands.{Keeps, or_left, or_right}
-
-abbrev pub AreReal : List Reg → Type 0
-AreReal [] = Unit {0}
-AreReal (r ∷ rs) = IsRealRegister r × AreReal rs
+use Rattle.rv_base.specs.Regs.{class_of, number_of}
+use Rattle.rv_encode.specs.Registers.{IsIntRegister, IsRealRegister}
+use Rattle.rv_inst.specs.declared.units.PlacedReg.{PlacedReg}
+use Rattle.rv_inst.specs.Rules.{is_int_class, is_not_of, is_out_of_place, is_reserved, is_virtual, same_class}
+use Rattle.rv_inst.specs.UnitWords.{UnitWord, registers_in}
+use Rattle.rv_code.specs.UnitRuns.{IsUsableIn, AreUsableIn}
+use Rattle.rv_code.specs.Usable.{AreReal, AreOfClass, IsFineUnit}
+use Rattle.rv_code.proofs.Operands.{not_false, or_left, or_right}
 
 is_real : (r : Reg) → is_virtual r ≡ false → IsRealRegister r
 is_real (Real p) e = refl
 is_real (AVirtual class index) e = absurd (cc)
 
-pub are_real : (rs : List Reg) → list_any is_virtual rs ≡ false → AreReal rs
+are_real : (rs : List Reg) → list_any is_virtual rs ≡ false → AreReal rs
 are_real [] e = tt
 are_real (r ∷ rs) e = (is_real r (or_left (is_virtual r) _ e), are_real rs (or_right (is_virtual r) _ e))
+
+one_class : (class asked : RegClass) → not (same_class class asked) ≡ false → class ≡ asked
+one_class Int Int e = refl
+one_class Int Float e = absurd (cc)
+one_class Int Vector e = absurd (cc)
+one_class Float Int e = absurd (cc)
+one_class Float Float e = refl
+one_class Float Vector e = absurd (cc)
+one_class Vector Int e = absurd (cc)
+one_class Vector Float e = absurd (cc)
+one_class Vector Vector e = refl
+
+are_of_class : (places : List PlacedReg) → list_any is_out_of_place places ≡ false → AreOfClass places
+are_of_class [] e = tt
+are_of_class (p ∷ places) e = (one_class (class_of p.reg) p.class (or_left (is_out_of_place p) _ e), are_of_class places (or_right (is_out_of_place p) _ e))
+
+pub unit_fine : (w : UnitWord) → list_any is_virtual (registers_in w.places) ≡ false → list_any is_out_of_place w.places ≡ false → not w.rounding ≡ false → not w.width ≡ false → IsFineUnit w
+unit_fine w real placed rounded wide = (are_real (registers_in w.places) real, are_of_class w.places placed, not_false w.rounding rounded, not_false w.width wide)
 
 below_30 : (n : ℕ) → nat_le 30 n ≡ false → n < 30
 below_30 n h = grind (arith, nat_tests)
@@ -47,8 +58,18 @@ is_usable_in : (asked : RegClass) (r : Reg) → is_virtual r ≡ false → is_no
 is_usable_in asked (Real p) real is free = usable_in asked p.class p.number p.in_file is free
 is_usable_in asked (AVirtual class index) real is free = absurd (cc)
 
-pub result_usable : (op : FpuOPRRR) (width : FpuOPWidth) (frm : FRM) (rd : Writable Reg) (rs1 rs2 : Reg) → Keeps (FpuRRR op width frm rd rs1 rs2) → IsUsableIn (fpu_rrr_result op) (number_of rd.reg)
-result_usable op width frm rd rs1 rs2 k =
-    is_usable_in (fpu_rrr_result op) rd.reg (or_left (is_virtual rd.reg) (list_any is_virtual (rs1 ∷ rs2 ∷ [])) k.real)
-    (or_left (is_not_of (fpu_rrr_result op) rd.reg) (list_any (is_not_of Float) (rs1 ∷ rs2 ∷ [])) k.placed)
-    (or_left (is_reserved rd.reg) (list_any is_reserved (rs1 ∷ rs2 ∷ [])) k.free)
+pub are_usable_in : (places : List PlacedReg) → list_any is_virtual (registers_in places) ≡ false → list_any is_out_of_place places ≡ false → list_any is_reserved (registers_in places) ≡ false → AreUsableIn places
+are_usable_in [] real placed free = tt
+are_usable_in (p ∷ places) real placed free = (
+  is_usable_in p.class p.reg (or_left (is_virtual p.reg) _ real) (or_left (is_out_of_place p) _ placed) (or_left (is_reserved p.reg) _ free),
+  are_usable_in places (or_right (is_virtual p.reg) _ real) (or_right (is_out_of_place p) _ placed) (or_right (is_reserved p.reg) _ free),
+)
+
+-- one of the machine and of its class is an integer register
+pub int_register : (r : Reg) → IsRealRegister r → class_of r ≡ Int → IsIntRegister r
+int_register (Real p) real e = e
+int_register (AVirtual class index) real e = absurd (cc)
+
+-- the operation of a word that is found
+pub operation_given : {x w : UnitWord} → Some x ≡ Some w → Some x.operation ≡ Some w.operation
+operation_given {x} {w} e = ap (λ (y : UnitWord). Some y.operation) (same_Some x w e)
