@@ -1,17 +1,16 @@
 -- An instruction that breaks no rule gives what its words ask.
-use Rattle.std.proofs.Common.{◌≡◌, false, [], ◌∷◌, None}
-use Rattle.rv_ops.specs.FloatFields.{is_width, takes_frm}
-use Rattle.rv_ops.specs.Fpu.{fpu_rrr_numbers}
+use Rattle.std.proofs.Common.{◌≡◌, false, [], ◌∷◌, None, refl}
 use Rattle.rv_inst.specs.Context.{Context}
 use Rattle.rv_inst.specs.Rules.{inst_rule, is_int_type, lacks_constant}
 use Rattle.rv_inst.specs.declared.error.Rule.TheVariants as rule
 use Rattle.rv_inst.proofs.Rules.{breaks_none}
+use Rattle.rv_inst.specs.UnitWords.{unit_of}
 use Rattle.rv_inst.specs.declared.inst.Inst.{Inst}
-use Rattle.rv_inst.specs.declared.inst.Inst.TheVariants.{Nop0, Nop4, EBreak, SequencePoint, Args, Rets, DummyUse, EmitIsland, RawData, Lui, Auipc, LoadInlineConst, AluRRR, AluRRImm12, Mov, MovFromPReg, Extend, Select, Load, Store, LoadAddr, LabelAddress, Ret, TrapIf, Jal, CondBr, BrTable, Udf, Jalr, Popcnt, Cltz, Brev8, StackProbeLoop, LoadExtNameGot, LoadExtNameNear, LoadExtNameFar, Call, CallInd, ReturnCall, ReturnCallInd, FpuRRR, Unwind}
+use Rattle.rv_inst.specs.declared.inst.Inst.TheVariants.{Nop0, Nop4, EBreak, SequencePoint, Args, Rets, DummyUse, EmitIsland, RawData, Lui, Auipc, LoadInlineConst, AluRRR, AluRRImm12, Mov, MovFromPReg, Extend, Select, Load, Store, LoadAddr, LabelAddress, Ret, TrapIf, Jal, CondBr, BrTable, Udf, Jalr, Popcnt, Cltz, Brev8, StackProbeLoop, LoadExtNameGot, LoadExtNameNear, LoadExtNameFar, Call, CallInd, ReturnCall, ReturnCallInd, Unwind}
 use Rattle.rv_code.specs.Usable.{IsFine}
 use Rattle.rv_code.proofs.Operands.{Keeps, keeps, are_usable, data_kept, constant_kept, move_usable, preg_usable, trap_if_usable, call_usable, not_false, listed, listed_targets, listed_try}
 use Rattle.rv_code.proofs.AddressOperands.{load_fine, store_fine, load_addr_fine, label_address_fine}
-use Rattle.rv_code.proofs.FloatRules.{are_real}
+use Rattle.rv_code.proofs.UnitRules.{unit_fine}
 use Rattle.rv_code.proofs.CallRules.{call_kept, call_ind_kept}
 use Rattle.rv_code.proofs.ChoiceRules.{extend_kept, select_fine}
 use Rattle.rv_code.proofs.ZerosRules.{zeros_fine}
@@ -67,4 +66,4 @@ fine context inst e = kept inst (keeps context inst e) (breaks_none context inst
     kept (ReturnCall info) k there = tt
     kept (ReturnCallInd info) k there = target_fine info k
     kept (Unwind inst) k there = tt
-    kept (FpuRRR op width frm rd rs1 rs2) k there = let all = are_real (rd.reg ∷ rs1 ∷ rs2 ∷ []) k.real in (all.0, all.1.0, all.1.1.0, not_false (takes_frm (fpu_rrr_numbers op).rounding frm) k.rounded, not_false (is_width width) k.wide)
+    kept inst k there = unit_fine (unit_of inst refl) k.real k.placed k.rounded k.wide

@@ -73,5 +73,5 @@ mod Reaching
 pub mod ClosedPieces
 pub mod MadeOfPieces
 pub mod UnitRuns
-pub mod FloatRuns
-pub mod FloatRules
+pub mod UnitRules
+pub mod UnitWordRuns

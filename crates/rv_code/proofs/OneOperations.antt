@@ -1,5 +1,5 @@
 -- An instruction of one machine word becomes one operation, which is read where it starts.
-use Rattle.std.proofs.Common.{◌≡◌, ℕ, ◌+◌, Bool, true, false, List, [], ◌∷◌, ◌++◌, Option, Some, None, pos, refl, ap, subst, ◌∙◌, lit<}
+use Rattle.std.proofs.Common.{◌≡◌, ℕ, ◌+◌, Bool, true, false, List, [], ◌∷◌, ◌++◌, Option, Some, None, pos, refl, ap, subst, lit<}
 use Rattle.std.specs.Prelude.{nat_eq, if◌then◌else◌}
 use Rattle.std.proofs.lemmas.Option.{same_Some}
 use Rattle.rv_base.specs.Regs.{number_of}
@@ -9,8 +9,6 @@ use Rattle.rv_machine.specs.declared.decoding.Decoded.{Decoded}
 use Rattle.rv_machine.specs.State.{Memory, State}
 use Rattle.rv_machine.specs.Steps.{fetch, zero_at}
 use Rattle.rv_machine.specs.Decode.{decode, int_decode}
-use Rattle.rv_machine.specs.Layout.{or_else}
-use Rattle.rv_machine.specs.UnitDecode.{unit_decode}
 use Rattle.rv_machine.proofs.States.{zero_state}
 use Rattle.rv_machine.proofs.UnitOperations.{is_integer as is_integer_op, integer_decodes, acts_integer}
 use Rattle.rv_ops.specs.declared.alu.AluOPRRI.TheVariants.{Addi, Andi}
@@ -18,8 +16,9 @@ use Rattle.rv_ops.specs.declared.memory.LoadOP.{LoadOP}
 use Rattle.rv_ops.specs.declared.memory.StoreOP.{StoreOP}
 use Rattle.rv_inst.specs.Core.{is_integer}
 use Rattle.rv_inst.specs.Addresses.{Location, Based, AtLabel, AtConstant, location_of, is_near}
+use Rattle.rv_inst.specs.UnitWords.{unit_of}
 use Rattle.rv_inst.specs.declared.inst.Inst.{Inst}
-use Rattle.rv_inst.specs.declared.inst.Inst.TheVariants.{Nop0, Nop4, EBreak, SequencePoint, Args, Rets, DummyUse, EmitIsland, RawData, Lui, Auipc, LoadInlineConst, AluRRR, AluRRImm12, Mov, MovFromPReg, Extend, Select, Load, Store, LoadAddr, LabelAddress, Ret, TrapIf, Jal, CondBr, BrTable, Udf, Jalr, Popcnt, Cltz, Brev8, StackProbeLoop, LoadExtNameGot, LoadExtNameNear, LoadExtNameFar, Call, CallInd, ReturnCall, ReturnCallInd, FpuRRR, Unwind}
+use Rattle.rv_inst.specs.declared.inst.Inst.TheVariants.{Nop0, Nop4, EBreak, SequencePoint, Args, Rets, DummyUse, EmitIsland, RawData, Lui, Auipc, LoadInlineConst, AluRRR, AluRRImm12, Mov, MovFromPReg, Extend, Select, Load, Store, LoadAddr, LabelAddress, Ret, TrapIf, Jal, CondBr, BrTable, Udf, Jalr, Popcnt, Cltz, Brev8, StackProbeLoop, LoadExtNameGot, LoadExtNameNear, LoadExtNameFar, Call, CallInd, ReturnCall, ReturnCallInd, Unwind}
 use Rattle.rv_inst.specs.Context.{Context}
 use Rattle.rv_inst.specs.Sizes.{is_byte, address_operation, load_operation, store_operation, operation_of}
 use Rattle.rv_code.specs.declared.state.EmitVState.{EmitVState}
@@ -51,8 +50,8 @@ alone : {core : Bool} {d : Decoded} (x : Decoded) → is_integer_op x.op ≡ tru
 alone x integer e = after_trap None x integer e
 
 -- of a unit
-of_unit : {d : Decoded} (x : Decoded) → Some x ≡ Some d → IsAlone false (slots_alone (Op x ∷ [])) d
-of_unit {d} x e = record { trap = None; only = ap (λ (y : Decoded). slots_alone (Op y ∷ [])) (same_Some x d e); integer = λ core. absurd (cc) }
+of_unit : {d : Decoded} (trap : Option TrapCode) (x : Decoded) → Some x ≡ Some d → IsAlone false (slots_alone (access_slots trap ++ Op x ∷ [])) d
+of_unit {d} trap x e = record { trap = trap; only = ap (λ (y : Decoded). slots_alone (access_slots trap ++ Op y ∷ [])) (same_Some x d e); integer = λ core. absurd (cc) }
 
 unless : {core : Bool} {d : Decoded} (flags : IsaFlags) (c : Bool) (a : Action) → is_integer_op (op_of flags a).op ≡ true → (if c then None else Some (op_of flags a)) ≡ Some d → IsAlone core (slots_alone (slots_of flags (if c then [] else Do a ∷ []))) d
 unless flags true a integer e = absurd (cc)
@@ -123,10 +122,10 @@ one_slot context setting (CallInd info) d e = absurd (cc)
 one_slot context setting (ReturnCall info) d e = absurd (cc)
 one_slot context setting (ReturnCallInd info) d e = absurd (cc)
 one_slot context setting (Unwind inst) d e = absurd (cc)
-one_slot context setting (FpuRRR op width frm rd rs1 rs2) d e = of_unit _ e
+one_slot context setting inst d e = of_unit (unit_of inst refl).trap _ e
 
 module _ (site : Site) (start : ℕ) (d : Decoded) where
-  stands_alone : (trap : Option TrapCode) (after : ℕ) → PartsStand site start after (slots_alone (access_slots trap ++ Op d ∷ [])) → CodeHas site start (d ∷ [])
+  pub stands_alone : (trap : Option TrapCode) (after : ℕ) → PartsStand site start after (slots_alone (access_slots trap ++ Op d ∷ [])) → CodeHas site start (d ∷ [])
   stands_alone None after p = p.1.0
   stands_alone (Some code) after p = p.1.1.0
 

@@ -1,6 +1,13 @@
--- At a unit's operation the machine with all units does its row; and float operations that take an answer do the same with values
--- that are the same. That is proved by what an operation reads and writes, and not for each.
-use Rattle.std.proofs.Common.{◌≡◌, ◌≢◌, ◌⊎◌, inl, inr, ℕ, ◌+◌, ◌%◌, ◌^◌, ◌<◌, Bool, true, false, List, [], ◌∷◌, ◌++◌, length, Option, Some, None, arith, refl, sym, ap, subst, ◌∙◌, ⊎_elim, lit<}
+-- At a unit's operation the machine with all units does its row; and float operations, and those on frm, do the same with values that
+-- are the same. That is proved by what an operation reads and writes, and not for each.
+use Rattle.std.proofs.Common.{◌≡◌, ◌≢◌, ◌⊎◌, inl, inr, ℕ, ◌+◌, ◌%◌, ◌^◌, ◌<◌, Bool, true, false, List, [], ◌∷◌, length, Some, None, arith, refl, sym, ap, subst, ◌∙◌, ⊎_elim}
+use Rattle.std.proofs.Common.{FitsSigned, T, leb, w16, w32, w64, lt_of_le_of_lt, ◌-◌}
+use Rattle.std.proofs.lemmas.Int.{ints}
+use mir.Syntax.{Width}
+use mir.Val.{hbits}
+use Rattle.std.specs.Int.{cast_signed}
+use Rattle.std.proofs.Math.Facts.{sfits_widen, Fits-of_z, Fits-lt-pow}
+use Rattle.std.proofs.lemmas.Nat.{and_le_l, or_lt}
 use Rattle.std.specs.Prelude.{nat_eq, if◌then◌else◌, slice_index, slice_set, unwrap_or}
 use Rattle.std.specs.List.{AllByRecursion}
 use Rattle.std.proofs.Math.Seq.{get_or-set_other}
@@ -10,7 +17,10 @@ use Rattle.std.proofs.lemmas.Bool.{cases_eq}
 use Rattle.rv_machine.specs.declared.decoding.Decoded.{Decoded}
 use Rattle.rv_machine.specs.declared.ops.FloatFormat.{FloatFormat}
 use Rattle.rv_machine.specs.declared.ops.FloatFormat.TheVariants.{H, S, D}
-use Rattle.rv_machine.specs.State.{AreValues, reg, set_reg, wrap}
+use Rattle.rv_machine.specs.declared.ops.CsrOp.{CsrOp}
+use Rattle.rv_machine.specs.declared.ops.CsrOp.TheVariants.{Csrrw, Csrrs, Csrrc, Csrrwi, Csrrsi, Csrrci}
+use Rattle.rv_machine.specs.State.{AreValues, low64, set_reg, wrap}
+use Rattle.rv_inst.specs.SameValues.{Same}
 use Rattle.rv_machine.specs.Effects.{act}
 use Rattle.rv_machine.specs.Steps.{istep, step_on}
 use Rattle.rv_machine.proofs.UnitOperations.{same_step}
@@ -23,15 +33,16 @@ use Rattle.rv_full.specs.declared.shapes.Target.{Target}
 use Rattle.rv_full.specs.declared.shapes.Target.TheVariants as target
 use Rattle.rv_full.specs.declared.shapes.FloatShape.{FloatShape}
 use Rattle.rv_full.specs.declared.shapes.FloatShape.TheVariants.{Answered, ToInteger, ToFloat, Sign}
-use Rattle.rv_full.specs.Floats.{inputs_of, put_number, number_row, is_move, shape_row}
-use Rattle.rv_full.specs.Rows.{Row, Absent, Does, Takes, OneNumber, fits, bits_of, x_of, put_f, put_units, entry_of, noted}
+use Rattle.rv_full.specs.Atomics.{csr_result, csr_row}
+use Rattle.rv_full.specs.Floats.{boxed, extended, inputs_of, low_part, put_number, number_row, is_move, shape_row}
+use Rattle.rv_full.specs.Rows.{Row, Absent, Does, Takes, OneNumber, fits, bits_of, x_of, put_f, put_x, put_units, entry_of, noted}
 use Rattle.rv_full.specs.Steps.{Goes, Asks, Halts, fnext, next_by, row_next, unit_on}
 use Rattle.rv_full.specs.UnitRows.{unit_row}
-use Rattle.rv_full.specs.Units.{FullState, FullValues, Units, AreUnits, AnswerFits, freg, set_freg, values_of, full_at}
+use Rattle.rv_full.specs.Units.{FullState, FullValues, Units, AreUnits, AnswerFits, freg, set_freg, set_frm, values_of, full_at}
 use Rattle.rv_code.specs.Chains.{IsAt}
 use Rattle.rv_code.specs.FullValues.{SameFull}
 use Rattle.rv_code.specs.Sites.{Site, CodeHas}
-use Rattle.rv_code.specs.UnitRuns.{Agree, RowsAgree, RowGoes, RowAsks, IsUsableSource, IsUsableTarget, IsUsableShape}
+use Rattle.rv_code.specs.UnitRuns.{Agree, RowsAgree, RowGoes, RowAsks, IsUsableSource, IsUsableTarget, IsUsableShape, IsUsableCsr}
 use Rattle.rv_code.proofs.CodeSteps.{decodes_at, pc_in_code}
 use Rattle.rv_code.proofs.Registers.{same_set, are_values_set}
 
@@ -92,7 +103,33 @@ number_fits (Stored bs) fit h = absurd (cc)
 number_fits (Success b) fit h = absurd (cc)
 number_fits (Length n) fit h = absurd (cc)
 
--- ---- rows of float operations
+-- bits that are moved between the two files
+extended_fits : (width : Width) (n : ℕ) → T (leb (hbits width) (hbits w64)) → low64 (cast_signed width n) < 2 ^ 64
+extended_fits width n narrow = Fits-lt-pow {w = w64} (Fits-of_z (sfits_widen narrow (let e : FitsSigned width (cast_signed width n) = omega (arith, ints) in e)))
+
+extended_small : (format : FloatFormat) (n : ℕ) → n < 2 ^ 64 → extended format n < 2 ^ 64
+extended_small H n lt = extended_fits w16 (n % 2 ^ 16) tt
+extended_small S n lt = extended_fits w32 (n % 2 ^ 32) tt
+extended_small D n lt = lt
+
+boxed_small : (format : FloatFormat) (n : ℕ) → n < 2 ^ 64 → boxed format (low_part format n) < 2 ^ 64
+boxed_small H n lt = omega arith
+boxed_small S n lt = omega arith
+boxed_small D n lt = lt
+
+-- what goes to frm has three bits
+csr_small : (op : CsrOp) (old x imm : ℕ) → old < 8 → csr_result op old x imm < 8
+csr_small Csrrw old x imm lt = omega arith
+csr_small Csrrs old x imm lt = or_lt 3 old (x % 8) lt (omega arith)
+csr_small Csrrc old x imm lt = lt_of_le_of_lt (and_le_l old (7 - x % 8)) lt
+csr_small Csrrwi old x imm lt = omega arith
+csr_small Csrrsi old x imm lt = or_lt 3 old (imm % 8) lt (omega arith)
+csr_small Csrrci old x imm lt = lt_of_le_of_lt (and_le_l old (7 - imm % 8)) lt
+
+frm_set : (u : Units) (x : ℕ) → AreUnits u → x < 8 → AreUnits (set_frm u x)
+frm_set u x h lt = record { float_count = h.float_count; float_fits = h.float_fits; vector_count = h.vector_count; vector_fits = h.vector_fits; frm_fits = lt; reserved_fits = h.reserved_fits; avl_fits = h.avl_fits; vtype_fits = h.vtype_fits }
+
+-- ---- rows of float operations, and of those on frm
 
 module _ (d : Decoded) (v w : FullValues) (same : SameFull v w) (are_values : AreValues v.ints) (is_values : AreValues w.ints) (are_units : AreUnits w.units) where
   inputs_same : (from : Sources) → IsUsableSource from d → inputs_of from d v ≡ inputs_of from d w
@@ -146,8 +183,45 @@ module _ (d : Decoded) (v w : FullValues) (same : SameFull v w) (are_values : Ar
       }
       on false = number_agrees target.Float sources.Two tt low
 
+  -- a number that depends on the units alone is put into an integer register
+  put_same : (f : Units → ℕ) → ((u : Units) → AreUnits u → f u < 2 ^ 64) → d.rd < 30 → (t u : Units) → t ≡ u → AreUnits u → u.setting ≡ w.units.setting → Agree w (put_units t (put_x d (f v.units) v)) (put_units u (put_x d (f w.units) w))
+  put_same f small low t u equal h setting = record {
+    same = record { ints = subst (λ y. Same (set_reg v.ints d.rd (f v.units)) (set_reg w.ints d.rd y)) (ap f same.units) (same_set v.ints w.ints d.rd (f v.units) are_values is_values (omega arith) same.ints); units = equal };
+    mem = refl;
+    setting = setting;
+    are_values = are_values_set v.ints d.rd (f v.units) are_values (omega arith) (subst (λ n. n < 2 ^ 64) (sym (ap f same.units)) (small w.units are_units));
+    is_values = are_values_set w.ints d.rd (f w.units) is_values (omega arith) (small w.units are_units);
+    units = h;
+  }
+
+  -- moves of bits between the two files
+  to_integer_agrees : (format : FloatFormat) → d.rd < 30 → RowsAgree w (shape_row ToInteger format d v) (shape_row ToInteger format d w)
+  to_integer_agrees format low = put_same (λ u. extended format (freg u d.rs1)) (λ u h. extended_small format (freg u d.rs1) (h.float_fits d.rs1)) low v.units w.units same.units are_units refl
+
+  to_float_agrees : (format : FloatFormat) → d.rs1 < 30 → d.rd < 32 → RowsAgree w (shape_row ToFloat format d v) (shape_row ToFloat format d w)
+  to_float_agrees format from low = record {
+    same = record { ints = same.ints; units = λ i. set_freg (same.units i) d.rd (boxed format (low_part format (same.ints.regs d.rs1 from i))) };
+    mem = refl;
+    setting = refl;
+    are_values = are_values;
+    is_values = is_values;
+    units = float_set w.units d.rd (boxed format (low_part format (x_of d w))) are_units low (boxed_small format (x_of d w) (is_values.fits d.rs1));
+  }
+
+  -- frm gets the same of what is the same, and its old value goes to an integer register
+  frm_agrees : (op : CsrOp) → d.rd < 30 → csr_result op v.units.frm (x_of d v) d.rs1 ≡ csr_result op w.units.frm (x_of d w) d.rs1 → RowsAgree w (csr_row op d v) (csr_row op d w)
+  frm_agrees op low equal = put_same (λ u. u.frm) (λ u h. let f = h.frm_fits in omega arith) low (set_frm v.units (csr_result op v.units.frm (x_of d v) d.rs1)) (set_frm w.units (csr_result op w.units.frm (x_of d w) d.rs1)) (λ i. set_frm (same.units i) (equal i)) (frm_set w.units _ are_units (csr_small op w.units.frm (x_of d w) d.rs1 are_units.frm_fits)) refl
+
+  pub csr_agrees : (op : CsrOp) → IsUsableCsr op d → RowsAgree w (csr_row op d v) (csr_row op d w)
+  csr_agrees Csrrw usable = frm_agrees Csrrw usable.0 (λ i. csr_result Csrrw (same.units i).frm (same.ints.regs d.rs1 usable.1 i) d.rs1)
+  csr_agrees Csrrs usable = frm_agrees Csrrs usable.0 (λ i. csr_result Csrrs (same.units i).frm (same.ints.regs d.rs1 usable.1 i) d.rs1)
+  csr_agrees Csrrc usable = frm_agrees Csrrc usable.0 (λ i. csr_result Csrrc (same.units i).frm (same.ints.regs d.rs1 usable.1 i) d.rs1)
+  csr_agrees Csrrwi usable = frm_agrees Csrrwi usable.0 (λ i. csr_result Csrrwi (same.units i).frm 0 d.rs1)
+  csr_agrees Csrrsi usable = frm_agrees Csrrsi usable.0 (λ i. csr_result Csrrsi (same.units i).frm 0 d.rs1)
+  csr_agrees Csrrci usable = frm_agrees Csrrci usable.0 (λ i. csr_result Csrrci (same.units i).frm 0 d.rs1)
+
   pub shape_agrees : (shape : FloatShape) (format : FloatFormat) → IsUsableShape shape d → RowsAgree w (shape_row shape format d v) (shape_row shape format d w)
   shape_agrees (Answered from to) format usable = number_agrees to from usable.0 usable.1
-  shape_agrees ToInteger format usable = absurd usable
-  shape_agrees ToFloat format usable = absurd usable
+  shape_agrees ToInteger format usable = to_integer_agrees format usable
+  shape_agrees ToFloat format usable = to_float_agrees format usable.0 usable.1
   shape_agrees Sign format usable = sign_agrees format usable

@@ -1,6 +1,7 @@
 -- The parts of each instruction's code: links of the proof.
 use Rattle.std.specs.Prelude.{ℕ, ◌+◌, ◌*◌, ◌%◌, ◌^◌, ◌==◌, ◌&&◌, Bool, false, if◌then◌else◌, List, [], ◌∷◌, ◌++◌, map, length, Option, Some, None, ℤ, pos, true}
 use Rattle.std.specs.Int.{to_le_bytes, cast_signed, w32, w64}
+use Rattle.std.proofs.Common.{refl}
 use Rattle.rv_base.specs.declared.call.CallInfo.{CallInfo}
 use Rattle.rv_base.specs.declared.call.TryCallInfo.{TryCallInfo}
 use Rattle.rv_base.specs.declared.call.UserStackMap.{UserStackMap}
@@ -24,14 +25,15 @@ use Rattle.rv_inst.specs.Context.{Context}
 use Rattle.rv_inst.specs.Returns.{StackLoad, restores, frame_above, result_loads, loads_unless}
 use Rattle.rv_inst.specs.Records.{site_event}
 use Rattle.rv_inst.specs.Sizes.{table_space, fall, call_size, return_size, results_space}
+use Rattle.rv_inst.specs.UnitWords.{UnitWord, unit_of}
 use Rattle.rv_inst.specs.declared.inst.Inst.{Inst}
-use Rattle.rv_inst.specs.declared.inst.Inst.TheVariants.{Nop0, Nop4, EBreak, SequencePoint, Args, Rets, DummyUse, EmitIsland, RawData, Lui, Auipc, LoadInlineConst, AluRRR, AluRRImm12, Mov, MovFromPReg, Extend, Select, Load, Store, LoadAddr, LabelAddress, Ret, TrapIf, Jal, CondBr, BrTable, Udf, Jalr, Popcnt, Cltz, Brev8, StackProbeLoop, LoadExtNameGot, LoadExtNameNear, LoadExtNameFar, Call, CallInd, ReturnCall, ReturnCallInd, FpuRRR, Unwind}
+use Rattle.rv_inst.specs.declared.inst.Inst.TheVariants.{Nop0, Nop4, EBreak, SequencePoint, Args, Rets, DummyUse, EmitIsland, RawData, Lui, Auipc, LoadInlineConst, AluRRR, AluRRImm12, Mov, MovFromPReg, Extend, Select, Load, Store, LoadAddr, LabelAddress, Ret, TrapIf, Jal, CondBr, BrTable, Udf, Jalr, Popcnt, Cltz, Brev8, StackProbeLoop, LoadExtNameGot, LoadExtNameNear, LoadExtNameFar, Call, CallInd, ReturnCall, ReturnCallInd, Unwind}
 use Rattle.rv_inst.specs.declared.inst.CondBrTarget.{CondBrTarget}
 use Rattle.rv_inst.specs.declared.inst.CondBrTarget.TheVariants.{Label as ToLabel, Fallthrough}
 use Rattle.rv_inst.specs.declared.label_use.LabelUse.TheVariants.{Jal20, B12, PCRelHi20, PCRelLo12I}
 use Rattle.rv_machine.specs.declared.ops.MOp.TheVariants.{Base}
 use Rattle.rv_machine.specs.declared.ops.BaseOp.TheVariants as base
-use Rattle.rv_encode.specs.Operations.{decoded, decoded_branch, decoded_load, decoded_store, decoded_fpu_rrr}
+use Rattle.rv_encode.specs.Operations.{decoded, decoded_branch, decoded_load, decoded_store}
 use Rattle.rv_inst.specs.Forms.{jump_kind, short_rrr, short_rri, short_lui, short_jalr, short_ebreak, short_load, short_store}
 use Rattle.rv_machine.specs.State.{low64}
 use Rattle.rv_machine.specs.Arithmetic.{low_word}
@@ -255,6 +257,10 @@ abbrev pub call_parts : IsaFlags → (List Slot → List Slot) → List StackLoa
 call_parts flags call [] t = slots_alone (call (try_slots flags t))
 call_parts flags call (l ∷ loads) t = loading_parts flags call (l ∷ loads) t
 
+-- a word of a unit, after the record of its trap where it may trap
+abbrev pub unit_parts : UnitWord → List Part
+unit_parts w = slots_alone (access_slots w.trap ++ Op w.operation ∷ [])
+
 -- by the context, and the vector unit's setting known before the instruction
 abbrev pub parts_of : Context → EmitVState → Inst → List Part
 parts_of context setting Nop0 = []
@@ -297,5 +303,5 @@ parts_of context setting (Call info) = call_parts context.flags (call_slots cont
 parts_of context setting (CallInd info) = call_parts context.flags (call_ind_slots context.flags context.frame info) (result_loads info.defs) info.try_call_info
 parts_of context setting (ReturnCall info) = Ask (return_size context.flags context.frame info.new_stack_arg_size + 8) ∷ Slots (tail_slots context.flags context.frame info.new_stack_arg_size info.dest) ∷ []
 parts_of context setting (ReturnCallInd info) = Ask (return_size context.flags context.frame info.new_stack_arg_size + 4) ∷ Slots (t0_slots context.flags context.frame info.new_stack_arg_size) ∷ []
-parts_of context setting (FpuRRR op width frm rd rs1 rs2) = slots_alone (Op (decoded_fpu_rrr op width frm (number_of rd.reg) (number_of rs1) (number_of rs2)) ∷ [])
 parts_of context setting (Unwind inst) = slots_alone (Notes (event.Unwind inst) ∷ [])
+parts_of context setting inst = unit_parts (unit_of inst refl)

@@ -1,7 +1,13 @@
 -- How many labels of its own each instruction allocates.
 use Rattle.std.specs.Prelude.{ℕ}
+use Rattle.std.proofs.Common.{refl}
+use Rattle.rv_inst.specs.UnitWords.{UnitWord, unit_of}
 use Rattle.rv_inst.specs.declared.inst.Inst.{Inst}
-use Rattle.rv_inst.specs.declared.inst.Inst.TheVariants.{Nop0, Nop4, EBreak, SequencePoint, Args, Rets, DummyUse, Unwind, EmitIsland, RawData, Lui, Auipc, LoadInlineConst, AluRRR, AluRRImm12, Mov, MovFromPReg, Extend, Select, Load, Store, LoadAddr, LabelAddress, Ret, TrapIf, Jal, CondBr, BrTable, Udf, Jalr, Popcnt, Cltz, Brev8, StackProbeLoop, LoadExtNameGot, LoadExtNameNear, LoadExtNameFar, Call, CallInd, ReturnCall, ReturnCallInd, FpuRRR}
+use Rattle.rv_inst.specs.declared.inst.Inst.TheVariants.{Nop0, Nop4, EBreak, SequencePoint, Args, Rets, DummyUse, Unwind, EmitIsland, RawData, Lui, Auipc, LoadInlineConst, AluRRR, AluRRImm12, Mov, MovFromPReg, Extend, Select, Load, Store, LoadAddr, LabelAddress, Ret, TrapIf, Jal, CondBr, BrTable, Udf, Jalr, Popcnt, Cltz, Brev8, StackProbeLoop, LoadExtNameGot, LoadExtNameNear, LoadExtNameFar, Call, CallInd, ReturnCall, ReturnCallInd}
+
+-- a word of a unit goes nowhere
+abbrev pub unit_own_count : UnitWord → ℕ
+unit_own_count w = 0
 
 -- each is bound in the instruction's own code
 abbrev pub own_count : Inst → ℕ
@@ -46,4 +52,4 @@ own_count (Call info) = 0
 own_count (CallInd info) = 0
 own_count (ReturnCall info) = 0
 own_count (ReturnCallInd info) = 0
-own_count (FpuRRR op width frm rd rs1 rs2) = 0
+own_count inst = unit_own_count (unit_of inst refl)

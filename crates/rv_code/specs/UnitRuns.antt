@@ -1,10 +1,14 @@
 -- What it is for a unit's operation to do the same on the machine and on values of the listing: links of the proof.
-use Rattle.std.specs.Prelude.{◌≡◌, ℕ, ◌<◌, true, List, [], ◌++◌, Some}
+use Rattle.std.specs.Prelude.{◌≡◌, ℕ, ◌<◌, true, List, [], ◌∷◌, ◌++◌, Some}
 use Rattle.std.specs.List.{AllByRecursion}
 use Rattle.rv_base.specs.declared.regs.RegClass.{RegClass}
 use Rattle.rv_base.specs.declared.regs.RegClass.TheVariants.{Int, Float, Vector}
+use Rattle.rv_base.specs.Regs.{number_of}
 use Rattle.rv_machine.specs.declared.decoding.Decoded.{Decoded}
+use Rattle.rv_machine.specs.declared.ops.CsrOp.{CsrOp}
+use Rattle.rv_machine.specs.declared.ops.CsrOp.TheVariants.{Csrrw, Csrrs, Csrrc, Csrrwi, Csrrsi, Csrrci}
 use Rattle.rv_machine.specs.State.{AreValues}
+use Rattle.rv_inst.specs.declared.units.PlacedReg.{PlacedReg}
 use Rattle.rv_full.specs.declared.answer.Answer.{Answer}
 use Rattle.rv_full.specs.declared.shapes.Sources.{Sources}
 use Rattle.rv_full.specs.declared.shapes.Sources.TheVariants as sources
@@ -50,11 +54,11 @@ abbrev pub IsUsableTarget : Target → Decoded → Type 0
 IsUsableTarget target.Integer d = d.rd < 30
 IsUsableTarget target.Float d = d.rd < 32
 
--- of a shape that takes an answer, or a sign's; those that move a register between two files are neither
+-- of each shape: one that takes an answer, a move between the two files, or a sign's
 abbrev pub IsUsableShape : FloatShape → Decoded → Type 0
 IsUsableShape (Answered from to) d = IsUsableSource from d × IsUsableTarget to d
-IsUsableShape ToInteger d = ⊥
-IsUsableShape ToFloat d = ⊥
+IsUsableShape ToInteger d = d.rd < 30
+IsUsableShape ToFloat d = (d.rs1 < 30) × (d.rd < 32)
 IsUsableShape Sign d = d.rd < 32
 
 -- a register of a class, by its number: an integer register is below x30
@@ -62,6 +66,20 @@ abbrev pub IsUsableIn : RegClass → ℕ → Type 0
 IsUsableIn Int n = n < 30
 IsUsableIn Float n = n < 32
 IsUsableIn Vector n = n < 32
+
+-- the registers of an instruction, in their places
+abbrev pub AreUsableIn : List PlacedReg → Type 0
+AreUsableIn [] = Unit {0}
+AreUsableIn (p ∷ places) = IsUsableIn p.class (number_of p.reg) × AreUsableIn places
+
+-- an operation on a control register writes an integer register, and reads one or takes an immediate
+abbrev pub IsUsableCsr : CsrOp → Decoded → Type 0
+IsUsableCsr Csrrw d = (d.rd < 30) × (d.rs1 < 30)
+IsUsableCsr Csrrs d = (d.rd < 30) × (d.rs1 < 30)
+IsUsableCsr Csrrc d = (d.rd < 30) × (d.rs1 < 30)
+IsUsableCsr Csrrwi d = (d.rd < 30) × Unit {0}
+IsUsableCsr Csrrsi d = (d.rd < 30) × Unit {0}
+IsUsableCsr Csrrci d = (d.rd < 30) × Unit {0}
 
 -- With the answers that are left the machine goes on to an address, with values that agree with those that the listing's row gives with the
 -- answers that were taken.

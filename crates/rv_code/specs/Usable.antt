@@ -1,5 +1,6 @@
 -- What the words of an instruction ask of its registers, labels and numbers.
 use Rattle.std.specs.Prelude.{◌≡◌, ◌≢◌, ◌⊎◌, ◌<◌, ◌≤◌, true, List, [], ◌∷◌, length, Option, Some, None, IsSome}
+use Rattle.std.proofs.Common.{refl}
 use Rattle.rv_base.specs.declared.amode.AMode.{AMode}
 use Rattle.rv_base.specs.declared.call.CallRetPair.{CallRetPair}
 use Rattle.rv_base.specs.declared.call.RetLocation.{RetLocation}
@@ -10,20 +11,20 @@ use Rattle.rv_base.specs.declared.amode.AMode.TheVariants.{RegOffset, SPOffset, 
 use Rattle.rv_base.specs.AMode.{IsNear, base_of}
 use Rattle.rv_base.specs.declared.regs.PReg.{PReg}
 use Rattle.rv_base.specs.declared.regs.Reg.{Reg}
-use Rattle.rv_base.specs.Regs.{number_of}
+use Rattle.rv_base.specs.Regs.{class_of, number_of}
 use Rattle.rv_base.specs.declared.regs.Reg.TheVariants.{Real}
 use Rattle.rv_base.specs.declared.regs.Writable.{Writable}
 use Rattle.rv_base.specs.declared.value_regs.ValueRegs.{ValueRegs}
 use Rattle.rv_base.specs.ValueRegs.{count_of}
 use Rattle.rv_base.specs.declared.label.MachLabel.{MachLabel}
 use Rattle.mach_labels.specs.Table.{first_inner}
-use Rattle.rv_ops.specs.FloatFields.{is_width, takes_frm}
-use Rattle.rv_ops.specs.Fpu.{fpu_rrr_numbers}
 use Rattle.rv_ops.specs.Memory.{load_of}
 use Rattle.rv_ops.specs.declared.compare.IntegerCompare.{IntegerCompare}
 use Rattle.rv_encode.specs.Registers.{IsIntRegister, IsRealRegister}
+use Rattle.rv_inst.specs.UnitWords.{UnitWord, registers_in, unit_of}
+use Rattle.rv_inst.specs.declared.units.PlacedReg.{PlacedReg}
 use Rattle.rv_inst.specs.declared.inst.Inst.{Inst}
-use Rattle.rv_inst.specs.declared.inst.Inst.TheVariants.{Nop0, Nop4, EBreak, SequencePoint, Args, Rets, DummyUse, EmitIsland, RawData, Lui, Auipc, LoadInlineConst, AluRRR, AluRRImm12, Mov, MovFromPReg, Extend, Select, Load, Store, LoadAddr, LabelAddress, Ret, TrapIf, Jal, CondBr, BrTable, Udf, Jalr, Popcnt, Cltz, Brev8, StackProbeLoop, LoadExtNameGot, LoadExtNameNear, LoadExtNameFar, Call, CallInd, ReturnCall, ReturnCallInd, FpuRRR, Unwind}
+use Rattle.rv_inst.specs.declared.inst.Inst.TheVariants.{Nop0, Nop4, EBreak, SequencePoint, Args, Rets, DummyUse, EmitIsland, RawData, Lui, Auipc, LoadInlineConst, AluRRR, AluRRImm12, Mov, MovFromPReg, Extend, Select, Load, Store, LoadAddr, LabelAddress, Ret, TrapIf, Jal, CondBr, BrTable, Udf, Jalr, Popcnt, Cltz, Brev8, StackProbeLoop, LoadExtNameGot, LoadExtNameNear, LoadExtNameFar, Call, CallInd, ReturnCall, ReturnCallInd, Unwind}
 use Rattle.rv_inst.specs.Operands.{all_of, written_in}
 use Rattle.rv_inst.specs.Rules.{is_int_type}
 use Rattle.rv_inst.specs.declared.inst.CondBrTarget.{CondBrTarget}
@@ -98,6 +99,18 @@ pub record IsFineChoice (to : ValueRegs (Writable Reg)) (condition : IntegerComp
   pub x_count : count_of to ≡ count_of first
   pub y_count : count_of to ≡ count_of second
 
+-- of a word of a unit: registers of the machine, each of the class that its place asks, and fields that its operation takes
+abbrev pub AreReal : List Reg → Type 0
+AreReal [] = Unit {0}
+AreReal (r ∷ rs) = IsRealRegister r × AreReal rs
+
+abbrev pub AreOfClass : List PlacedReg → Type 0
+AreOfClass [] = Unit {0}
+AreOfClass (p ∷ places) = (class_of p.reg ≡ p.class) × AreOfClass places
+
+abbrev pub IsFineUnit : UnitWord → Type 0
+IsFineUnit w = AreReal (registers_in w.places) × AreOfClass w.places × (w.rounding ≡ true) × (w.width ≡ true)
+
 -- among these constants
 abbrev pub IsFine : List Constant → Inst → Type 0
 IsFine constants Nop0 = Unit {0}
@@ -140,5 +153,5 @@ IsFine constants (Call info) = IsFineTry info.try_call_info × AreFineResults in
 IsFine constants (CallInd info) = IsIntRegister info.dest × IsFineTry info.try_call_info × AreFineResults info.defs
 IsFine constants (ReturnCall info) = Unit {0}
 IsFine constants (ReturnCallInd info) = IsIntRegister info.dest × (number_of info.dest ≡ 5)
-IsFine constants (FpuRRR op width frm rd rs1 rs2) = IsRealRegister rd.reg × IsRealRegister rs1 × IsRealRegister rs2 × (takes_frm (fpu_rrr_numbers op).rounding frm ≡ true) × (is_width width ≡ true)
 IsFine constants (Unwind inst) = Unit {0}
+IsFine constants inst = IsFineUnit (unit_of inst refl)

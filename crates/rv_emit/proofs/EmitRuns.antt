@@ -1,5 +1,5 @@
 -- What was put runs wherever it stands in finished code, and leaves a buffer into which more can be put.
-use Rattle.std.proofs.Common.{◌≡◌, ℕ, ◌+◌, ◌%◌, ◌<◌, ◌≤◌, Bool, false, List, [], length, Option, Some, None, refl, ap, sym, ◌∙◌, subst, arith}
+use Rattle.std.proofs.Common.{◌≡◌, ℕ, ◌%◌, ◌<◌, ◌≤◌, Bool, false, List, [], length, Option, Some, None, refl, ap, sym, ◌∙◌, subst, arith}
 use Rattle.std.specs.Prelude.{slice_get}
 use Rattle.rv_base.specs.Flags.{no_flags}
 use Rattle.rv_base.specs.declared.flags.IsaFlags.{IsaFlags}

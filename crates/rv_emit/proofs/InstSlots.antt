@@ -1,7 +1,9 @@
 -- What an instruction adds to a buffer, and that its parts are self-contained.
-use Rattle.std.proofs.Common.{◌≡◌, ◌⊎◌, inl, inr, ℕ, ◌+◌, ◌%◌, Bool, true, false, nat_eq, List, [], ◌∷◌, length, None, pos, refl, ap, sym, ◌∙◌, arith}
+use Rattle.std.proofs.Common.{◌≡◌, ◌⊎◌, inl, inr, ℕ, ◌+◌, ◌%◌, Bool, true, false, nat_eq, List, [], ◌∷◌, ◌++◌, length, Option, Some, None, pos, refl, ap, sym, ◌∙◌, arith}
 use Rattle.std.specs.Prelude.{if◌then◌else◌, ◌^◌}
 use Rattle.rv_base.specs.Regs.{number_of}
+use Rattle.rv_base.specs.declared.trap.TrapCode.{TrapCode}
+use Rattle.rv_inst.specs.Records.{access_records}
 use Rattle.rv_base.specs.declared.ir_type.IrType.{IrType}
 use Rattle.rv_base.specs.declared.ir_type.IrType.TheVariants.{I32, I64}
 use Rattle.rv_base.specs.declared.regs.Reg.{Reg}
@@ -16,8 +18,9 @@ use Rattle.rv_ops.specs.declared.compare.IntegerCompare.{IntegerCompare}
 use Rattle.rv_inst.specs.Context.{Context}
 use Rattle.rv_machine.specs.Arithmetic.{low_word}
 use Rattle.rv_inst.specs.Rules.{is_word_type, inst_rule}
+use Rattle.rv_inst.specs.UnitWords.{UnitWord, unit_of}
 use Rattle.rv_inst.specs.declared.inst.Inst.{Inst}
-use Rattle.rv_inst.specs.declared.inst.Inst.TheVariants.{Nop0, Nop4, EBreak, SequencePoint, Args, Rets, DummyUse, EmitIsland, RawData, Lui, Auipc, LoadInlineConst, AluRRR, AluRRImm12, Mov, MovFromPReg, Extend, Select, Load, Store, LoadAddr, LabelAddress, Ret, TrapIf, Jal, CondBr, BrTable, Udf, Jalr, Popcnt, Cltz, Brev8, StackProbeLoop, LoadExtNameGot, LoadExtNameNear, LoadExtNameFar, Call, CallInd, ReturnCall, ReturnCallInd, FpuRRR, Unwind}
+use Rattle.rv_inst.specs.declared.inst.Inst.TheVariants.{Nop0, Nop4, EBreak, SequencePoint, Args, Rets, DummyUse, EmitIsland, RawData, Lui, Auipc, LoadInlineConst, AluRRR, AluRRImm12, Mov, MovFromPReg, Extend, Select, Load, Store, LoadAddr, LabelAddress, Ret, TrapIf, Jal, CondBr, BrTable, Udf, Jalr, Popcnt, Cltz, Brev8, StackProbeLoop, LoadExtNameGot, LoadExtNameNear, LoadExtNameFar, Call, CallInd, ReturnCall, ReturnCallInd, Unwind}
 use Rattle.rv_inst.specs.declared.inst.CondBrTarget.{CondBrTarget}
 use Rattle.rv_inst.specs.declared.inst.CondBrTarget.TheVariants.{Label as ToLabel, Fallthrough}
 use Rattle.rv_inst.specs.Sizes.{Words, extent_of, island_space, move_size, inst_records}
@@ -31,7 +34,7 @@ use Rattle.rv_inst.specs.Forms.{jump_kind, short_rrr, short_rri, short_lui, shor
 use Rattle.rv_inst.specs.LabelUse.{marks_of}
 use Rattle.rv_emit.specs.Emitted.{Buffer, IsSoundBuffer, AppendsInst, IslandIfNeeded}
 use Rattle.rv_code.specs.Slots.{Label, Op, Data, AreSelfContained, PartsAreSelfContained}
-use Rattle.rv_code.specs.InstParts.{branch_slots, jump_to, inline_slots, constant_slots, parts_of}
+use Rattle.rv_code.specs.InstParts.{access_slots, branch_slots, jump_to, inline_slots, constant_slots, parts_of}
 use Rattle.rv_code.specs.declared.state.EmitVState.TheVariants.{Unknown}
 use Rattle.rv_emit.specs.Emission.{EmitsIn, Emits}
 use Rattle.rv_code.proofs.AddressRuns.{inline_size}
@@ -71,6 +74,17 @@ constants : (context : Context) (rd : Writable Reg) (type : IrType) (imm : ℕ) 
 constants context rd I32 imm word = record { plain = tt; long = let e = inline_size context.flags (number_of rd.reg) 4 loads.Lw (to_le_bytes w32 (imm % 2 ^ 32)) refl in ap Words (sym e); uses = λ allocated start. refl; records = λ start. refl; names = λ named. refl }
 constants context rd I64 imm word = record { plain = tt; long = let e = inline_size context.flags (number_of rd.reg) 8 loads.Ld (to_le_bytes w64 imm) refl in ap Words (sym e); uses = λ allocated start. refl; records = λ start. refl; names = λ named. refl }
 constants context rd _ imm word = absurd (cc)
+
+-- a word of a unit, after the record of its trap where it may trap
+unit_summed : (context : Context) (inst : Inst) (w : UnitWord) → extent_of context inst ≡ Words w.operation.len → ((start end : ℕ) → [] ≡ uses_in context start end inst) → ((start end : ℕ) → access_records start w.trap ≡ inst_records context start end inst) → ((named : List VCodeConstant) → named ≡ named_by (inst_constant inst) named) → IsSummed context inst (access_slots w.trap ++ Op w.operation ∷ [])
+unit_summed context inst w long uses records names = on w.trap records
+  where
+    words : extent_of context inst ≡ Words (w.operation.len + 0)
+    words = long ∙ (let e : w.operation.len ≡ w.operation.len + 0 = omega arith in ap Words e)
+
+    on : (trap : Option TrapCode) → ((start end : ℕ) → access_records start trap ≡ inst_records context start end inst) → IsSummed context inst (access_slots trap ++ Op w.operation ∷ [])
+    on None records = record { plain = tt; long = words; uses = λ allocated start. uses start (start + (w.operation.len + 0)); records = λ start. records start (start + (w.operation.len + 0)); names = names }
+    on (Some code) records = record { plain = tt; long = long ∙ (let e : w.operation.len ≡ 0 + (w.operation.len + 0) = omega arith in ap Words e); uses = λ allocated start. uses start _; records = λ start. records start _; names = names }
 
 -- what an instruction that asks for no island adds
 pub appends_inst : (context : Context) (setting : EmitVState) (inst : Inst) (old new : Buffer) → inst_rule context inst ≡ None → IsSoundBuffer old → island_space context inst ≡ None → EmitsIn context setting inst old new → AppendsInst context inst old new
@@ -112,10 +126,10 @@ appends_inst context setting (LoadExtNameNear rd name offset) old new rule s ask
 appends_inst context setting (LoadExtNameFar rd name offset) old new rule s asks p = summed context (LoadExtNameFar rd name offset) _ old new refl (far_summed context rd name offset) context.flags p
 appends_inst context setting (Call info) old new rule s asks p = words_alone context (extent_of context (Call info)) (Call info) old new asks (call_appends context info old new p)
 appends_inst context setting (CallInd info) old new rule s asks p = words_alone context (extent_of context (CallInd info)) (CallInd info) old new asks (call_ind_appends context info old new p)
-appends_inst context setting (FpuRRR op width frm rd rs1 rs2) old new rule s asks p = summed context (FpuRRR op width frm rd rs1 rs2) _ old new refl (one context (FpuRRR op width frm rd rs1 rs2) _ refl (λ start end. refl) (λ start end. refl) (λ named. refl)) context.flags p
 appends_inst context setting (ReturnCall info) old new rule s asks p = absurd (cc)
 appends_inst context setting (ReturnCallInd info) old new rule s asks p = absurd (cc)
 appends_inst context setting (Unwind inst) old new rule s asks p = summed context (Unwind inst) _ old new refl (unwind_summed context inst) context.flags p
+appends_inst context setting inst old new rule s asks p = summed context inst _ old new refl (unit_summed context inst (unit_of inst refl) refl (λ start end. refl) (λ start end. refl) (λ named. refl)) context.flags p
 
 pub inst_appends : (context : Context) (inst : Inst) (old new : Buffer) → inst_rule context inst ≡ None → IsSoundBuffer old → island_space context inst ≡ None → Emits context inst old new → AppendsInst context inst old new
 inst_appends context inst old new rule s asks p = appends_inst context Unknown inst old new rule s asks (p Unknown)
@@ -146,6 +160,16 @@ constant_contained : (flags : IsaFlags) (rd : ℕ) (type : IrType) (imm : ℕ) �
 constant_contained flags rd I32 imm word = inline_contained flags rd loads.Lw 4 (to_le_bytes w32 (imm % 2 ^ 32)) refl
 constant_contained flags rd I64 imm word = inline_contained flags rd loads.Ld 8 (to_le_bytes w64 imm) refl
 constant_contained flags rd _ imm word = absurd (cc)
+
+unit_contained : (w : UnitWord) → w.operation.len ≡ 4 → AreSelfContained (access_slots w.trap ++ Op w.operation ∷ [])
+unit_contained w long = on w.trap
+  where
+    even : w.operation.len % 2 ≡ 0
+    even = omega arith
+
+    on : (trap : Option TrapCode) → AreSelfContained (access_slots trap ++ Op w.operation ∷ [])
+    on None = (even, tt)
+    on (Some code) = (even, tt)
 
 -- each part of an instruction is self-contained
 pub parts_are_self_contained : (context : Context) (setting : EmitVState) (inst : Inst) → inst_rule context inst ≡ None → PartsAreSelfContained (parts_of context setting inst)
@@ -189,5 +213,5 @@ parts_are_self_contained context setting (Call info) rule = call_blocks context 
 parts_are_self_contained context setting (CallInd info) rule = call_ind_blocks context info
 parts_are_self_contained context setting (ReturnCall info) rule = (tail_contained context.flags context.frame info.new_stack_arg_size info.dest, tt)
 parts_are_self_contained context setting (ReturnCallInd info) rule = (t0_contained context.flags context.frame info.new_stack_arg_size, tt)
-parts_are_self_contained context setting (FpuRRR op width frm rd rs1 rs2) rule = ((refl, tt), tt)
 parts_are_self_contained context setting (Unwind inst) rule = (tt, tt)
+parts_are_self_contained context setting inst rule = (unit_contained (unit_of inst refl) refl, tt)

@@ -37,7 +37,7 @@ use Rattle.rv_inst.specs.Sizes.{space_in, extra_in, words_in, extent_of, island_
 use Rattle.rv_inst.specs.declared.inst.CondBrTarget.{CondBrTarget}
 use Rattle.rv_inst.specs.declared.inst.CondBrTarget.TheVariants.{Label, Fallthrough}
 use Rattle.rv_inst.specs.declared.inst.Inst.{Inst}
-use Rattle.rv_inst.specs.declared.inst.Inst.TheVariants.{Nop0, Nop4, EBreak, SequencePoint, Args, Rets, DummyUse, EmitIsland, RawData, Lui, Auipc, LoadInlineConst, AluRRR, AluRRImm12, Mov, MovFromPReg, Extend, Select, Load, Store, LoadAddr, LabelAddress, Ret, TrapIf, Jal, CondBr, BrTable, Udf, Jalr, Popcnt, Cltz, Brev8, StackProbeLoop, LoadExtNameGot, LoadExtNameNear, LoadExtNameFar, Call, CallInd, ReturnCall, ReturnCallInd, FpuRRR, Unwind}
+use Rattle.rv_inst.specs.declared.inst.Inst.TheVariants.{Nop0, Nop4, EBreak, SequencePoint, Args, Rets, DummyUse, EmitIsland, RawData, Lui, Auipc, LoadInlineConst, AluRRR, AluRRImm12, Mov, MovFromPReg, Extend, Select, Load, Store, LoadAddr, LabelAddress, Ret, TrapIf, Jal, CondBr, BrTable, Udf, Jalr, Popcnt, Cltz, Brev8, StackProbeLoop, LoadExtNameGot, LoadExtNameNear, LoadExtNameFar, Call, CallInd, ReturnCall, ReturnCallInd, Unwind}
 use Rattle.rv_emit.proofs.CallSlots.{try_few}
 use Rattle.rv_code.proofs.ChoicePieces.{mov_made, mov_from_preg_made, extend_made, select_made}
 use Rattle.rv_code.proofs.FineOperands.{fine}
@@ -211,7 +211,7 @@ words_within context (Call info) rule small = call_words context.flags 8 8 info.
 words_within context (CallInd info) rule small = call_words context.flags 4 (short_jalr context.flags 1 (number_of info.dest) (pos 0)).len info.callee_pop_size (result_loads info.defs) info.try_call_info (jalr_sized context.flags 1 (number_of info.dest) (pos 0)).few
 words_within context (ReturnCall info) rule small = let short = return_short context.flags context.frame info.new_stack_arg_size in omega arith
 words_within context (ReturnCallInd info) rule small = let short = return_short context.flags context.frame info.new_stack_arg_size in let few = (jalr_sized context.flags 0 5 (pos 0)).few in omega arith
-words_within context (FpuRRR op width frm rd rs1 rs2) rule small = lit≤ tt
+words_within context inst rule small = lit≤ tt
 
 -- where it asks for no island, no kind has more than so many
 pub most_in_sequence : (context : Context) (inst : Inst) → island_space context inst ≡ None → most_bytes context inst ≤ sequence_limit

@@ -1,6 +1,7 @@
 -- What emission knows of the vector unit's setting after an instruction. Nothing is known where a new basic block begins, and after
 -- code in which a `jalr` stands, or a `jal` of four bytes, that over an island among them; other code leaves what was known.
 use Rattle.std.specs.Prelude.{Bool, true, false, not, ◌&&◌, length}
+use Rattle.std.proofs.Common.{refl}
 use Rattle.rv_base.specs.declared.flags.IsaFlags.{IsaFlags}
 use Rattle.mach_buffer.specs.Buffer.{bytes_of}
 use Rattle.mach_uses.specs.Reach.{is_needed}
@@ -8,8 +9,9 @@ use Rattle.rv_inst.specs.Addresses.{Location, Based, AtLabel, AtConstant, locati
 use Rattle.rv_inst.specs.Context.{Context}
 use Rattle.rv_inst.specs.declared.inst.CondBrTarget.{CondBrTarget}
 use Rattle.rv_inst.specs.declared.inst.CondBrTarget.TheVariants.{Label, Fallthrough}
+use Rattle.rv_inst.specs.UnitWords.{UnitWord, unit_of}
 use Rattle.rv_inst.specs.declared.inst.Inst.{Inst}
-use Rattle.rv_inst.specs.declared.inst.Inst.TheVariants.{Nop0, Nop4, EBreak, SequencePoint, Args, Rets, DummyUse, EmitIsland, RawData, Lui, Auipc, LoadInlineConst, AluRRR, AluRRImm12, Mov, MovFromPReg, Extend, Select, Load, Store, LoadAddr, LabelAddress, Ret, TrapIf, Jal, CondBr, BrTable, Udf, Jalr, Popcnt, Cltz, Brev8, StackProbeLoop, LoadExtNameGot, LoadExtNameNear, LoadExtNameFar, Call, CallInd, ReturnCall, ReturnCallInd, FpuRRR, Unwind}
+use Rattle.rv_inst.specs.declared.inst.Inst.TheVariants.{Nop0, Nop4, EBreak, SequencePoint, Args, Rets, DummyUse, EmitIsland, RawData, Lui, Auipc, LoadInlineConst, AluRRR, AluRRImm12, Mov, MovFromPReg, Extend, Select, Load, Store, LoadAddr, LabelAddress, Ret, TrapIf, Jal, CondBr, BrTable, Udf, Jalr, Popcnt, Cltz, Brev8, StackProbeLoop, LoadExtNameGot, LoadExtNameNear, LoadExtNameFar, Call, CallInd, ReturnCall, ReturnCallInd, Unwind}
 use Rattle.rv_emit.specs.Emitted.{Buffer, pending}
 use Rattle.rv_code.specs.declared.state.EmitVState.{EmitVState}
 use Rattle.rv_code.specs.declared.state.EmitVState.TheVariants.{Unknown}
@@ -34,6 +36,10 @@ abbrev pub jumps : CondBrTarget → CondBrTarget → Bool
 jumps Fallthrough not_taken = false
 jumps (Label t) Fallthrough = false
 jumps (Label t) (Label f) = true
+
+-- a word of a unit leaves it
+abbrev pub unit_setting : UnitWord → EmitVState → EmitVState
+unit_setting w setting = setting
 
 -- by the buffer and the setting known before an instruction, that known after it
 abbrev pub setting_after : Context → Buffer → Inst → EmitVState → EmitVState
@@ -77,5 +83,5 @@ setting_after context b (Call info) setting = Unknown
 setting_after context b (CallInd info) setting = Unknown
 setting_after context b (ReturnCall info) setting = Unknown
 setting_after context b (ReturnCallInd info) setting = Unknown
-setting_after context b (FpuRRR op width frm rd rs1 rs2) setting = setting
 setting_after context b (Unwind inst) setting = setting
+setting_after context b inst setting = unit_setting (unit_of inst refl) setting

@@ -24,6 +24,7 @@ mod stack;
 mod state;
 mod symbols;
 mod table;
+mod units;
 
 pub use emit::MachInstEmit;
 pub use island::emit_island_if_needed;

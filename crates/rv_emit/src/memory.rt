@@ -423,8 +423,11 @@ fn put_upper(
     Ok(())
 }
 
-/// The record of an access's trap, where it may trap.
-fn put_access(sink: &mut MachBuffer<LabelUse>, trap: Option<TrapCode>) -> Result<(), OutOfMemory>
+/// The record of the trap of an access, or of a unit's operation, where it may trap.
+pub(crate) fn put_access(
+    sink: &mut MachBuffer<LabelUse>,
+    trap: Option<TrapCode>,
+) -> Result<(), OutOfMemory>
     requires sound { IsSoundBuffer sink.old }
     ensures slots { OnOk result ((flags : IsaFlags) → PutsAlone flags (access_slots trap) sink.old sink.new) }
     ensures refused { OnErr result (spoiled_of sink.new ≡ true) }

@@ -32,7 +32,7 @@ ghost use Rattle.rv_inst.specs.MostBytes.{sequence_limit};
 ghost use Rattle.rv_inst.specs.Sizes.{island_space};
 ghost use Rattle.rv_inst.specs.Uses.{use_at};
 ghost use Rattle.rv_inst.specs.Families.{family_of};
-ghost use Rattle.rv_inst.specs.declared.inst.Family.TheVariants.{Pseudo, Integer, Memory, Control, Loop, Symbols, Calls, Float};
+ghost use Rattle.rv_inst.specs.declared.inst.Family.TheVariants.{Pseudo, Integer, Memory, Control, Loop, Symbols, Calls};
 
 use crate::calls::{put_call, put_call_ind};
 use crate::choices::{put_extend, put_select};
@@ -44,14 +44,13 @@ use crate::probes::put_probe_loop;
 use crate::reverse::put_reverse;
 use crate::shortest::{put_ebreak, put_jalr, put_lui, put_rri, put_rrr};
 use crate::symbols::{put_far_symbol, put_near_symbol, put_slot_load, put_unwind};
+use crate::units::put_unit;
 use mach_buffer::MachBuffer;
 use rv_base::{
     FrameLayout, IsaFlags, MachLabel, OutOfMemory, Reg, UserStackMap, WritableReg, link_reg,
     writable_zero_reg, zero_reg,
 };
-use rv_encode::{
-    enc_auipc, encode_alu_rr_imm12, encode_branch, encode_cj_type, encode_fp_rrr, encode_jal,
-};
+use rv_encode::{enc_auipc, encode_alu_rr_imm12, encode_branch, encode_cj_type, encode_jal};
 use rv_imms::Imm12;
 use rv_inst::{CondBrTarget, Family, Inst, LabelUse};
 use rv_ops::{AluOPRRI, CjOp, IntegerCompare};
@@ -80,7 +79,7 @@ pub(crate) fn put_sequence(
         Family::Loop => put_loop(sink, flags, inst),
         Family::Symbols => put_symbol(sink, flags, inst),
         Family::Calls => put_calls(sink, flags, frame, inst, stack_map),
-        Family::Float => put_float(sink, inst),
+        Family::Float => put_unit(sink, inst),
     }
 }
 
@@ -317,27 +316,6 @@ fn put_symbol(
         Inst::LoadExtNameFar { rd, name, offset } => {
             put_far_symbol(sink, flags, *rd, *name, *offset)
         }
-        _ => Ok(()),
-    }
-}
-
-/// One word each, whatever the flags are.
-fn put_float(sink: &mut MachBuffer<LabelUse>, inst: &Inst) -> Result<(), OutOfMemory>
-    requires fine { IsFine (registered_of sink.old) inst.now }
-    requires room { length (bytes_of sink.old) + sequence_limit < code_limit }
-    requires sound { IsSoundBuffer sink.old }
-    ensures parts { family_of inst.now ≡ Float → (flags : IsaFlags) → OnOk result (EmitsAnyhow flags inst.now sink.old sink.new) }
-    ensures refused { OnErr result (spoiled_of sink.new ≡ true) }
-{
-    match inst {
-        Inst::FpuRRR {
-            alu_op,
-            width,
-            frm,
-            rd,
-            rs1,
-            rs2,
-        } => put_word(sink, encode_fp_rrr(*alu_op, *width, *frm, *rd, *rs1, *rs2)),
         _ => Ok(()),
     }
 }

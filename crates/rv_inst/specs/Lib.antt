@@ -1,3 +1,4 @@
+pub mod UnitWords
 pub mod Families
 pub mod Core
 pub mod Records

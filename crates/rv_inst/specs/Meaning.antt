@@ -1,5 +1,6 @@
 -- What a line means: what it makes of the values, and how it is left.
 use Rattle.std.specs.Prelude.{◌⊎◌, ℕ, zero, suc, ◌+◌, ◌-◌, ◌*◌, ◌/◌, ◌^◌, ◌<◌, ◌≤◌, ◌==◌, Bool, if◌then◌else◌, List, [], ◌∷◌, length, slice_index, slice_get, unwrap_or, map, Option, Some, None, ℤ, pos}
+use Rattle.std.proofs.Common.{refl}
 use Rattle.rv_base.specs.declared.amode.AMode.{AMode}
 use Rattle.rv_base.specs.declared.call.TryCallInfo.{TryCallInfo}
 use Rattle.rv_base.specs.declared.external_name.ExternalName.{ExternalName}
@@ -23,10 +24,11 @@ use Rattle.rv_ops.specs.Memory.{store_size}
 use Rattle.rv_inst.specs.Bits.{extended, ones, zeros, reversed_bytes}
 use Rattle.rv_inst.specs.Operands.{all_of, written_in, Return, inst_temporaries, try_call_of, return_of}
 use Rattle.rv_inst.specs.Returns.{StackLoad, restores, frame_above}
+use Rattle.rv_inst.specs.UnitWords.{UnitWord, unit_of}
 use Rattle.rv_inst.specs.declared.inst.Line.{Line}
 use Rattle.rv_inst.specs.declared.inst.Line.TheVariants.{Inst as Put, Bind}
 use Rattle.rv_inst.specs.declared.inst.Inst.{Inst}
-use Rattle.rv_inst.specs.declared.inst.Inst.TheVariants.{Nop0, Nop4, EBreak, SequencePoint, Args, Rets, DummyUse, Unwind, EmitIsland, RawData, Lui, Auipc, LoadInlineConst, AluRRR, AluRRImm12, Mov, MovFromPReg, Extend, Select, Load, Store, LoadAddr, LabelAddress, Ret, TrapIf, Jal, CondBr, BrTable, Udf, Jalr, Popcnt, Cltz, Brev8, StackProbeLoop, LoadExtNameGot, LoadExtNameNear, LoadExtNameFar, Call, CallInd, ReturnCall, ReturnCallInd, FpuRRR}
+use Rattle.rv_inst.specs.declared.inst.Inst.TheVariants.{Nop0, Nop4, EBreak, SequencePoint, Args, Rets, DummyUse, Unwind, EmitIsland, RawData, Lui, Auipc, LoadInlineConst, AluRRR, AluRRImm12, Mov, MovFromPReg, Extend, Select, Load, Store, LoadAddr, LabelAddress, Ret, TrapIf, Jal, CondBr, BrTable, Udf, Jalr, Popcnt, Cltz, Brev8, StackProbeLoop, LoadExtNameGot, LoadExtNameNear, LoadExtNameFar, Call, CallInd, ReturnCall, ReturnCallInd}
 use Rattle.rv_inst.specs.declared.inst.CondBrTarget.{CondBrTarget}
 use Rattle.rv_inst.specs.declared.inst.CondBrTarget.TheVariants.{Label, Fallthrough}
 use Rattle.rv_machine.specs.State.{Values, reg, set_reg, store, wrap, low64}
@@ -155,8 +157,11 @@ pub record Meaning : Type 0 where
 abbrev pub goes : Exit → Values → Meaning
 goes exit v = record { effect = v; writes = []; exit = exit }
 
--- What an instruction means from these values; a jump to a register links, as a call does; an address is even, and ra is x1. A float
--- operation has no meaning on integers alone, and is said to leave them; what it does is said of the machine with all units.
+-- An operation of a unit has no meaning on integers alone, and is said to leave them; what it does is said of the machine with all units.
+abbrev pub unit_meaning : UnitWord → Values → Meaning
+unit_meaning w v = goes Next v
+
+-- What an instruction means from these values; a jump to a register links, as a call does; an address is even, and ra is x1.
 abbrev pub inst_meaning : Environment → Inst → Values → Meaning
 inst_meaning env Nop0 v = goes Next v
 inst_meaning env Nop4 v = goes Next v
@@ -199,7 +204,7 @@ inst_meaning env (Call info) v = goes (Leave (symbol_at env info.dest (pos 0) / 
 inst_meaning env (CallInd info) v = goes (Leave (reg v (number_of info.dest) / 2 * 2)) (linked env.start (return_of env.flags (CallInd info)) v)
 inst_meaning env (ReturnCall info) v = goes (Leave (symbol_at env info.dest (pos 0) / 2 * 2)) (frame_left env.frame info.new_stack_arg_size v)
 inst_meaning env (ReturnCallInd info) v = goes (Leave (reg v (number_of info.dest) / 2 * 2)) (frame_left env.frame info.new_stack_arg_size v)
-inst_meaning env (FpuRRR op width frm rd rs1 rs2) v = goes Next v
+inst_meaning env inst v = unit_meaning (unit_of inst refl) v
 
 abbrev pub inst_effect : Environment → Inst → Values → Values
 inst_effect env inst v = (inst_meaning env inst v).effect

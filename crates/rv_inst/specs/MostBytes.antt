@@ -1,11 +1,13 @@
 -- How many bytes an instruction puts at most, an island that it asks for apart.
 use Rattle.std.specs.Prelude.{ℕ, ◌+◌, ◌*◌, List, length}
+use Rattle.std.proofs.Common.{refl}
 use Rattle.rv_base.specs.declared.frame.FrameLayout.{FrameLayout}
 use Rattle.rv_inst.specs.Context.{Context}
 use Rattle.rv_inst.specs.Returns.{StackLoad, restores, result_loads, loads_unless}
 use Rattle.rv_inst.specs.Sizes.{table_space}
+use Rattle.rv_inst.specs.UnitWords.{UnitWord, unit_of}
 use Rattle.rv_inst.specs.declared.inst.Inst.{Inst}
-use Rattle.rv_inst.specs.declared.inst.Inst.TheVariants.{Nop0, Nop4, EBreak, SequencePoint, Args, Rets, DummyUse, Unwind, EmitIsland, RawData, Lui, Auipc, LoadInlineConst, AluRRR, AluRRImm12, Mov, MovFromPReg, Extend, Select, Load, Store, LoadAddr, LabelAddress, Ret, TrapIf, Jal, CondBr, BrTable, Udf, Jalr, Popcnt, Cltz, Brev8, StackProbeLoop, LoadExtNameGot, LoadExtNameNear, LoadExtNameFar, Call, CallInd, ReturnCall, ReturnCallInd, FpuRRR}
+use Rattle.rv_inst.specs.declared.inst.Inst.TheVariants.{Nop0, Nop4, EBreak, SequencePoint, Args, Rets, DummyUse, Unwind, EmitIsland, RawData, Lui, Auipc, LoadInlineConst, AluRRR, AluRRImm12, Mov, MovFromPReg, Extend, Select, Load, Store, LoadAddr, LabelAddress, Ret, TrapIf, Jal, CondBr, BrTable, Udf, Jalr, Popcnt, Cltz, Brev8, StackProbeLoop, LoadExtNameGot, LoadExtNameNear, LoadExtNameFar, Call, CallInd, ReturnCall, ReturnCallInd}
 
 -- a number that stands among the code: auipc, a load and a jump over it, four bytes each, and its own eight
 abbrev pub number_limit : ℕ
@@ -35,6 +37,10 @@ call_limit own loads = own + step_limit + access_limit * length loads + 4
 -- a line that might have more asks for an island itself.
 abbrev pub sequence_limit : ℕ
 sequence_limit = 84
+
+-- a word of a unit is never one of sixteen bits
+abbrev pub unit_bytes : UnitWord → ℕ
+unit_bytes w = 4
 
 -- Loops count each of their words as four bytes: eleven where bits are counted, nineteen where they are reversed, and five and two
 -- numbers where the stack is probed. A call is two words, or one by a register.
@@ -80,4 +86,4 @@ most_bytes context (Call info) = call_limit 8 (loads_unless info.patchable info.
 most_bytes context (CallInd info) = call_limit 4 (result_loads info.defs)
 most_bytes context (ReturnCall info) = return_limit context.frame + 8
 most_bytes context (ReturnCallInd info) = return_limit context.frame + 4
-most_bytes context (FpuRRR op width frm rd rs1 rs2) = 4
+most_bytes context inst = unit_bytes (unit_of inst refl)

@@ -1,5 +1,6 @@
 -- The registers, labels and constants that a line names, in the order of its fields, and where its call returns.
 use Rattle.std.specs.Prelude.{ℕ, true, false, List, [], ◌∷◌, ◌++◌, map, Option, Some, None, pos}
+use Rattle.std.proofs.Common.{refl}
 use Rattle.rv_base.specs.declared.amode.AMode.{AMode}
 use Rattle.rv_base.specs.AMode.{registers_of}
 use Rattle.rv_base.specs.declared.amode.AMode.TheVariants.{RegOffset, SPOffset, FPOffset, SlotOffset, IncomingArg, Const, Label as LabelAt}
@@ -30,7 +31,8 @@ use Rattle.rv_inst.specs.Returns.{StackLoad, result_loads, loads_unless}
 use Rattle.rv_inst.specs.declared.inst.Line.{Line}
 use Rattle.rv_inst.specs.declared.inst.Line.TheVariants.{Inst as Put, Bind}
 use Rattle.rv_inst.specs.declared.inst.Inst.{Inst}
-use Rattle.rv_inst.specs.declared.inst.Inst.TheVariants.{Nop0, Nop4, EBreak, SequencePoint, Args, Rets, DummyUse, Unwind, EmitIsland, RawData, Lui, Auipc, LoadInlineConst, AluRRR, AluRRImm12, Mov, MovFromPReg, Extend, Select, Load, Store, LoadAddr, LabelAddress, Ret, TrapIf, Jal, CondBr, BrTable, Udf, Jalr, Popcnt, Cltz, Brev8, StackProbeLoop, LoadExtNameGot, LoadExtNameNear, LoadExtNameFar, Call, CallInd, ReturnCall, ReturnCallInd, FpuRRR}
+use Rattle.rv_inst.specs.declared.inst.Inst.TheVariants.{Nop0, Nop4, EBreak, SequencePoint, Args, Rets, DummyUse, Unwind, EmitIsland, RawData, Lui, Auipc, LoadInlineConst, AluRRR, AluRRImm12, Mov, MovFromPReg, Extend, Select, Load, Store, LoadAddr, LabelAddress, Ret, TrapIf, Jal, CondBr, BrTable, Udf, Jalr, Popcnt, Cltz, Brev8, StackProbeLoop, LoadExtNameGot, LoadExtNameNear, LoadExtNameFar, Call, CallInd, ReturnCall, ReturnCallInd}
+use Rattle.rv_inst.specs.UnitWords.{registers_in, unit_of}
 use Rattle.rv_inst.specs.declared.tail_calls.TailCall.{TailCall}
 use Rattle.rv_inst.specs.declared.targets.Targets.{Targets}
 use Rattle.rv_inst.specs.declared.targets.Targets.TheVariants.{Nowhere, Jumps, Branches, Refers, RefersConstant}
@@ -161,7 +163,7 @@ operands_of (Call info) = record (only (use_registers info.uses ++ def_registers
 operands_of (CallInd info) = record (only (info.dest ∷ use_registers info.uses ++ def_registers info.defs)) { results = info.defs; try_call = info.try_call_info; returns = λ flags. returns_at (short_jalr flags 1 (number_of info.dest) (pos 0)).len info.callee_pop_size (result_loads info.defs) }
 operands_of (ReturnCall info) = record (only (use_registers info.uses)) { tail_call = Some (record { stack_arg_size = info.new_stack_arg_size; by_register = false }) }
 operands_of (ReturnCallInd info) = record (only (info.dest ∷ use_registers info.uses)) { tail_call = Some (record { stack_arg_size = info.new_stack_arg_size; by_register = true }) }
-operands_of (FpuRRR op width frm rd rs1 rs2) = only (rd.reg ∷ rs1 ∷ rs2 ∷ [])
+operands_of inst = only (registers_in (unit_of inst refl).places)
 
 abbrev pub inst_registers : Inst → List Reg
 inst_registers inst = (operands_of inst).registers

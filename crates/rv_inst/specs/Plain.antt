@@ -1,17 +1,19 @@
 -- Instructions of which one look at their fields tells that they break no rule.
 use Rattle.std.specs.Prelude.{◌≡◌, Bool, false, not, ◌&&◌, [], ◌∷◌, ◌++◌, None}
 use Rattle.std.specs.List.{list_all, list_any}
+use Rattle.std.proofs.Common.{refl}
 use Rattle.rv_base.specs.declared.amode.AMode.{AMode}
 use Rattle.rv_base.specs.declared.amode.AMode.TheVariants.{RegOffset, SPOffset, FPOffset, SlotOffset, IncomingArg, Const, Label}
 use Rattle.rv_base.specs.declared.regs.Reg.{Reg}
 use Rattle.rv_ops.specs.Operations.{immediate_of, shift_limit}
 use Rattle.rv_inst.specs.declared.inst.Inst.{Inst}
-use Rattle.rv_inst.specs.declared.inst.Inst.TheVariants.{Nop0, Nop4, EBreak, SequencePoint, Args, Rets, DummyUse, Unwind, EmitIsland, RawData, Lui, Auipc, LoadInlineConst, AluRRR, AluRRImm12, Mov, MovFromPReg, Extend, Select, Load, Store, LoadAddr, LabelAddress, Ret, TrapIf, Jal, CondBr, BrTable, Udf, Jalr, Popcnt, Cltz, Brev8, StackProbeLoop, LoadExtNameGot, LoadExtNameNear, LoadExtNameFar, Call, CallInd, ReturnCall, ReturnCallInd, FpuRRR}
+use Rattle.rv_inst.specs.declared.inst.Inst.TheVariants.{Nop0, Nop4, EBreak, SequencePoint, Args, Rets, DummyUse, Unwind, EmitIsland, RawData, Lui, Auipc, LoadInlineConst, AluRRR, AluRRImm12, Mov, MovFromPReg, Extend, Select, Load, Store, LoadAddr, LabelAddress, Ret, TrapIf, Jal, CondBr, BrTable, Udf, Jalr, Popcnt, Cltz, Brev8, StackProbeLoop, LoadExtNameGot, LoadExtNameNear, LoadExtNameFar, Call, CallInd, ReturnCall, ReturnCallInd}
 use Rattle.rv_inst.specs.Addresses.{is_distant}
 use Rattle.rv_inst.specs.Context.{Context}
 use Rattle.rv_inst.specs.Operands.{tail_call_of, target_labels}
 use Rattle.rv_inst.specs.Rules.{is_virtual, is_other_class, is_reserved, is_int_type, is_beyond, is_fallthrough, is_buffer_label, inst_rule}
 use Rattle.rv_inst.specs.Sizes.{inst_sum}
+use Rattle.rv_inst.specs.UnitWords.{UnitWord, unit_of}
 
 -- a register of which no rule is broken: an integer register of the machine other than x30 and x31
 abbrev pub is_usable : Reg → Bool
@@ -26,6 +28,10 @@ is_plain_address (SlotOffset o) = not (is_distant o)
 is_plain_address (IncomingArg o) = not (is_distant o)
 is_plain_address (Const k) = false
 is_plain_address (Label l) = false
+
+-- those of units are fewer
+abbrev pub unit_is_plain : UnitWord → Bool
+unit_is_plain w = false
 
 -- the most usual instructions, where they are so
 abbrev pub is_plain : Inst → Bool
@@ -70,7 +76,7 @@ is_plain (Call info) = false
 is_plain (CallInd info) = false
 is_plain (ReturnCall info) = false
 is_plain (ReturnCallInd info) = false
-is_plain (FpuRRR op width frm rd rs1 rs2) = false
+is_plain inst = unit_is_plain (unit_of inst refl)
 
 -- an instruction that breaks no rule in any context, counts for 128 bytes, and is no tail call
 pub record IsPlain (inst : Inst) : Type 0 where

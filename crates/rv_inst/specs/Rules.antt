@@ -1,6 +1,7 @@
 -- The rules of a line, in their order. Each is a test of what a line breaks.
 use Rattle.std.specs.Prelude.{ℕ, Bool, true, false, not, ◌&&◌, ◌||◌, ◌==◌, ◌^◌, nat_le, nat_lt, is_none, slice_get, if◌then◌else◌, List, [], ◌∷◌, ◌++◌, length, Option, Some, None, ℤ, pos, negsuc}
 use Rattle.std.specs.List.{list_any, find}
+use Rattle.std.proofs.Common.{refl}
 use Rattle.rv_base.specs.declared.call.ArgPair.{ArgPair}
 use Rattle.rv_base.specs.declared.call.RetPair.{RetPair}
 use Rattle.rv_base.specs.declared.call.CallArgPair.{CallArgPair}
@@ -25,12 +26,10 @@ use Rattle.rv_base.specs.AMode.{registers_of, own_offset, base_of}
 use Rattle.rv_base.specs.Regs.{class_of}
 use Rattle.mach_labels.specs.Table.{first_inner}
 use Rattle.rv_ops.specs.Operations.{immediate_of, shift_limit}
-use Rattle.rv_ops.specs.FloatFields.{is_width, takes_frm}
-use Rattle.rv_ops.specs.Fpu.{fpu_rrr_numbers, fpu_rrr_result}
 use Rattle.rv_inst.specs.declared.inst.Line.{Line}
 use Rattle.rv_inst.specs.declared.inst.Line.TheVariants.{Inst as Put, Bind}
 use Rattle.rv_inst.specs.declared.inst.Inst.{Inst}
-use Rattle.rv_inst.specs.declared.inst.Inst.TheVariants.{Nop0, Nop4, EBreak, SequencePoint, Args, Rets, DummyUse, Unwind, EmitIsland, RawData, Lui, Auipc, LoadInlineConst, AluRRR, AluRRImm12, Mov, MovFromPReg, Extend, Select, Load, Store, LoadAddr, LabelAddress, Ret, TrapIf, Jal, CondBr, BrTable, Udf, Jalr, Popcnt, Cltz, Brev8, StackProbeLoop, LoadExtNameGot, LoadExtNameNear, LoadExtNameFar, Call, CallInd, ReturnCall, ReturnCallInd, FpuRRR}
+use Rattle.rv_inst.specs.declared.inst.Inst.TheVariants.{Nop0, Nop4, EBreak, SequencePoint, Args, Rets, DummyUse, Unwind, EmitIsland, RawData, Lui, Auipc, LoadInlineConst, AluRRR, AluRRImm12, Mov, MovFromPReg, Extend, Select, Load, Store, LoadAddr, LabelAddress, Ret, TrapIf, Jal, CondBr, BrTable, Udf, Jalr, Popcnt, Cltz, Brev8, StackProbeLoop, LoadExtNameGot, LoadExtNameNear, LoadExtNameFar, Call, CallInd, ReturnCall, ReturnCallInd}
 use Rattle.rv_inst.specs.declared.inst.CondBrTarget.{CondBrTarget}
 use Rattle.rv_inst.specs.declared.inst.CondBrTarget.TheVariants.{Label as ToLabel, Fallthrough}
 use Rattle.rv_inst.specs.declared.error.Rule.{Rule}
@@ -38,6 +37,8 @@ use Rattle.rv_inst.specs.declared.error.Rule.TheVariants.{Virtual, Class, Reserv
 use Rattle.rv_inst.specs.Addresses.{is_distant}
 use Rattle.rv_inst.specs.Context.{Context}
 use Rattle.rv_inst.specs.Operands.{all_of, written_in, result_registers, inst_registers, inst_labels, tail_call_of, targets_of}
+use Rattle.rv_inst.specs.UnitWords.{UnitWord, unit_of}
+use Rattle.rv_inst.specs.declared.units.PlacedReg.{PlacedReg}
 use Rattle.rv_inst.specs.declared.tail_calls.TailCall.{TailCall}
 use Rattle.rv_inst.specs.declared.targets.Targets.{Targets}
 use Rattle.rv_inst.specs.declared.targets.Targets.TheVariants.{Nowhere, Jumps, Branches, Refers, RefersConstant}
@@ -78,6 +79,9 @@ same_class Vector Vector = true
 -- whether a register is of another class than this
 abbrev pub is_not_of : RegClass → Reg → Bool
 is_not_of class r = not (same_class (class_of r) class)
+
+abbrev pub is_out_of_place : PlacedReg → Bool
+is_out_of_place p = is_not_of p.class p.reg
 
 abbrev pub differ_in_class : Reg → Reg → Bool
 differ_in_class r s = not (same_class (class_of r) (class_of s))
@@ -275,9 +279,12 @@ count_faults sum tmp step rs type = record (has_other_class (list_any is_other_c
   type = not (is_int_type type);
 }
 
--- A register's place asks the class Int, but the operands of a float operation that class, where its result isn't an integer's; the two
--- of a pair or of a move have one class, and a result on the stack that of its
--- type. A move of an integer register, and a result on the stack, have an integer type of at most 64 bits; of others none is built. Data has four or eight bytes.
+-- of a unit's word: its places ask classes of their own
+abbrev pub unit_faults : UnitWord → Faults
+unit_faults w = record (has_other_class (list_any is_out_of_place w.places)) { rounding = not w.rounding; width = not w.width }
+
+-- A register's place asks the class Int, but those of a unit's word; the two of a pair or of a move have one class, and a result on
+-- the stack that of its type. A move of an integer register, and a result on the stack, have an integer type of at most 64 bits; of others none is built. Data has four or eight bytes.
 abbrev pub faults_of : Inst → Faults
 faults_of Nop0 = has_other_class false
 faults_of Nop4 = has_other_class false
@@ -328,7 +335,7 @@ faults_of (Call info) = record (has_other_class (call_differs info.uses info.def
 faults_of (CallInd info) = record (has_other_class (is_other_class info.dest || call_differs info.uses info.defs)) { clashing = results_clash info.defs; type = list_any is_unloadable info.defs; range = nat_le (2 ^ 31) info.callee_pop_size || list_any is_high info.defs }
 faults_of (ReturnCall info) = has_other_class (list_any (λ (p : CallArgPair). differ_in_class p.vreg p.preg) info.uses)
 faults_of (ReturnCallInd info) = has_other_class (not (is_fifth info.dest) || list_any (λ (p : CallArgPair). differ_in_class p.vreg p.preg) info.uses)
-faults_of (FpuRRR op width frm rd rs1 rs2) = record (has_other_class (is_not_of (fpu_rrr_result op) rd.reg || list_any (is_not_of Float) (rs1 ∷ rs2 ∷ []))) { rounding = not (takes_frm (fpu_rrr_numbers op).rounding frm); width = not (is_width width) }
+faults_of inst = unit_faults (unit_of inst refl)
 
 abbrev pub is_misplaced : Inst → Bool
 is_misplaced inst = (faults_of inst).class

@@ -1,6 +1,7 @@
 -- How many bytes an instruction puts, which operation stands for one of one machine word, and how many bytes it counts for.
 use Rattle.std.specs.Prelude.{ℕ, ◌+◌, ◌-◌, ◌/◌, length, nat_eq, if◌then◌else◌, Option, Some, None, pos, negsuc, ◌*◌, ◌==◌, Bool, true, false, not, ◌&&◌, List, [], ◌∷◌, map, count_by, ℤ, ◌-ℤ◌, ◌++◌}
 use Rattle.std.specs.Int.{cast_signed, w64}
+use Rattle.std.proofs.Common.{refl}
 use Rattle.rv_base.specs.IrType.{bits_of}
 use Rattle.rv_base.specs.Regs.{number_of}
 use Rattle.rv_base.specs.declared.regs.Reg.{Reg}
@@ -18,7 +19,7 @@ use Rattle.rv_ops.specs.declared.memory.StoreOP.TheVariants.{Sb}
 use Rattle.rv_machine.specs.declared.decoding.Decoded.{Decoded}
 use Rattle.rv_machine.specs.declared.ops.MOp.TheVariants.{Base}
 use Rattle.rv_machine.specs.declared.ops.BaseOp.TheVariants.{Auipc as AuipcOp}
-use Rattle.rv_encode.specs.Operations.{decoded, decoded_rri, decoded_fpu_rrr}
+use Rattle.rv_encode.specs.Operations.{decoded, decoded_rri}
 use Rattle.rv_machine.specs.State.{low64}
 use Rattle.rv_machine.specs.Arithmetic.{low_word}
 use Rattle.rv_inst.specs.Addresses.{Location, Based, AtLabel, AtConstant, location_of, is_near, is_splittable, inline_size, far_size, address_size, load_size_at, store_size_at, load_own_size, store_own_size}
@@ -33,10 +34,11 @@ use Rattle.rv_inst.specs.Operands.{all_of, written_in, results_of}
 use Rattle.rv_inst.specs.Context.{Context}
 use Rattle.rv_inst.specs.Returns.{StackLoad, restores, frame_above, result_loads, loads_unless}
 use Rattle.rv_inst.specs.Rules.{is_stacked}
+use Rattle.rv_inst.specs.UnitWords.{UnitWord, unit_of}
 use Rattle.rv_inst.specs.declared.inst.Line.{Line}
 use Rattle.rv_inst.specs.declared.inst.Line.TheVariants.{Inst as Put, Bind}
 use Rattle.rv_inst.specs.declared.inst.Inst.{Inst}
-use Rattle.rv_inst.specs.declared.inst.Inst.TheVariants.{Nop0, Nop4, EBreak, SequencePoint, Args, Rets, DummyUse, Unwind, EmitIsland, RawData, Lui, Auipc, LoadInlineConst, AluRRR, AluRRImm12, Mov, MovFromPReg, Extend, Select, Load, Store, LoadAddr, LabelAddress, Ret, TrapIf, Jal, CondBr, BrTable, Udf, Jalr, Popcnt, Cltz, Brev8, StackProbeLoop, LoadExtNameGot, LoadExtNameNear, LoadExtNameFar, Call, CallInd, ReturnCall, ReturnCallInd, FpuRRR}
+use Rattle.rv_inst.specs.declared.inst.Inst.TheVariants.{Nop0, Nop4, EBreak, SequencePoint, Args, Rets, DummyUse, Unwind, EmitIsland, RawData, Lui, Auipc, LoadInlineConst, AluRRR, AluRRImm12, Mov, MovFromPReg, Extend, Select, Load, Store, LoadAddr, LabelAddress, Ret, TrapIf, Jal, CondBr, BrTable, Udf, Jalr, Popcnt, Cltz, Brev8, StackProbeLoop, LoadExtNameGot, LoadExtNameNear, LoadExtNameFar, Call, CallInd, ReturnCall, ReturnCallInd}
 use Rattle.rv_inst.specs.declared.inst.CondBrTarget.{CondBrTarget}
 use Rattle.rv_inst.specs.declared.inst.CondBrTarget.TheVariants.{Label, Fallthrough}
 
@@ -258,6 +260,10 @@ words size = extends (Words size)
 abbrev pub one_word : Decoded → InstCode
 one_word d = record (words d.len) { operation = Some d }
 
+-- a word of a unit records its trap where it may trap
+abbrev pub unit_code : UnitWord → InstCode
+unit_code w = record (one_word w.operation) { records = λ start end. access_records start w.trap }
+
 -- A trap where a comparison holds is a branch over a trap. What a label's or a constant's address is taken by, and auipc, have
 -- no forms of sixteen bits. What goes to a label has its distance beside it, and is no operation of these. The instruction of an access
 -- is the last of its sequence, and so are the eight bytes with a symbol's address, and the two instructions that go to one.
@@ -303,7 +309,7 @@ inst_code context (Call info) = record (extends (call_extent context.flags 8 inf
 inst_code context (CallInd info) = record (extends (call_extent context.flags (short_jalr context.flags 1 (number_of info.dest) (pos 0)).len info.callee_pop_size (result_loads info.defs) info.try_call_info)) { records = λ start end. return_records context.frame (start + (short_jalr context.flags 1 (number_of info.dest) (pos 0)).len) info.stack_map info.try_call_info }
 inst_code context (ReturnCall info) = record (extends (tail_extent context info.new_stack_arg_size 8 8)) { records = λ start end. noted (end - 8) event.CallSite ++ noted (end - 8) (event.Reloc RiscvCallPlt (ToName info.dest) (pos 0)) }
 inst_code context (ReturnCallInd info) = extends (tail_extent context info.new_stack_arg_size 4 (short_jalr context.flags 0 5 (pos 0)).len)
-inst_code context (FpuRRR op width frm rd rs1 rs2) = one_word (decoded_fpu_rrr op width frm (number_of rd.reg) (number_of rs1) (number_of rs2))
+inst_code context inst = unit_code (unit_of inst refl)
 
 abbrev pub extent_of : Context → Inst → Extent
 extent_of context inst = (inst_code context inst).extent

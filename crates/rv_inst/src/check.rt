@@ -11,12 +11,11 @@ use crate::clashes::{has_clash, has_zero};
 use crate::error::Rule;
 use crate::inst::{CondBrTarget, Inst, Line};
 use crate::places::is_misplaced;
-use crate::ranges::{
-    has_bad_rounding, has_bad_size, has_bad_type, has_bad_width, has_empty_table, is_out_of_range,
-};
+use crate::ranges::{has_bad_size, has_bad_type, has_empty_table, is_out_of_range};
 use crate::registers::{RegisterTest, has_register};
 use crate::tail_calls::exceeds_arguments;
 use crate::targets::{Targets, handler_label};
+use crate::units::{has_bad_rounding, has_bad_width};
 use mach_labels::FIRST_INNER;
 use rv_base::{Constant, FrameLayout, IsaFlags, MachLabel, TryCallHandler, TryCallInfo};
 

@@ -7,8 +7,11 @@ use rv_base::{
     AMode, ArgPair, CallInfo, ExternalName, IrType, List, MachLabel, MemFlagsData, PReg, Reg,
     RetPair, ReturnCallInfo, TrapCode, UnwindInst, ValueRegs, WritableReg,
 };
-use rv_imms::{Imm12, Imm20};
-use rv_ops::{AluOPRRI, AluOPRRR, FRM, FpuOPRRR, FpuOPWidth, IntegerCompare, LoadOP, StoreOP};
+use rv_imms::{Imm12, Imm20, UImm5};
+use rv_ops::{
+    AluOPRRI, AluOPRRR, CSR, CsrImmOP, CsrRegOP, FRM, FliConstant, FpuOPRR, FpuOPRRR, FpuOPRRRR,
+    FpuOPWidth, IntegerCompare, LoadOP, StoreOP,
+};
 use std::fmt;
 
 /// Where a branch goes on one of its two sides.
@@ -309,6 +312,22 @@ pub enum Inst {
         /// On the heap, since a line has no room for it.
         info: Boxed<ReturnCallInfo<Reg>>,
     },
+    /// `rd` is a constant of the width's format, which is one of 32 ("Load-Immediate Instructions" of the chapter "Zfa"). 4 bytes.
+    Fli {
+        width: FpuOPWidth,
+        imm: FliConstant,
+        rd: WritableReg,
+    },
+    /// `rd` is the floating-point operation of `rs`: a root, a class, a conversion or a move of bits, whose register is an integer one
+    /// where the operation is from an integer, or to one (the chapter "F", from "Single-Precision Floating-Point Computational
+    /// Instructions" on). A conversion to an integer may trap, and is reported. 4 bytes.
+    FpuRR {
+        alu_op: FpuOPRR,
+        width: FpuOPWidth,
+        frm: FRM,
+        rd: WritableReg,
+        rs: Reg,
+    },
     /// `rd` is the floating-point operation of `rs1` and `rs2`, which are numbers of the width's format: a floating-point register,
     /// or of a comparison an integer one. An operation that isn't rounded takes one rounding mode alone, whose bits are its
     /// own. 4 bytes.
@@ -319,6 +338,32 @@ pub enum Inst {
         rd: WritableReg,
         rs1: Reg,
         rs2: Reg,
+    },
+    /// `rd` is the product of `rs1` and `rs2`, with `rs3` added or subtracted, and negated or not, rounded once (the same chapter's
+    /// fused multiply-add instructions). 4 bytes.
+    FpuRRRR {
+        alu_op: FpuOPRRRR,
+        width: FpuOPWidth,
+        frm: FRM,
+        rd: WritableReg,
+        rs1: Reg,
+        rs2: Reg,
+        rs3: Reg,
+    },
+    /// `rd` is what the control register held, which then gets `rs`, or has the bits of `rs` set or cleared ("CSR Instructions" of the
+    /// chapter "Zicsr"). 4 bytes.
+    CsrReg {
+        op: CsrRegOP,
+        rd: WritableReg,
+        rs: Reg,
+        csr: CSR,
+    },
+    /// The same, with an immediate in place of `rs`.
+    CsrImm {
+        op: CsrImmOP,
+        rd: WritableReg,
+        csr: CSR,
+        imm: UImm5,
     },
 }
 
@@ -351,7 +396,7 @@ pub enum Family {
     Symbols,
     /// Those that call a function, or give their own function's place to another.
     Calls,
-    /// Those that compute with floating-point numbers.
+    /// Those that compute with floating-point numbers, or read and write their control register.
     Float,
 }
 
@@ -403,7 +448,12 @@ impl Inst {
             | Inst::CallInd { info: _ }
             | Inst::ReturnCall { info: _ }
             | Inst::ReturnCallInd { info: _ } => Family::Calls,
-            Inst::FpuRRR { .. } => Family::Float,
+            Inst::Fli { .. }
+            | Inst::FpuRR { .. }
+            | Inst::FpuRRR { .. }
+            | Inst::FpuRRRR { .. }
+            | Inst::CsrReg { .. }
+            | Inst::CsrImm { .. } => Family::Float,
         }
     }
 }

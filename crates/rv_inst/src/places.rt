@@ -1,14 +1,13 @@
 //! Whether each register has the class that its place asks.
 
-ghost use Rattle.std.specs.Prelude.{◌≡◌, ◌||◌, [], ◌∷◌};
+ghost use Rattle.std.specs.Prelude.{◌≡◌, ◌||◌};
 ghost use Rattle.std.specs.List.{list_any};
 ghost use Rattle.rv_base.specs.declared.call.ArgPair.{ArgPair};
 ghost use Rattle.rv_base.specs.declared.call.RetPair.{RetPair};
 ghost use Rattle.rv_base.specs.declared.call.CallArgPair.{CallArgPair};
 ghost use Rattle.rv_base.specs.declared.call.CallRetPair.{CallRetPair};
-ghost use Rattle.rv_inst.specs.Rules.{is_not_of, differ_in_class, is_stack_or_frame, is_fifth, class_for, is_outside, location_differs, call_differs, is_misplaced};
-ghost use Rattle.rv_inst.specs.declared.inst.Family.TheVariants.{Pseudo, Integer, Calls, Float as Floats};
-ghost use Rattle.rv_base.specs.declared.regs.RegClass.TheVariants.{Float};
+ghost use Rattle.rv_inst.specs.Rules.{differ_in_class, is_stack_or_frame, is_fifth, class_for, is_outside, location_differs, call_differs, is_misplaced};
+ghost use Rattle.rv_inst.specs.declared.inst.Family.TheVariants.{Pseudo, Integer, Calls};
 ghost use Rattle.rv_inst.specs.Families.{family_of};
 
 use crate::clashes::same_class;
@@ -17,6 +16,7 @@ use crate::registers::{
     RegisterTest, control_has, integer_has, is_other_class, is_real_x, loop_has, memory_has,
     symbol_has,
 };
+use crate::units::unit_misplaced;
 use rv_base::{
     ArgPair as Arg, CallArgPair as Use, CallRetPair as Def, IrType, PReg, Reg, RegClass,
     RetLocation, RetPair as Ret,
@@ -84,36 +84,6 @@ fn integer_misplaced(inst: &Inst) -> bool
         Inst::Mov { rd, rm, ty: _ } => differ_in_class(rd.reg, *rm),
         Inst::MovFromPReg { rd, rm } => is_other_class(rd.reg) || !is_stack_or_frame(*rm),
         _ => integer_has(RegisterTest::OtherClass, inst),
-    }
-}
-
-/// Returns whether a register is of another class than this.
-fn is_not_of(class: RegClass, reg: Reg) -> bool
-    ensures { result ≡ is_not_of class reg }
-{
-    !same_class(reg.class(), class)
-}
-
-/// Returns whether one of two registers isn't a floating-point register.
-fn two_not_float(first: Reg, second: Reg) -> bool
-    ensures { result ≡ list_any (is_not_of Float) (first ∷ second ∷ []) }
-{
-    is_not_of(RegClass::Float, first) || is_not_of(RegClass::Float, second)
-}
-
-fn float_misplaced(inst: &Inst) -> bool
-    ensures { family_of inst.now ≡ Floats → result ≡ is_misplaced inst.now }
-{
-    match inst {
-        Inst::FpuRRR {
-            alu_op,
-            width: _,
-            frm: _,
-            rd,
-            rs1,
-            rs2,
-        } => is_not_of(alu_op.dst_regclass(), rd.reg) || two_not_float(*rs1, *rs2),
-        _ => false,
     }
 }
 
@@ -193,6 +163,6 @@ pub fn is_misplaced(inst: &Inst) -> bool
         Family::Loop => loop_has(RegisterTest::OtherClass, inst),
         Family::Symbols => symbol_has(RegisterTest::OtherClass, inst),
         Family::Calls => call_misplaced(inst),
-        Family::Float => float_misplaced(inst),
+        Family::Float => unit_misplaced(inst),
     }
 }

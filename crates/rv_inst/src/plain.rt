@@ -2,13 +2,15 @@
 
 ghost use Rattle.std.specs.Prelude.{◌≡◌, true, not, ◌&&◌, [], ◌∷◌, ◌++◌};
 ghost use Rattle.std.specs.List.{list_all, list_any};
+ghost use Rattle.rv_inst.specs.Families.{family_of};
 ghost use Rattle.rv_inst.specs.Operands.{target_labels};
 ghost use Rattle.rv_inst.specs.Rules.{is_buffer_label, is_fallthrough};
+ghost use Rattle.rv_inst.specs.declared.inst.Family.TheVariants.{Integer, Memory, Control};
 ghost use Rattle.rv_inst.specs.Plain.{is_usable, is_plain_address, is_plain, IsPlain};
 
 use crate::addresses::is_distant;
 use crate::check::{has_inner_target, is_buffer_label, is_fallthrough};
-use crate::inst::{CondBrTarget, Inst};
+use crate::inst::{CondBrTarget, Family, Inst};
 use crate::ranges::{is_amount_beyond, is_int_type};
 use rv_base::{AMode, Reg, RegClass};
 
@@ -69,73 +71,68 @@ impl Inst {
     fn is_usual(&self) -> bool
         ensures { result ≡ is_plain self.now }
     {
-        match self {
-            Inst::AluRRR {
-                alu_op: _,
-                rd,
-                rs1,
-                rs2,
-            } => three_are_usable(rd.reg, *rs1, *rs2),
-            Inst::AluRRImm12 {
-                alu_op,
-                rd,
-                rs,
-                imm12,
-            } => two_are_usable(rd.reg, *rs) && !is_amount_beyond(*alu_op, *imm12),
-            Inst::Mov { rd, rm, ty } => two_are_usable(rd.reg, *rm) && is_int_type(*ty),
-            Inst::Lui { rd, imm: _ } => is_usable(rd.reg),
-            Inst::Load {
-                rd,
-                op: _,
-                flags: _,
-                from,
-            } => is_usable(rd.reg) && is_plain_address(*from),
-            Inst::Store {
-                to,
-                op: _,
-                flags: _,
-                src,
-            } => is_usable(*src) && is_plain_address(*to),
-            Inst::Jal { label } => !is_buffer_label(*label),
-            Inst::CondBr {
-                taken,
-                not_taken,
-                kind,
-            } => two_are_usable(kind.rs1, kind.rs2) && are_targets(*taken, *not_taken),
-            Inst::Nop0
-            | Inst::Nop4
-            | Inst::EBreak
-            | Inst::SequencePoint
-            | Inst::Args { args: _ }
-            | Inst::Rets { rets: _ }
-            | Inst::DummyUse { reg: _ }
-            | Inst::Unwind { inst: _ }
-            | Inst::EmitIsland { needed_space: _ }
-            | Inst::RawData { bytes: _ }
-            | Inst::Auipc { .. }
-            | Inst::LoadInlineConst { .. }
-            | Inst::MovFromPReg { .. }
-            | Inst::Extend { .. }
-            | Inst::Select { info: _ }
-            | Inst::LoadAddr { .. }
-            | Inst::LabelAddress { .. }
-            | Inst::Ret
-            | Inst::TrapIf { .. }
-            | Inst::BrTable { .. }
-            | Inst::Udf { trap_code: _ }
-            | Inst::Jalr { .. }
-            | Inst::Popcnt { info: _ }
-            | Inst::Cltz { .. }
-            | Inst::Brev8 { info: _ }
-            | Inst::StackProbeLoop { .. }
-            | Inst::LoadExtNameGot { .. }
-            | Inst::LoadExtNameNear { .. }
-            | Inst::LoadExtNameFar { .. }
-            | Inst::Call { info: _ }
-            | Inst::CallInd { info: _ }
-            | Inst::ReturnCall { info: _ }
-            | Inst::ReturnCallInd { info: _ }
-            | Inst::FpuRRR { .. } => false,
+        match self.family() {
+            Family::Integer => integer_is_plain(self),
+            Family::Memory => memory_is_plain(self),
+            Family::Control => control_is_plain(self),
+            Family::Pseudo | Family::Loop | Family::Symbols | Family::Calls | Family::Float =>
+                false,
         }
+    }
+}
+
+fn integer_is_plain(inst: &Inst) -> bool
+    ensures { family_of inst.now ≡ Integer → result ≡ is_plain inst.now }
+{
+    match inst {
+        Inst::AluRRR {
+            alu_op: _,
+            rd,
+            rs1,
+            rs2,
+        } => three_are_usable(rd.reg, *rs1, *rs2),
+        Inst::AluRRImm12 {
+            alu_op,
+            rd,
+            rs,
+            imm12,
+        } => two_are_usable(rd.reg, *rs) && !is_amount_beyond(*alu_op, *imm12),
+        Inst::Mov { rd, rm, ty } => two_are_usable(rd.reg, *rm) && is_int_type(*ty),
+        Inst::Lui { rd, imm: _ } => is_usable(rd.reg),
+        _ => false,
+    }
+}
+
+fn memory_is_plain(inst: &Inst) -> bool
+    ensures { family_of inst.now ≡ Memory → result ≡ is_plain inst.now }
+{
+    match inst {
+        Inst::Load {
+            rd,
+            op: _,
+            flags: _,
+            from,
+        } => is_usable(rd.reg) && is_plain_address(*from),
+        Inst::Store {
+            to,
+            op: _,
+            flags: _,
+            src,
+        } => is_usable(*src) && is_plain_address(*to),
+        _ => false,
+    }
+}
+
+fn control_is_plain(inst: &Inst) -> bool
+    ensures { family_of inst.now ≡ Control → result ≡ is_plain inst.now }
+{
+    match inst {
+        Inst::Jal { label } => !is_buffer_label(*label),
+        Inst::CondBr {
+            taken,
+            not_taken,
+            kind,
+        } => two_are_usable(kind.rs1, kind.rs2) && are_targets(*taken, *not_taken),
+        _ => false,
     }
 }

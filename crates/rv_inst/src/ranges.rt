@@ -4,7 +4,7 @@ ghost use Rattle.std.specs.Prelude.{◌≡◌, ◌^◌, not, nat_le, ◌&&◌, �
 ghost use Rattle.std.specs.List.{list_any};
 ghost use Rattle.rv_base.specs.Regs.{class_of};
 ghost use Rattle.rv_ops.specs.Operations.{immediate_of, shift_limit};
-ghost use Rattle.rv_inst.specs.Rules.{is_high, is_int_class, is_int_type, is_word_type, has_bad_type, is_beyond, is_out_of_range, has_bad_rounding, has_bad_width, has_empty_table, has_bad_size};
+ghost use Rattle.rv_inst.specs.Rules.{is_high, is_int_class, is_int_type, is_word_type, has_bad_type, is_beyond, is_out_of_range, has_empty_table, has_bad_size};
 
 use crate::addresses::is_distant;
 use crate::inst::Inst;
@@ -116,40 +116,6 @@ pub fn is_out_of_range(inst: &Inst) -> bool
             let info = info.as_ref();
             is_call_beyond(info.callee_pop_size, info.defs.as_slice())
         }
-        _ => false,
-    }
-}
-
-/// Returns whether the instruction names a rounding mode that its operation doesn't take.
-pub fn has_bad_rounding(inst: &Inst) -> bool
-    ensures { result ≡ has_bad_rounding inst.now }
-{
-    match inst {
-        Inst::FpuRRR {
-            alu_op,
-            width: _,
-            frm,
-            rd: _,
-            rs1: _,
-            rs2: _,
-        } => !alu_op.takes_frm(*frm),
-        _ => false,
-    }
-}
-
-/// Returns whether the instruction has a format of which no operation is.
-pub fn has_bad_width(inst: &Inst) -> bool
-    ensures { result ≡ has_bad_width inst.now }
-{
-    match inst {
-        Inst::FpuRRR {
-            alu_op: _,
-            width,
-            frm: _,
-            rd: _,
-            rs1: _,
-            rs2: _,
-        } => !width.is_supported(),
         _ => false,
     }
 }

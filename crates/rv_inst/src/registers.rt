@@ -3,13 +3,14 @@
 ghost use Rattle.std.specs.Prelude.{◌≡◌, [], ◌∷◌, ◌++◌};
 ghost use Rattle.std.specs.List.{list_any};
 ghost use Rattle.rv_inst.specs.Operands.{arg_registers, ret_registers, use_registers, location_registers, def_registers, all_of, written_in, unwind_registers, inst_registers};
-ghost use Rattle.rv_inst.specs.declared.inst.Family.TheVariants.{Pseudo, Integer, Memory, Control, Loop, Symbols, Calls, Float};
+ghost use Rattle.rv_inst.specs.declared.inst.Family.TheVariants.{Pseudo, Integer, Memory, Control, Loop, Symbols, Calls};
 ghost use Rattle.rv_inst.specs.Families.{family_of};
 ghost use Rattle.rv_inst.specs.RegisterTests.{test_of};
 ghost use Rattle.rv_inst.specs.Rules.{is_x, is_real_x};
 
 use crate::addresses::address_has;
 use crate::inst::{CountInfo, Family, Inst, SelectInfo};
+use crate::units::unit_has;
 use rv_base::{
     ArgPair, CallArgPair, CallRetPair, PReg, Reg, RegClass, RetLocation, RetPair, UnwindInst,
     ValueRegs, WritableReg,
@@ -386,23 +387,6 @@ fn call_has(test: RegisterTest, inst: &Inst) -> bool
     }
 }
 
-/// Returns whether the test holds of a register of a floating-point operation.
-fn float_has(test: RegisterTest, inst: &Inst) -> bool
-    ensures { family_of inst.now ≡ Float → result ≡ list_any (test_of test) (inst_registers inst.now) }
-{
-    match inst {
-        Inst::FpuRRR {
-            alu_op: _,
-            width: _,
-            frm: _,
-            rd,
-            rs1,
-            rs2,
-        } => any_of(test, &[rd.reg, *rs1, *rs2]),
-        _ => false,
-    }
-}
-
 /// Returns whether the test holds of a register of the instruction.
 pub fn has_register(test: RegisterTest, inst: &Inst) -> bool
     ensures { result ≡ list_any (test_of test) (inst_registers inst.now) }
@@ -415,6 +399,6 @@ pub fn has_register(test: RegisterTest, inst: &Inst) -> bool
         Family::Loop => loop_has(test, inst),
         Family::Symbols => symbol_has(test, inst),
         Family::Calls => call_has(test, inst),
-        Family::Float => float_has(test, inst),
+        Family::Float => unit_has(test, inst),
     }
 }

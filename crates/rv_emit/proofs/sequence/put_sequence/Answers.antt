@@ -61,10 +61,10 @@ returns-in-Calls-clause-parts c = λ asks. c.put_calls.ensures.parts (sym c.fami
 pub put_calls-requires-clause-fine : goal.put_calls-requires-clause-fine
 put_calls-requires-clause-fine c = fine (context_by c.args.flags c.args.frame.now (registered_of c.args.sink.now)) c.args.inst.now c.requires.rule
 
-pub put_float-requires-clause-fine : goal.put_float-requires-clause-fine
-put_float-requires-clause-fine c = fine (context_by c.args.flags c.args.frame.now (registered_of c.args.sink.now)) c.args.inst.now c.requires.rule
+pub put_unit-requires-clause-fine : goal.put_unit-requires-clause-fine
+put_unit-requires-clause-fine c = fine (context_by c.args.flags c.args.frame.now (registered_of c.args.sink.now)) c.args.inst.now c.requires.rule
 
 pub returns-in-Float-clause-parts : goal.returns-in-Float-clause-parts
 returns-in-Float-clause-parts c =
     let family = sym c.family.ensures ∙ c.in-Float.is in
-    λ asks. on_ok_weaker c.put_float.result (λ emits. emits_given c.args.stack_map.now (context_by c.args.flags c.args.frame.now (registered_of c.args.sink.now)) c.args.inst.now Float family tt c.args.sink.now c.put_float.new.sink (emits c.args.frame.now (registered_of c.args.sink.now))) (c.put_float.ensures.parts family c.args.flags)
+    λ asks. on_ok_weaker c.put_unit.result (λ emits. emits_given c.args.stack_map.now (context_by c.args.flags c.args.frame.now (registered_of c.args.sink.now)) c.args.inst.now Float family tt c.args.sink.now c.put_unit.new.sink (emits c.args.frame.now (registered_of c.args.sink.now))) (c.put_unit.ensures.parts family c.args.flags)

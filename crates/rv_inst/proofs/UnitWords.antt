@@ -1,0 +1,48 @@
+-- What holds of every instruction that is one word of a unit, since all tables over instructions go by that word.
+use Rattle.std.proofs.Common.{◌≡◌, Bool, true, false, List, [], ◌∷◌, Option, Some, None, refl, ap}
+use Rattle.std.specs.Prelude.{◌||◌}
+use Rattle.std.specs.List.{list_any}
+use Rattle.rv_inst.specs.Context.{Context}
+use Rattle.rv_inst.specs.Core.{is_integer}
+use Rattle.rv_inst.specs.Families.{family_of}
+use Rattle.rv_inst.specs.Meaning.{Environment, Next, inst_exit}
+use Rattle.rv_machine.specs.State.{Values}
+use Rattle.rv_inst.specs.Operands.{inst_registers, inst_temporaries}
+use Rattle.rv_inst.specs.RegisterTests.{place_test, test_of}
+use Rattle.rv_inst.specs.Rules.{faults_of, is_misplaced, unit_faults}
+use Rattle.rv_inst.specs.Sizes.{inst_code, unit_code}
+use Rattle.rv_inst.specs.UnitWords.{UnitWord, given, places_in, registers_in, unit_word}
+use Rattle.rv_inst.specs.declared.inst.Family.TheVariants.{Float}
+use Rattle.rv_inst.specs.declared.inst.Inst.{Inst}
+use Rattle.rv_inst.specs.declared.inst.Inst.TheVariants.{Nop0}
+use Rattle.rv_inst.specs.declared.registers.RegisterTest.{RegisterTest}
+use Rattle.rv_inst.specs.declared.units.PlacedReg.{PlacedReg}
+use Rattle.rv_inst.specs.declared.units.PlaceTest.TheVariants.{Register, OutOfPlace}
+
+-- a test of registers, wherever they stand
+pub places_have : (test : RegisterTest) (places : List PlacedReg) → list_any (place_test (Register test)) places ≡ list_any (test_of test) (registers_in places)
+places_have test [] = refl
+places_have test (p ∷ places) = ap (λ b. test_of test p.reg || b) (places_have test places)
+
+pub unit_registers : (inst : Inst) → family_of inst ≡ Float → registers_in (places_in (unit_word inst)) ≡ inst_registers inst
+unit_registers Nop0 e = absurd (cc)
+unit_registers inst e = cc
+
+pub unit_misplaced : (inst : Inst) → family_of inst ≡ Float → list_any (place_test OutOfPlace) (places_in (unit_word inst)) ≡ is_misplaced inst
+unit_misplaced Nop0 e = absurd (cc)
+unit_misplaced inst e = cc
+
+-- one of no family of the integer core: it goes on to the next line, and has no temporaries
+pub record IsUnit (inst : Inst) : Type 0 where
+  pub word : UnitWord
+  pub is : unit_word inst ≡ Some word
+  pub family : family_of inst ≡ Float
+  pub registers : inst_registers inst ≡ registers_in word.places
+  pub faults : faults_of inst ≡ unit_faults word
+  pub code : (context : Context) → inst_code context inst ≡ unit_code word
+  pub temporaries : inst_temporaries inst ≡ []
+  pub exit : (env : Environment) (v : Values) → inst_exit env inst v ≡ Next
+
+pub is_unit : (inst : Inst) → is_integer inst ≡ false → IsUnit inst
+is_unit Nop0 e = absurd (cc)
+is_unit inst e = record { word = given (unit_word inst) (cc); is = cc; family = cc; registers = cc; faults = cc; code = λ context. cc; temporaries = cc; exit = λ env v. cc }

@@ -1,0 +1,83 @@
+-- Instructions that are one word of a unit, of the machine's operations that the integer machine has not: what there is to know of each.
+-- All tables over instructions have one row for all of these, which goes by `unit_of`. So an instruction that is neither here nor in a
+-- table of its own has no row there, and fails to check.
+use Rattle.std.specs.Prelude.{◌≡◌, Bool, true, false, is_some, List, [], ◌∷◌, Option, Some, None, map}
+use Rattle.std.proofs.Common.{cond, subst}
+use Rattle.rv_base.specs.Regs.{number_of}
+use Rattle.rv_base.specs.declared.regs.Reg.{Reg}
+use Rattle.rv_base.specs.declared.regs.RegClass.{RegClass}
+use Rattle.rv_base.specs.declared.regs.RegClass.TheVariants.{Int, Float as FloatReg}
+use Rattle.rv_base.specs.declared.trap.TrapCode.{TrapCode}
+use Rattle.rv_base.specs.declared.trap.TrapCode.TheVariants.{BadConversionToInteger}
+use Rattle.rv_machine.specs.declared.decoding.Decoded.{Decoded}
+use Rattle.rv_ops.specs.FloatFields.{is_width, takes_frm}
+use Rattle.rv_ops.specs.Fpu.{fpu_rr_files, fpu_rr_numbers, fpu_rr_widths, fpu_rrr_numbers, fpu_rrr_result, is_to_integer, takes_width}
+use Rattle.rv_encode.specs.Operations.{decoded_csr_imm, decoded_csr_reg, decoded_fli, decoded_fpu_rr, decoded_fpu_rrr, decoded_fpu_rrrr}
+use Rattle.rv_inst.specs.declared.inst.Family.{Family}
+use Rattle.rv_inst.specs.declared.inst.Family.TheVariants.{Float}
+use Rattle.rv_inst.specs.declared.inst.Inst.{Inst}
+use Rattle.rv_inst.specs.declared.inst.Inst.TheVariants.{Fli, FpuRR, FpuRRR, FpuRRRR, CsrReg, CsrImm}
+use Rattle.rv_inst.specs.declared.units.PlacedReg.{PlacedReg}
+
+-- its family; the operation that the machine decodes; its registers, in the order of its fields, each with the class that its place asks;
+-- whether its rounding mode, and its format, are ones that the operation takes; and the trap that it may take, which is recorded at
+-- its word
+pub record UnitWord : Type 0 where
+  pub family : Family
+  pub operation : Decoded
+  pub places : List PlacedReg
+  pub rounding : Bool
+  pub width : Bool
+  pub trap : Option TrapCode
+
+abbrev pub place : RegClass → Reg → PlacedReg
+place class reg = record { class = class; reg = reg }
+
+-- of floating-point numbers, or of their control register
+abbrev pub float_word : Decoded → List PlacedReg → UnitWord
+float_word d places = record { family = Float; operation = d; places = places; rounding = true; width = true; trap = None }
+
+-- a number that no integer of the type asked for is near to
+abbrev pub conversion_trap : Bool → Option TrapCode
+conversion_trap false = None
+conversion_trap true = Some BadConversionToInteger
+
+abbrev pub unit_word : Inst → Option UnitWord
+unit_word (Fli width imm rd) = Some (record (float_word (decoded_fli width (number_of rd.reg) imm.value) (place FloatReg rd.reg ∷ [])) { width = is_width width })
+unit_word (FpuRR op width frm rd rs) = Some (record (float_word (decoded_fpu_rr op width frm (number_of rd.reg) (number_of rs)) (place (fpu_rr_files op).result rd.reg ∷ place (fpu_rr_files op).source rs ∷ [])) {
+  rounding = takes_frm (fpu_rr_numbers op).rounding frm;
+  width = takes_width (fpu_rr_widths op) width;
+  trap = conversion_trap (is_to_integer op);
+})
+unit_word (FpuRRR op width frm rd rs1 rs2) = Some (record (float_word (decoded_fpu_rrr op width frm (number_of rd.reg) (number_of rs1) (number_of rs2)) (place (fpu_rrr_result op) rd.reg ∷ place FloatReg rs1 ∷ place FloatReg rs2 ∷ [])) {
+  rounding = takes_frm (fpu_rrr_numbers op).rounding frm;
+  width = is_width width;
+})
+unit_word (FpuRRRR op width frm rd rs1 rs2 rs3) = Some (record (float_word (decoded_fpu_rrrr op width frm (number_of rd.reg) (number_of rs1) (number_of rs2) (number_of rs3)) (place FloatReg rd.reg ∷ place FloatReg rs1 ∷ place FloatReg rs2 ∷ place FloatReg rs3 ∷ [])) { width = is_width width })
+unit_word (CsrReg op rd rs csr) = Some (float_word (decoded_csr_reg op (number_of rd.reg) (number_of rs)) (place Int rd.reg ∷ place Int rs ∷ []))
+unit_word (CsrImm op rd csr imm) = Some (float_word (decoded_csr_imm op (number_of rd.reg) imm.value) (place Int rd.reg ∷ []))
+unit_word _ = None
+
+pub none_is_some : false ≡ true → ⊥
+none_is_some e = subst (λ (b : Bool). cond b ⊥ (Unit {0})) e tt
+
+abbrev pub given : (w : Option UnitWord) → is_some w ≡ true → UnitWord
+given None e = absurd (none_is_some e)
+given (Some w) e = w
+
+-- that of an instruction that is one, as its own row tells
+abbrev pub unit_of : (inst : Inst) → is_some (unit_word inst) ≡ true → UnitWord
+unit_of inst e = given (unit_word inst) e
+
+-- ---- parts of it, where an instruction is one
+
+abbrev pub registers_in : List PlacedReg → List Reg
+registers_in places = map (λ (p : PlacedReg). p.reg) places
+
+abbrev pub places_in : Option UnitWord → List PlacedReg
+places_in None = []
+places_in (Some w) = w.places
+
+abbrev pub trap_in : Option UnitWord → Option TrapCode
+trap_in None = None
+trap_in (Some w) = w.trap
