@@ -186,6 +186,13 @@ impl FullMachine {
         &self.trace
     }
 
+    /// How many answers are left.
+    pub fn answers_left(&self) -> usize
+        ensures { result ≡ length self.now.full.answers }
+    {
+        self.answers.len() - self.answers_taken
+    }
+
     pub fn set_pc(&mut self, pc: u64)
         ensures { self.new ≡ with_pc self.old pc }
     {
