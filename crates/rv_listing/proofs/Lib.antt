@@ -14,5 +14,6 @@ pub mod HexLines
 pub mod Vectors
 pub mod ByDigit
 pub mod BySlot
+pub mod ByName
 pub mod TypeNames
 pub mod RegisterSets

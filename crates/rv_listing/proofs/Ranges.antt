@@ -15,7 +15,8 @@ use Rattle.rv_base.specs.Trap.{IsUserOf}
 use Rattle.rv_listing.specs.Tokens.{where_true}
 use Rattle.rv_listing.specs.Traps.{user_of}
 use Rattle.rv_listing.specs.Registers.{real, virtual_register}
-use Rattle.rv_listing.specs.Operands.{imm12_of, imm20_of}
+use Rattle.rv_listing.specs.Floats.{fli_of}
+use Rattle.rv_listing.specs.Operands.{imm12_of, imm20_of, uimm5_of}
 
 where_holds : {A : Type 0} (t : Bool) (f : T t → Option A) (x : Option A) → T t → ((h : T t) → x ≡ f h) → x ≡ where_true t f
 where_holds true f x h same = same tt
@@ -40,6 +41,14 @@ virtual_is n low high = where_holds (leb 192 n) _ _ (le→leb 192 n low) (λ l. 
 pub virtual_high : (n : ℕ) → 2097152 ≤ n → None ≡ virtual_register n
 unfolding virtual_register
 virtual_high n high = where_none (leb 192 n) _ (λ l. where_fails (ltb n 2097152) _ (le-ltb n 2097152 high))
+
+pub fli_is : (n : ℕ) (low : n < 32) → Some (record { value = n; small = low }) ≡ fli_of n
+unfolding fli_of
+fli_is n low = where_holds (ltb n 32) _ _ (lt→ltb n 32 low) (λ h. λ i. Some (record { value = n; small = le_prop low (ltb→lt n 32 h) i }))
+
+pub uimm5_is : (n : ℕ) (low : n < 32) → Some (record { value = n; small = low }) ≡ uimm5_of n
+unfolding uimm5_of
+uimm5_is n low = where_holds (ltb n 32) _ _ (lt→ltb n 32 low) (λ h. λ i. Some (record { value = n; small = le_prop low (ltb→lt n 32 h) i }))
 
 same_le : {a b : ℤ} (p q : a ≤ℤ b) → p ≡ q
 same_le {a} {b} p q = λ i. record { le = T_prop (le_z a b) p.le q.le i }

@@ -48,7 +48,12 @@ form_name forms.Call = codes "Call"
 form_name forms.CallInd = codes "CallInd"
 form_name forms.ReturnCall = codes "ReturnCall"
 form_name forms.ReturnCallInd = codes "ReturnCallInd"
+form_name forms.Fli = codes "Fli"
+form_name forms.FpuRR = codes "FpuRR"
 form_name forms.FpuRRR = codes "FpuRRR"
+form_name forms.FpuRRRR = codes "FpuRRRR"
+form_name forms.CsrReg = codes "CsrReg"
+form_name forms.CsrImm = codes "CsrImm"
 form_name forms.Bind = codes "Bind"
 
 unfoldable pub every_form : List Form
@@ -58,7 +63,8 @@ every_form =
     forms.MovFromPReg ∷ forms.Extend ∷ forms.Select ∷ forms.Load ∷ forms.Store ∷ forms.LoadAddr ∷ forms.LabelAddress ∷ forms.Ret ∷ forms.TrapIf ∷ forms.Jal ∷
     forms.CondBr ∷ forms.BrTable ∷ forms.Udf ∷ forms.Jalr ∷ forms.Popcnt ∷ forms.Cltz ∷ forms.Brev8 ∷ forms.StackProbeLoop ∷
     forms.LoadExtNameGot ∷ forms.LoadExtNameNear ∷ forms.LoadExtNameFar ∷ forms.Call ∷ forms.CallInd ∷
-    forms.ReturnCall ∷ forms.ReturnCallInd ∷ forms.FpuRRR ∷ forms.Bind ∷ []
+    forms.ReturnCall ∷ forms.ReturnCallInd ∷ forms.Fli ∷ forms.FpuRR ∷ forms.FpuRRR ∷ forms.FpuRRRR ∷
+    forms.CsrReg ∷ forms.CsrImm ∷ forms.Bind ∷ []
 
 -- the form of the lines that begin with this word
 unfoldable pub form_named : List ℕ → Option Form

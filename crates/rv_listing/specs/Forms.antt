@@ -25,11 +25,12 @@ use Rattle.rv_listing.specs.Tokens.{◌>>=◌, natural}
 use Rattle.rv_listing.specs.FormNames.{form_named}
 use Rattle.rv_listing.specs.Fields.{done, ◌⊛◌, whole}
 use Rattle.rv_listing.specs.Registers.{register}
-use Rattle.rv_listing.specs.Operands.{writable, real_register, imm12, imm20, natural_8, natural_32, label, symbol, offset, target, signedness, leading}
+use Rattle.rv_listing.specs.Operands.{writable, real_register, imm12, imm20, uimm5, natural_8, natural_32, label, symbol, offset, target, signedness, leading}
 use Rattle.rv_listing.specs.Comparisons.{cond_code}
 use Rattle.rv_listing.specs.Addresses.{amode}
 use Rattle.rv_listing.specs.Operations.{alu_rri, alu_rrr, load_op, store_op}
-use Rattle.rv_listing.specs.Floats.{fpu_rrr, fpu_width, rounding_mode}
+use Rattle.rv_listing.specs.Csr.{csr, csr_imm, csr_reg}
+use Rattle.rv_listing.specs.Floats.{fli_constant, fpu_rr, fpu_rrr, fpu_rrrr, fpu_width, rounding_mode}
 use Rattle.rv_listing.specs.Types.{type_named}
 use Rattle.rv_listing.specs.HexDigits.{some_bytes}
 use Rattle.rv_listing.specs.Traps.{trap_named, access_flags}
@@ -219,10 +220,25 @@ return_call_ind reg uses size = form.ReturnCallInd (record { dest = reg; uses = 
 unfoldable pub return_call_ind_form : List (List ℕ) → Option Inst
 return_call_ind_form = whole (done return_call_ind ⊛ register ⊛ listed call_arg_pair ⊛ natural_32)
 
--- ---- those that compute with floating-point numbers
+-- ---- those that compute with floating-point numbers, or read and write their control register
+
+unfoldable pub fli_form : List (List ℕ) → Option Inst
+fli_form = whole (done form.Fli ⊛ fpu_width ⊛ fli_constant ⊛ writable)
+
+unfoldable pub fpu_rr_form : List (List ℕ) → Option Inst
+fpu_rr_form = whole (done form.FpuRR ⊛ fpu_rr ⊛ fpu_width ⊛ rounding_mode ⊛ writable ⊛ register)
 
 unfoldable pub fpu_rrr_form : List (List ℕ) → Option Inst
 fpu_rrr_form = whole (done form.FpuRRR ⊛ fpu_rrr ⊛ fpu_width ⊛ rounding_mode ⊛ writable ⊛ register ⊛ register)
+
+unfoldable pub fpu_rrrr_form : List (List ℕ) → Option Inst
+fpu_rrrr_form = whole (done form.FpuRRRR ⊛ fpu_rrrr ⊛ fpu_width ⊛ rounding_mode ⊛ writable ⊛ register ⊛ register ⊛ register)
+
+unfoldable pub csr_reg_form : List (List ℕ) → Option Inst
+csr_reg_form = whole (done form.CsrReg ⊛ csr_reg ⊛ writable ⊛ register ⊛ csr)
+
+unfoldable pub csr_imm_form : List (List ℕ) → Option Inst
+csr_imm_form = whole (done form.CsrImm ⊛ csr_imm ⊛ writable ⊛ csr ⊛ uimm5)
 
 -- ---- lines
 
@@ -276,7 +292,12 @@ by_form forms.Call ws = put (call_form ws)
 by_form forms.CallInd ws = put (call_ind_form ws)
 by_form forms.ReturnCall ws = put (return_call_form ws)
 by_form forms.ReturnCallInd ws = put (return_call_ind_form ws)
+by_form forms.Fli ws = put (fli_form ws)
+by_form forms.FpuRR ws = put (fpu_rr_form ws)
 by_form forms.FpuRRR ws = put (fpu_rrr_form ws)
+by_form forms.FpuRRRR ws = put (fpu_rrrr_form ws)
+by_form forms.CsrReg ws = put (csr_reg_form ws)
+by_form forms.CsrImm ws = put (csr_imm_form ws)
 by_form forms.Bind ws = bind_form ws
 
 unfoldable pub line_form : List ℕ → List (List ℕ) → Option Line

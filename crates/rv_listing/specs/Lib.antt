@@ -23,3 +23,4 @@ pub mod CodeRanges
 pub mod Relocations
 pub mod Report
 pub mod Floats
+pub mod Csr

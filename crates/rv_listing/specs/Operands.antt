@@ -1,6 +1,7 @@
 -- The tokens for registers, numbers, labels and symbols.
-use Rattle.std.specs.Prelude.{ℕ, Bool, true, false, ◌^◌, ◌-◌, ◌&&◌, List, Option, Some, None, take, drop, if◌then◌else◌, codes, ℤ, pos, negsuc, int_le}
+use Rattle.std.specs.Prelude.{ℕ, Bool, true, false, ◌^◌, ◌-◌, ◌&&◌, List, Option, Some, None, take, drop, if◌then◌else◌, codes, ℤ, pos, negsuc, int_le, nat_lt}
 use Rattle.std.specs.Str.{bytes_eq}
+use lib.Dec.{ltb→lt}
 use lib.Signed.{le_z_yes}
 use Rattle.rv_base.specs.declared.external_name.ExternalName.{ExternalName}
 use Rattle.rv_base.specs.declared.label.MachLabel.{MachLabel}
@@ -10,6 +11,7 @@ use Rattle.rv_base.specs.declared.regs.Writable.{Writable}
 use Rattle.rv_base.specs.Regs.{real_of}
 use Rattle.rv_imms.specs.declared.imm12.Imm12.{Imm12}
 use Rattle.rv_imms.specs.declared.imm20.Imm20.{Imm20}
+use Rattle.rv_imms.specs.declared.uimm5.UImm5.{UImm5}
 use Rattle.rv_inst.specs.declared.inst.CondBrTarget.{CondBrTarget}
 use Rattle.rv_inst.specs.declared.inst.CondBrTarget.TheVariants as targets
 use Rattle.rv_listing.specs.Tokens.{◌>>=◌, where_true, below, starts, decimal, natural, signed}
@@ -33,6 +35,13 @@ imm20_of n = where_true (int_le (negsuc 524287) n) (λ low. where_true (int_le n
 
 unfoldable pub imm20 : List ℕ → Option Imm20
 imm20 w = signed w >>= imm20_of
+
+unfoldable pub uimm5_of : ℕ → Option UImm5
+uimm5_of n = where_true (nat_lt n 32) (λ low. Some (record { value = n; small = ltb→lt n 32 low }))
+
+-- the immediate of an operation on a control and status register: a number of five bits, without a sign
+unfoldable pub uimm5 : List ℕ → Option UImm5
+uimm5 w = natural w >>= uimm5_of
 
 -- a number of 8 bits, without a sign
 unfoldable pub natural_8 : List ℕ → Option ℕ

@@ -1,14 +1,62 @@
-//! Floating-point operations, formats and rounding modes by their names.
+//! Floating-point operations, formats and rounding modes by their names, and constants by their numbers.
 
 ghost use Rattle.std.specs.Prelude.{◌≡◌, Some};
 ghost use Rattle.rv_ops.specs.FloatFields.{width_name, frm_name};
-ghost use Rattle.rv_ops.specs.Fpu.{fpu_rrr_listed};
-ghost use Rattle.rv_listing.specs.Floats.{fpu_rrr, fpu_width, rounding_mode};
+ghost use Rattle.rv_ops.specs.Fpu.{fpu_rr_listed, fpu_rrr_listed, fpu_rrrr_listed};
+ghost use Rattle.rv_listing.specs.Floats.{fpu_rr, fpu_rrr, fpu_rrrr, fpu_width, rounding_mode, fli_of, fli_constant};
 
 use crate::fields::Token;
+use crate::named::{Named, one_named};
 use crate::slots::candidate;
-use crate::tokens::is;
-use rv_ops::{FRM, FpuOPRRR, FpuOPWidth};
+use crate::tokens::{is, natural};
+use rv_ops::{FRM, FliConstant, FpuOPRR, FpuOPRRR, FpuOPRRRR, FpuOPWidth};
+
+const EVERY_FPU_RR: [FpuOPRR; 19] = [
+    FpuOPRR::Fsqrt,
+    FpuOPRR::Fround,
+    FpuOPRR::Fclass,
+    FpuOPRR::FcvtWFmt,
+    FpuOPRR::FcvtWuFmt,
+    FpuOPRR::FcvtLFmt,
+    FpuOPRR::FcvtLuFmt,
+    FpuOPRR::FcvtFmtW,
+    FpuOPRR::FcvtFmtWu,
+    FpuOPRR::FcvtFmtL,
+    FpuOPRR::FcvtFmtLu,
+    FpuOPRR::FmvXFmt,
+    FpuOPRR::FmvFmtX,
+    FpuOPRR::FcvtSH,
+    FpuOPRR::FcvtHS,
+    FpuOPRR::FcvtSD,
+    FpuOPRR::FcvtDS,
+    FpuOPRR::FcvtDH,
+    FpuOPRR::FcvtHD,
+];
+
+impl Named for FpuOPRR {
+    ghost named = { fpu_rr_listed };
+
+    fn name(self) -> &'static str {
+        self.listed_name()
+    }
+}
+
+/// The operation of one register that has this name.
+#[tactic(auto, unfolding(crate::specs::Floats::fpu_rr, crate::specs::Floats::every_fpu_rr))]
+pub fn fpu_rr_named(w: &[u8]) -> Option<FpuOPRR>
+    ensures reads { result ≡ fpu_rr w.now }
+    ensures named { (x : FpuOPRR) → w.now ≡ fpu_rr_listed x → result ≡ Some x }
+{
+    one_named(&EVERY_FPU_RR, w)
+}
+
+impl Token for FpuOPRR {
+    ghost reads = { fpu_rr };
+
+    fn read(w: &[u8]) -> Option<FpuOPRR> {
+        fpu_rr_named(w)
+    }
+}
 
 const EVERY_FPU_RRR: [FpuOPRRR; 14] = [
     FpuOPRRR::Fadd,
@@ -66,6 +114,38 @@ impl Token for FpuOPRRR {
 
     fn read(w: &[u8]) -> Option<FpuOPRRR> {
         fpu_rrr_named(w)
+    }
+}
+
+const EVERY_FPU_RRRR: [FpuOPRRRR; 4] = [
+    FpuOPRRRR::Fmadd,
+    FpuOPRRRR::Fmsub,
+    FpuOPRRRR::Fnmsub,
+    FpuOPRRRR::Fnmadd,
+];
+
+impl Named for FpuOPRRRR {
+    ghost named = { fpu_rrrr_listed };
+
+    fn name(self) -> &'static str {
+        self.listed_name()
+    }
+}
+
+/// The operation of three registers that has this name.
+#[tactic(auto, unfolding(crate::specs::Floats::fpu_rrrr, crate::specs::Floats::every_fpu_rrrr))]
+pub fn fpu_rrrr_named(w: &[u8]) -> Option<FpuOPRRRR>
+    ensures reads { result ≡ fpu_rrrr w.now }
+    ensures named { (x : FpuOPRRRR) → w.now ≡ fpu_rrrr_listed x → result ≡ Some x }
+{
+    one_named(&EVERY_FPU_RRRR, w)
+}
+
+impl Token for FpuOPRRRR {
+    ghost reads = { fpu_rrrr };
+
+    fn read(w: &[u8]) -> Option<FpuOPRRRR> {
+        fpu_rrrr_named(w)
     }
 }
 
@@ -152,5 +232,25 @@ impl Token for FRM {
 
     fn read(w: &[u8]) -> Option<FRM> {
         frm_named(w)
+    }
+}
+
+#[tactic(auto, unfolding(crate::specs::Floats::fli_of))]
+fn fli_of(n: u64) -> Option<FliConstant>
+    ensures { result ≡ fli_of n }
+{
+    if n < 32 {
+        Some(FliConstant { value: n as u8 })
+    } else {
+        None
+    }
+}
+
+impl Token for FliConstant {
+    ghost reads = { fli_constant };
+
+    #[tactic(auto, unfolding(crate::specs::Floats::fli_constant))]
+    fn read(w: &[u8]) -> Option<FliConstant> {
+        fli_of(natural(w)?)
     }
 }

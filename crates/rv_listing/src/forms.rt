@@ -3,10 +3,11 @@
 ghost use Rattle.std.specs.Prelude.{◌≡◌};
 ghost use Rattle.rv_listing.specs.Tokens.{words_after};
 ghost use Rattle.rv_listing.specs.Fields.{Makes};
-ghost use Rattle.rv_listing.specs.Forms.{args_form, rets_form, dummy_use_form, unwind_form, emit_island_form, raw_data_form, lui_form, auipc_form, load_inline_const_form, alu_rrr_form, alu_rr_imm12_form, mov_form, mov_from_preg_form, extend_form, select_info_form, select_form, load_form, store_form, load_addr_form, label_address_form, trap_if_form, jal_form, cond_br_form, br_table_form, udf_form, jalr_form, load_ext_name_got_form, load_ext_name_near_form, load_ext_name_far_form, call_form, call_ind_form, return_call_form, return_call_ind_form, fpu_rrr_form, bind_form, put, by_form, line_form};
+ghost use Rattle.rv_listing.specs.Forms.{args_form, rets_form, dummy_use_form, unwind_form, emit_island_form, raw_data_form, lui_form, auipc_form, load_inline_const_form, alu_rrr_form, alu_rr_imm12_form, mov_form, mov_from_preg_form, extend_form, select_info_form, select_form, load_form, store_form, load_addr_form, label_address_form, trap_if_form, jal_form, cond_br_form, br_table_form, udf_form, jalr_form, load_ext_name_got_form, load_ext_name_near_form, load_ext_name_far_form, call_form, call_ind_form, return_call_form, return_call_ind_form, bind_form, put, by_form, line_form};
 
 use crate::calls::call_info;
 use crate::fields::{LineError, allowed, field, flag, whole};
+use crate::float_forms::{csr_imm, csr_reg, fli, fpu_rr, fpu_rrr, fpu_rrrr};
 use crate::form_names::{Form, form_named};
 use crate::hex_digits::some_bytes;
 use crate::loop_forms::{brev8, cltz, popcnt, stack_probe_loop};
@@ -454,31 +455,6 @@ fn return_call_ind(alloc: Global, rest: &[u8]) -> Result<Inst, LineError>
     }
 }
 
-// ---- those that compute with floating-point numbers
-
-#[tactic(auto, unfolding(crate::specs::Forms::fpu_rrr_form))]
-fn fpu_rrr(rest: &[u8]) -> Option<Inst>
-    ensures { result ≡ fpu_rrr_form (words_after rest.now) }
-{
-    let (alu_op, rest) = field(rest)?;
-    let (width, rest) = field(rest)?;
-    let (frm, rest) = field(rest)?;
-    let (rd, rest) = field(rest)?;
-    let (rs1, rest) = field(rest)?;
-    let (rs2, rest) = field(rest)?;
-    whole(
-        Inst::FpuRRR {
-            alu_op,
-            width,
-            frm,
-            rd,
-            rs1,
-            rs2,
-        },
-        rest,
-    )
-}
-
 // ---- lines
 
 #[tactic(auto, unfolding(crate::specs::Forms::bind_form))]
@@ -546,7 +522,12 @@ fn line_of(alloc: Global, form: Form, rest: &[u8]) -> Result<Line, LineError>
         Form::CallInd => Ok(Line::Inst(call_ind(alloc, rest)?)),
         Form::ReturnCall => Ok(Line::Inst(return_call(alloc, rest)?)),
         Form::ReturnCallInd => Ok(Line::Inst(return_call_ind(alloc, rest)?)),
+        Form::Fli => put(fli(rest)),
+        Form::FpuRR => put(fpu_rr(rest)),
         Form::FpuRRR => put(fpu_rrr(rest)),
+        Form::FpuRRRR => put(fpu_rrrr(rest)),
+        Form::CsrReg => put(csr_reg(rest)),
+        Form::CsrImm => put(csr_imm(rest)),
         Form::Bind => allowed(bind(rest)),
     }
 }

@@ -6,13 +6,13 @@ ghost use Rattle.rv_base.specs.declared.external_name.ExternalName.{ExternalName
 ghost use Rattle.rv_base.specs.Regs.{real_of};
 ghost use Rattle.rv_listing.specs.Tokens.{natural};
 ghost use Rattle.rv_listing.specs.Registers.{register};
-ghost use Rattle.rv_listing.specs.Operands.{writable, real_register, imm12_of, imm12, imm20_of, imm20, natural_8, natural_32, offset_of, offset, label, symbol, target};
+ghost use Rattle.rv_listing.specs.Operands.{writable, real_register, imm12_of, imm12, imm20_of, imm20, uimm5_of, uimm5, natural_8, natural_32, offset_of, offset, label, symbol, target};
 
 use crate::fields::Token;
 use crate::registers::register;
 use crate::tokens::{decimal, is, natural, number, signed, starts};
 use rv_base::{ExternalName, MachLabel, PReg, Reg, Writable};
-use rv_imms::{Imm12, Imm20};
+use rv_imms::{Imm12, Imm20, UImm5};
 use rv_inst::CondBrTarget;
 
 impl Token for Reg {
@@ -89,6 +89,26 @@ impl Token for Imm20 {
     #[tactic(auto, unfolding(crate::specs::Operands::imm20))]
     fn read(w: &[u8]) -> Option<Imm20> {
         imm20_of(signed(w)?)
+    }
+}
+
+#[tactic(auto, unfolding(crate::specs::Operands::uimm5_of))]
+fn uimm5_of(n: u64) -> Option<UImm5>
+    ensures { result ≡ uimm5_of n }
+{
+    if n < 32 {
+        Some(UImm5 { value: n as u8 })
+    } else {
+        None
+    }
+}
+
+impl Token for UImm5 {
+    ghost reads = { uimm5 };
+
+    #[tactic(auto, unfolding(crate::specs::Operands::uimm5))]
+    fn read(w: &[u8]) -> Option<UImm5> {
+        uimm5_of(natural(w)?)
     }
 }
 

@@ -20,11 +20,13 @@ use Rattle.rv_base.specs.declared.value_regs.ValueRegs.TheVariants.{One, Two}
 use Rattle.rv_base.specs.AMode.{registers_of}
 use Rattle.rv_ops.specs.declared.compare.IntegerCompare.{IntegerCompare}
 use Rattle.rv_inst.specs.declared.inst.Inst.{Inst}
-use Rattle.rv_inst.specs.declared.inst.Inst.TheVariants.{Nop0, Nop4, EBreak, SequencePoint, Args, Rets, DummyUse, Unwind, EmitIsland, RawData, Lui, Auipc, LoadInlineConst, AluRRR, AluRRImm12, Mov, MovFromPReg, Extend, Select, Load, Store, LoadAddr, LabelAddress, Ret, TrapIf, Jal, CondBr, BrTable, Udf, Jalr, Popcnt, Cltz, Brev8, StackProbeLoop, LoadExtNameGot, LoadExtNameNear, LoadExtNameFar, Call, CallInd, ReturnCall, ReturnCallInd, FpuRRR}
+use Rattle.rv_inst.specs.declared.inst.Inst.TheVariants.{Nop0, Nop4, EBreak, SequencePoint, Args, Rets, DummyUse, Unwind, EmitIsland, RawData, Lui, Auipc, LoadInlineConst, AluRRR, AluRRImm12, Mov, MovFromPReg, Extend, Select, Load, Store, LoadAddr, LabelAddress, Ret, TrapIf, Jal, CondBr, BrTable, Udf, Jalr, Popcnt, Cltz, Brev8, StackProbeLoop, LoadExtNameGot, LoadExtNameNear, LoadExtNameFar, Call, CallInd, ReturnCall, ReturnCallInd}
 use Rattle.rv_inst.specs.Operands.{all_of, written_in, location_registers, arg_registers, ret_registers, use_registers, def_registers, inst_registers}
 use Rattle.rv_inst.specs.Rules.{is_virtual, is_reserved}
-use Rattle.rv_operands.specs.Operand.{Operand, constraint_of}
-use Rattle.rv_operands.specs.Operands.{address_operands, select_operands, arg_operand, ret_operand, use_operand, def_operand, located_operand, row_of, operands_of, constraints_of}
+use Rattle.rv_inst.specs.UnitWords.{registers_in, unit_of}
+use Rattle.rv_inst.specs.declared.units.PlacedReg.{PlacedReg}
+use Rattle.rv_operands.specs.Operand.{Operand, reads_at, writes_at, constraint_of}
+use Rattle.rv_operands.specs.Operands.{address_operands, select_operands, arg_operand, ret_operand, use_operand, def_operand, located_operand, unit_operands, row_of, operands_of, constraints_of}
 use Rattle.rv_operands.specs.Meeting.{chosen, IsPlaced, ArePlaced, AreUsable}
 use Rattle.rv_operands.proofs.Keeping.{either, placed_before, results_placed}
 
@@ -111,6 +113,18 @@ address_clear test (Label l) o c = (c.0, refl)
 and_address : (test : Reg → Bool) (mode : AMode) (o : Operand) → AreClear test (chosen (address_operands mode ++ o ∷ [])) → list_any test (o.register ∷ registers_of mode) ≡ false
 and_address test mode o c = let parts = address_clear test mode o c in either parts.0 parts.1
 
+-- ---- words of units, whose result is asked for last
+
+sources_clear : (test : Reg → Bool) (sources : List PlacedReg) → AreClear test (chosen (map reads_at sources)) → list_any test (registers_in sources) ≡ false
+sources_clear test [] c = refl
+sources_clear test (p ∷ sources) c = either c.0 (sources_clear test sources c.1)
+
+unit_clear : (test : Reg → Bool) (places : List PlacedReg) → AreClear test (chosen (unit_operands places)) → list_any test (registers_in places) ≡ false
+unit_clear test [] c = refl
+unit_clear test (result ∷ sources) c =
+    let parts = clear_both test (map reads_at sources) (writes_at result ∷ []) c in
+    either parts.1.0 (sources_clear test sources parts.0)
+
 -- ---- every kind
 
 pub quiet : (test : Reg → Bool) (inst : Inst) → ArePlaced (constraints_of inst) (constraints_of inst) → AreClear test (chosen (operands_of inst)) → AreClear test (chosen (row_of inst).own) → list_any test (inst_registers inst) ≡ list_any test (row_of inst).named
@@ -155,4 +169,4 @@ quiet test (Call info) placed c own = call_clear test _ info.uses info.defs _ pl
 quiet test (CallInd info) placed c own = either c.0 (call_clear test _ info.uses info.defs _ placed.1 c.1)
 quiet test (ReturnCall info) placed c own = uses_clear test _ info.uses (placed_before _ (map constraint_of (map use_operand info.uses)) [] placed) c
 quiet test (ReturnCallInd info) placed c own = either c.0 (uses_clear test _ info.uses (placed_before _ (map constraint_of (map use_operand info.uses)) [] placed.1) c.1)
-quiet test (FpuRRR op width frm rd rs1 rs2) placed c own = either c.1.1.0 (either c.0 (either c.1.0 refl))
+quiet test inst placed c own = unit_clear test (unit_of inst refl).places c

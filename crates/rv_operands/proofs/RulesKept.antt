@@ -1,5 +1,6 @@
 -- What registers that are chosen as they are asked for do for each kind of instruction.
 use Rattle.std.specs.Prelude.{◌++◌, ◌||◌, not, Bool, ℕ, false, List, [], ◌∷◌, map}
+use Rattle.std.specs.List.{list_any}
 use Rattle.std.proofs.Common.{◌≡◌, refl, ap, sym, ◌∙◌, subst}
 use Rattle.rv_base.specs.declared.amode.AMode.{AMode}
 use Rattle.rv_base.specs.declared.amode.AMode.TheVariants.{RegOffset, SPOffset, FPOffset, SlotOffset, IncomingArg, Const, Label}
@@ -11,12 +12,10 @@ use Rattle.rv_base.specs.declared.constraint.Constraint.{Constraint}
 use Rattle.rv_base.specs.declared.constraint.Constraint.TheVariants.{RegClobbers}
 use Rattle.rv_base.specs.declared.mem_flags.MemFlagsData.{MemFlagsData}
 use Rattle.rv_base.specs.declared.regs.Reg.{Reg}
-use Rattle.rv_base.specs.declared.regs.RegClass.TheVariants.{Float}
 use Rattle.rv_base.specs.declared.regs.Writable.{Writable}
 use Rattle.rv_base.specs.declared.value_regs.ValueRegs.{ValueRegs}
 use Rattle.rv_base.specs.declared.value_regs.ValueRegs.TheVariants.{One, Two}
 use Rattle.rv_base.specs.Regs.{class_of}
-use Rattle.rv_ops.specs.Fpu.{fpu_rrr_result}
 use Rattle.rv_ops.specs.declared.compare.IntegerCompare.{IntegerCompare}
 use Rattle.rv_ops.specs.declared.memory.LoadOP.{LoadOP}
 use Rattle.rv_ops.specs.declared.memory.StoreOP.{StoreOP}
@@ -24,14 +23,16 @@ use Rattle.rv_inst.specs.declared.inst.Brev8Info.{Brev8Info}
 use Rattle.rv_inst.specs.declared.inst.CountInfo.{CountInfo}
 use Rattle.rv_inst.specs.declared.inst.SelectInfo.{SelectInfo}
 use Rattle.rv_inst.specs.declared.inst.Inst.{Inst}
-use Rattle.rv_inst.specs.declared.inst.Inst.TheVariants.{Nop0, Nop4, EBreak, SequencePoint, Args, Rets, DummyUse, Unwind, EmitIsland, RawData, Lui, Auipc, LoadInlineConst, AluRRR, AluRRImm12, Mov, MovFromPReg, Extend, Select, Load, Store, LoadAddr, LabelAddress, Ret, TrapIf, Jal, CondBr, BrTable, Udf, Jalr, Popcnt, Cltz, Brev8, StackProbeLoop, LoadExtNameGot, LoadExtNameNear, LoadExtNameFar, Call, CallInd, ReturnCall, ReturnCallInd, FpuRRR}
+use Rattle.rv_inst.specs.declared.inst.Inst.TheVariants.{Nop0, Nop4, EBreak, SequencePoint, Args, Rets, DummyUse, Unwind, EmitIsland, RawData, Lui, Auipc, LoadInlineConst, AluRRR, AluRRImm12, Mov, MovFromPReg, Extend, Select, Load, Store, LoadAddr, LabelAddress, Ret, TrapIf, Jal, CondBr, BrTable, Udf, Jalr, Popcnt, Cltz, Brev8, StackProbeLoop, LoadExtNameGot, LoadExtNameNear, LoadExtNameFar, Call, CallInd, ReturnCall, ReturnCallInd}
 use Rattle.rv_inst.specs.Operands.{all_of, written_in}
-use Rattle.rv_inst.specs.Rules.{is_virtual, is_reserved, is_misplaced, has_zero, has_clash, is_uneven, select_clash, clash, is_fifth, is_stack_or_frame, results_clash}
-use Rattle.rv_operands.specs.Operand.{constraint_of}
-use Rattle.rv_operands.specs.Operands.{row_of, operands_of, use_operand, def_operand, select_operands}
+use Rattle.rv_inst.specs.Rules.{is_virtual, is_reserved, is_misplaced, is_out_of_place, has_zero, has_clash, is_uneven, select_clash, clash, is_fifth, is_stack_or_frame, results_clash}
+use Rattle.rv_inst.specs.UnitWords.{unit_of}
+use Rattle.rv_inst.specs.declared.units.PlacedReg.{PlacedReg}
+use Rattle.rv_operands.specs.Operand.{reads_at, writes_at, constraint_of}
+use Rattle.rv_operands.specs.Operands.{row_of, operands_of, unit_operands, use_operand, def_operand, select_operands}
 use Rattle.rv_operands.specs.Meeting.{chosen, definitions, AreDistinct, AreApart, AreMet, AreFree, ArePlaced, AreOfClasses, AreChosen, KeepsRules}
 use Rattle.rv_operands.proofs.ClearRegisters.{quiet, virtual_clear, reserved_clear}
-use Rattle.rv_operands.proofs.Keeping.{either, or_none, apart, absent, no_clash, same_stack, same_frame, AreInt, not_other, all_int, alike, args_alike, rets_alike, uses_alike, defs_alike, both_classes, into, call_written, results_placed, no_results_clash}
+use Rattle.rv_operands.proofs.Keeping.{either, or_none, apart, absent, no_clash, same_stack, same_frame, AreInt, not_other, all_int, alike, pairs_alike, args_alike, rets_alike, uses_alike, defs_alike, both_classes, into, call_written, results_placed, no_results_clash}
 
 -- the rules on classes, on x0 and on clashes
 record KeepsThree (inst : Inst) : Type 0 where
@@ -163,6 +164,14 @@ tail_call_through_keeps info c = record {
   clash = refl;
 }
 
+-- ---- words of units, whose result is asked for last
+
+unit_class : (places : List PlacedReg) → AreOfClasses (unit_operands places) → list_any is_out_of_place places ≡ false
+unit_class [] h = refl
+unit_class (result ∷ sources) h =
+    let parts = both_classes (map reads_at sources) (writes_at result ∷ []) h in
+    either (alike (class_of result.reg) result.class parts.1.0) (pairs_alike reads_at is_out_of_place (λ p h. alike (class_of p.reg) p.class h) sources parts.0)
+
 -- ---- every kind
 
 probe_keeps : (guard_size probe_count : ℕ) (tmp : Writable Reg) → AreChosen (StackProbeLoop guard_size probe_count tmp) → KeepsThree (StackProbeLoop guard_size probe_count tmp)
@@ -210,7 +219,7 @@ three (Call info) c = call_keeps info c
 three (CallInd info) c = call_through_keeps info c
 three (ReturnCall info) c = record { class = uses_alike info.uses c.classes; zero = refl; clash = refl }
 three (ReturnCallInd info) c = tail_call_through_keeps info c
-three (FpuRRR op width frm rd rs1 rs2) c = record { class = either (alike (class_of rd.reg) (fpu_rrr_result op) c.classes.1.1.0) (either (alike (class_of rs1) Float c.classes.0) (either (alike (class_of rs2) Float c.classes.1.0) refl)); zero = refl; clash = refl }
+three inst c = record { class = unit_class (unit_of inst refl).places c.classes; zero = refl; clash = refl }
 
 pub keeps : (inst : Inst) → AreChosen inst → KeepsRules inst
 keeps inst c =

@@ -2,10 +2,11 @@
 use Rattle.std.specs.Prelude.{Option, Some}
 use Rattle.rv_base.specs.declared.regs.Reg.{Reg}
 use Rattle.rv_base.specs.declared.regs.RegClass.{RegClass}
-use Rattle.rv_base.specs.declared.regs.RegClass.TheVariants.{Int, Float}
+use Rattle.rv_base.specs.declared.regs.RegClass.TheVariants.{Int}
 use Rattle.rv_base.specs.declared.regs.Writable.{Writable}
 use Rattle.rv_base.specs.declared.constraint.Constraint.{Constraint}
 use Rattle.rv_base.specs.declared.constraint.Constraint.TheVariants.{RegUse, RegLateUse, RegFixedUse, RegDef, RegEarlyDef, RegFixedDef, AnyDef}
+use Rattle.rv_inst.specs.declared.units.PlacedReg.{PlacedReg}
 
 -- read as the instruction begins, or until it ends, or read in this register; written as it ends, or before all others are read; written
 -- so, and of no use after it, as a temporary is; written in this register; or written to a register or to memory
@@ -45,13 +46,16 @@ writes_early w = of_int w.reg WritesEarly
 abbrev pub scratches : Writable Reg → Operand
 scratches w = of_int w.reg Scratches
 
--- ---- operands of the other files
+-- ---- operands of the class that their place asks
 
-abbrev pub reads_float : Reg → Operand
-reads_float r = record { register = r; class = Some Float; access = Reads }
+abbrev pub at_place : Access → PlacedReg → Operand
+at_place access place = record { register = place.reg; class = Some place.class; access = access }
 
-abbrev pub writes_in : RegClass → Writable Reg → Operand
-writes_in class w = record { register = w.reg; class = Some class; access = Writes }
+abbrev pub reads_at : PlacedReg → Operand
+reads_at place = at_place Reads place
+
+abbrev pub writes_at : PlacedReg → Operand
+writes_at place = at_place Writes place
 
 -- ---- what is asked of a register allocator
 

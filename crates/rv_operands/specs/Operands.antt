@@ -1,7 +1,7 @@
 -- The table of operands: the registers of an instruction that are chosen for it, in the order in which a register allocator is asked for
 -- them, and what it is told beside.
 use Rattle.std.specs.Prelude.{Bool, false, not, List, [], ◌∷◌, ◌++◌, map, Some, None}
-use Rattle.std.proofs.Common.{lit<}
+use Rattle.std.proofs.Common.{lit<, refl}
 use Rattle.rv_base.specs.declared.amode.AMode.{AMode}
 use Rattle.rv_base.specs.declared.amode.AMode.TheVariants.{RegOffset, SPOffset, FPOffset, SlotOffset, IncomingArg, Const, Label}
 use Rattle.rv_base.specs.declared.call.ArgPair.{ArgPair}
@@ -18,13 +18,14 @@ use Rattle.rv_base.specs.declared.regs.Writable.{Writable}
 use Rattle.rv_base.specs.declared.value_regs.ValueRegs.{ValueRegs}
 use Rattle.rv_base.specs.declared.value_regs.ValueRegs.TheVariants.{One, Two}
 use Rattle.rv_base.specs.Regs.{class_of, int_reg}
-use Rattle.rv_ops.specs.Fpu.{fpu_rrr_result}
 use Rattle.rv_inst.specs.declared.inst.Inst.{Inst}
-use Rattle.rv_inst.specs.declared.inst.Inst.TheVariants.{Nop0, Nop4, EBreak, SequencePoint, Args, Rets, DummyUse, Unwind, EmitIsland, RawData, Lui, Auipc, LoadInlineConst, AluRRR, AluRRImm12, Mov, MovFromPReg, Extend, Select, Load, Store, LoadAddr, LabelAddress, Ret, TrapIf, Jal, CondBr, BrTable, Udf, Jalr, Popcnt, Cltz, Brev8, StackProbeLoop, LoadExtNameGot, LoadExtNameNear, LoadExtNameFar, Call, CallInd, ReturnCall, ReturnCallInd, FpuRRR}
+use Rattle.rv_inst.specs.declared.inst.Inst.TheVariants.{Nop0, Nop4, EBreak, SequencePoint, Args, Rets, DummyUse, Unwind, EmitIsland, RawData, Lui, Auipc, LoadInlineConst, AluRRR, AluRRImm12, Mov, MovFromPReg, Extend, Select, Load, Store, LoadAddr, LabelAddress, Ret, TrapIf, Jal, CondBr, BrTable, Udf, Jalr, Popcnt, Cltz, Brev8, StackProbeLoop, LoadExtNameGot, LoadExtNameNear, LoadExtNameFar, Call, CallInd, ReturnCall, ReturnCallInd}
 use Rattle.rv_inst.specs.declared.inst.SelectInfo.{SelectInfo}
+use Rattle.rv_inst.specs.declared.units.PlacedReg.{PlacedReg}
 use Rattle.rv_inst.specs.Operands.{unwind_registers}
 use Rattle.rv_inst.specs.Rules.{class_for, is_stack_or_frame, is_uneven}
-use Rattle.rv_operands.specs.Operand.{Operand, Reads, ReadsIn, Writes, WritesIn, WritesAnywhere, of_int, reads, reads_late, writes, writes_early, scratches, reads_float, writes_in, constraint_of}
+use Rattle.rv_inst.specs.UnitWords.{unit_of}
+use Rattle.rv_operands.specs.Operand.{Operand, Reads, ReadsIn, Writes, WritesIn, WritesAnywhere, of_int, reads, reads_late, writes, writes_early, scratches, reads_at, writes_at, constraint_of}
 
 -- ---- parts of instructions
 
@@ -73,6 +74,11 @@ def_operand d = located_operand d.vreg.reg d.location
 -- the register that a tail call through a register goes through: x5
 abbrev pub fifth : Reg
 fifth = int_reg 5 (lit< tt)
+
+-- Those of one word of a unit: the first of its places is the result's, and is asked for after the others, which are read.
+abbrev pub unit_operands : List PlacedReg → List Operand
+unit_operands [] = []
+unit_operands (result ∷ sources) = map reads_at sources ++ writes_at result ∷ []
 
 -- ---- the table
 
@@ -132,7 +138,7 @@ row_of (Call info) = record (row (map use_operand info.uses ++ map def_operand i
 row_of (CallInd info) = record (row (reads info.dest ∷ map use_operand info.uses ++ map def_operand info.defs)) { clobbers = RegClobbers info.clobbers ∷ [] }
 row_of (ReturnCall info) = row (map use_operand info.uses)
 row_of (ReturnCallInd info) = row (of_int info.dest (ReadsIn fifth) ∷ map use_operand info.uses)
-row_of (FpuRRR op width frm rd rs1 rs2) = row (reads_float rs1 ∷ reads_float rs2 ∷ writes_in (fpu_rrr_result op) rd ∷ [])
+row_of inst = row (unit_operands (unit_of inst refl).places)
 
 abbrev pub operands_of : Inst → List Operand
 operands_of inst = (row_of inst).operands

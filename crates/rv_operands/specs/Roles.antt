@@ -1,10 +1,12 @@
 -- What an instruction is to a compiler's back end: the move, the call or the end of a block that it is.
 use Rattle.std.specs.Prelude.{Bool, true, false, Option, Some, None}
+use Rattle.std.proofs.Common.{refl}
 use Rattle.rv_base.specs.declared.regs.Reg.{Reg}
 use Rattle.rv_base.specs.declared.regs.Writable.{Writable}
 use Rattle.rv_base.specs.declared.call.TryCallInfo.{TryCallInfo}
+use Rattle.rv_inst.specs.UnitWords.{UnitWord, unit_of}
 use Rattle.rv_inst.specs.declared.inst.Inst.{Inst}
-use Rattle.rv_inst.specs.declared.inst.Inst.TheVariants.{Nop0, Nop4, EBreak, SequencePoint, Args, Rets, DummyUse, Unwind, EmitIsland, RawData, Lui, Auipc, LoadInlineConst, AluRRR, AluRRImm12, Mov, MovFromPReg, Extend, Select, Load, Store, LoadAddr, LabelAddress, Ret, TrapIf, Jal, CondBr, BrTable, Udf, Jalr, Popcnt, Cltz, Brev8, StackProbeLoop, LoadExtNameGot, LoadExtNameNear, LoadExtNameFar, Call, CallInd, ReturnCall, ReturnCallInd, FpuRRR}
+use Rattle.rv_inst.specs.declared.inst.Inst.TheVariants.{Nop0, Nop4, EBreak, SequencePoint, Args, Rets, DummyUse, Unwind, EmitIsland, RawData, Lui, Auipc, LoadInlineConst, AluRRR, AluRRImm12, Mov, MovFromPReg, Extend, Select, Load, Store, LoadAddr, LabelAddress, Ret, TrapIf, Jal, CondBr, BrTable, Udf, Jalr, Popcnt, Cltz, Brev8, StackProbeLoop, LoadExtNameGot, LoadExtNameNear, LoadExtNameFar, Call, CallInd, ReturnCall, ReturnCallInd}
 use Rattle.rv_operands.specs.declared.kinds.CallType.{CallType}
 use Rattle.rv_operands.specs.declared.kinds.CallType.TheVariants.{None as NoCall, Regular, TailCall}
 use Rattle.rv_operands.specs.declared.kinds.MachTerminator.{MachTerminator}
@@ -32,6 +34,10 @@ end_by (Some info) = Branch
 
 abbrev pub that_calls : Option TryCallInfo → Roles
 that_calls info = record plain { call = Regular; ends = end_by info }
+
+-- a word of a unit is none of these
+abbrev pub unit_roles : UnitWord → Roles
+unit_roles w = plain
 
 abbrev pub roles_of : Inst → Roles
 roles_of Nop0 = plain
@@ -75,7 +81,7 @@ roles_of (Call info) = that_calls info.try_call_info
 roles_of (CallInd info) = that_calls info.try_call_info
 roles_of (ReturnCall info) = record (that_ends RetCall) { call = TailCall }
 roles_of (ReturnCallInd info) = record (that_ends RetCall) { call = TailCall }
-roles_of (FpuRRR op width frm rd rs1 rs2) = plain
+roles_of inst = unit_roles (unit_of inst refl)
 
 -- a call that returns is a place where a collector may run
 abbrev pub is_regular : CallType → Bool

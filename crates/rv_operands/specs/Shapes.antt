@@ -21,7 +21,7 @@ use Rattle.rv_inst.specs.declared.inst.Brev8Info.{Brev8Info}
 use Rattle.rv_inst.specs.declared.inst.CountInfo.{CountInfo}
 use Rattle.rv_inst.specs.declared.inst.SelectInfo.{SelectInfo}
 use Rattle.rv_inst.specs.declared.inst.Inst.{Inst}
-use Rattle.rv_inst.specs.declared.inst.Inst.TheVariants.{Nop0, Nop4, EBreak, SequencePoint, Args, Rets, DummyUse, Unwind, EmitIsland, RawData, Lui, Auipc, LoadInlineConst, AluRRR, AluRRImm12, Mov, MovFromPReg, Extend, Select, Load, Store, LoadAddr, LabelAddress, Ret, TrapIf, Jal, CondBr, BrTable, Udf, Jalr, Popcnt, Cltz, Brev8, StackProbeLoop, LoadExtNameGot, LoadExtNameNear, LoadExtNameFar, Call, CallInd, ReturnCall, ReturnCallInd, FpuRRR}
+use Rattle.rv_inst.specs.declared.inst.Inst.TheVariants.{Nop0, Nop4, EBreak, SequencePoint, Args, Rets, DummyUse, Unwind, EmitIsland, RawData, Lui, Auipc, LoadInlineConst, AluRRR, AluRRImm12, Mov, MovFromPReg, Extend, Select, Load, Store, LoadAddr, LabelAddress, Ret, TrapIf, Jal, CondBr, BrTable, Udf, Jalr, Popcnt, Cltz, Brev8, StackProbeLoop, LoadExtNameGot, LoadExtNameNear, LoadExtNameFar, Call, CallInd, ReturnCall, ReturnCallInd, Fli, FpuRR, FpuRRR, FpuRRRR, CsrReg, CsrImm}
 
 -- ---- parts of instructions
 
@@ -133,4 +133,9 @@ shape_of (Call info) = Call (call_shape info)
 shape_of (CallInd info) = CallInd (call_through_shape info)
 shape_of (ReturnCall info) = ReturnCall (tail_call_shape info)
 shape_of (ReturnCallInd info) = ReturnCallInd (tail_call_through_shape info)
+shape_of (Fli width imm rd) = Fli width imm (blanked rd)
+shape_of (FpuRR op width frm rd rs) = FpuRR op width frm (blanked rd) (blank rs)
 shape_of (FpuRRR op width frm rd rs1 rs2) = FpuRRR op width frm (blanked rd) (blank rs1) (blank rs2)
+shape_of (FpuRRRR op width frm rd rs1 rs2 rs3) = FpuRRRR op width frm (blanked rd) (blank rs1) (blank rs2) (blank rs3)
+shape_of (CsrReg op rd rs csr) = CsrReg op (blanked rd) (blank rs) csr
+shape_of (CsrImm op rd csr imm) = CsrImm op (blanked rd) csr imm

@@ -11,8 +11,8 @@ ghost use Rattle.rv_operands.specs.Shapes.{shape_of};
 use crate::calls::{calls, calls_through, tail_calls_through};
 use crate::groups::{
     addresses_and_reads, addresses_and_writes, addresses_and_writes_early, chooses, compares,
-    counts, reads_and_writes, reads_and_writes_two_early, reads_one, reads_two_and_writes,
-    reverses, writes_one,
+    counts, reads_and_writes, reads_and_writes_two_early, reads_one, reads_three_and_writes,
+    reads_two_and_writes, reverses, writes_one,
 };
 use crate::pairs::hand_all;
 use rv_base::{OperandVisitor, OutOfMemory};
@@ -306,12 +306,35 @@ fn call_operands<V: OperandVisitor>(inst: Inst, collector: &mut V) -> Handed
     }
 }
 
-/// Of one that computes with floating-point registers.
+/// Of one that computes with floating-point registers, or reads and writes their control register.
 fn float_operands<V: OperandVisitor>(inst: Inst, collector: &mut V) -> Handed
     ensures handed { family_of inst ≡ Float → AreHandedOver V.recorded V.given result.1 collector.old collector.new (constraints_of inst) (constraints_of result.0) }
     ensures same { family_of inst ≡ Float → shape_of result.0 ≡ shape_of inst }
 {
     match inst {
+        Inst::Fli { width, imm, mut rd } => {
+            let handed = writes_one(&mut rd, collector);
+            (Inst::Fli { width, imm, rd }, handed)
+        }
+        Inst::FpuRR {
+            alu_op,
+            width,
+            frm,
+            mut rd,
+            mut rs,
+        } => {
+            let handed = reads_and_writes(&mut rs, &mut rd, collector);
+            (
+                Inst::FpuRR {
+                    alu_op,
+                    width,
+                    frm,
+                    rd,
+                    rs,
+                },
+                handed,
+            )
+        }
         Inst::FpuRRR {
             alu_op,
             width,
@@ -332,6 +355,47 @@ fn float_operands<V: OperandVisitor>(inst: Inst, collector: &mut V) -> Handed
                 },
                 handed,
             )
+        }
+        Inst::FpuRRRR {
+            alu_op,
+            width,
+            frm,
+            mut rd,
+            mut rs1,
+            mut rs2,
+            mut rs3,
+        } => {
+            let handed = reads_three_and_writes(&mut rs1, &mut rs2, &mut rs3, &mut rd, collector);
+            (
+                Inst::FpuRRRR {
+                    alu_op,
+                    width,
+                    frm,
+                    rd,
+                    rs1,
+                    rs2,
+                    rs3,
+                },
+                handed,
+            )
+        }
+        Inst::CsrReg {
+            op,
+            mut rd,
+            mut rs,
+            csr,
+        } => {
+            let handed = reads_and_writes(&mut rs, &mut rd, collector);
+            (Inst::CsrReg { op, rd, rs, csr }, handed)
+        }
+        Inst::CsrImm {
+            op,
+            mut rd,
+            csr,
+            imm,
+        } => {
+            let handed = writes_one(&mut rd, collector);
+            (Inst::CsrImm { op, rd, csr, imm }, handed)
         }
         other => (other, Ok(())),
     }

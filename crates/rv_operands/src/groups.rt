@@ -76,6 +76,24 @@ pub fn reads_two_and_writes<V: OperandVisitor>(
     reads_and_writes(rs2, rd, collector)
 }
 
+/// Three that are read, and one that is written.
+pub fn reads_three_and_writes<V: OperandVisitor>(
+    rs1: &mut Reg,
+    rs2: &mut Reg,
+    rs3: &mut Reg,
+    rd: &mut WritableReg,
+    collector: &mut V,
+) -> Result<(), OutOfMemory>
+    ensures handed { AreHandedOver V.recorded V.given result collector.old collector.new (RegUse rs1.old ∷ RegUse rs2.old ∷ RegUse rs3.old ∷ RegDef rd.old ∷ []) (RegUse rs1.new ∷ RegUse rs2.new ∷ RegUse rs3.new ∷ RegDef rd.new ∷ []) }
+    ensures class_of_rs1 { class_of rs1.new ≡ class_of rs1.old }
+    ensures class_of_rs2 { class_of rs2.new ≡ class_of rs2.old }
+    ensures class_of_rs3 { class_of rs3.new ≡ class_of rs3.old }
+    ensures class_of_rd { class_of rd.new.reg ≡ class_of rd.old.reg }
+{
+    reads(rs1, collector)?;
+    reads_two_and_writes(rs2, rs3, rd, collector)
+}
+
 /// Two that are written before all are read.
 pub fn writes_two_early<V: OperandVisitor>(
     first: &mut WritableReg,

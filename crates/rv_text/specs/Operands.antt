@@ -20,12 +20,15 @@ use Rattle.rv_base.specs.CondCodes.{name_of as cc_name}
 use Rattle.rv_ops.specs.declared.compare.IntegerCompare.{IntegerCompare}
 use Rattle.rv_inst.specs.Rules.{same_register}
 
--- a name, and two or three operands
+-- a name, and two, three or four operands
 abbrev pub two : List ℕ → List ℕ → List ℕ → List ℕ
 two name a b = name ++ codes " " ++ a ++ codes "," ++ b
 
 abbrev pub three : List ℕ → List ℕ → List ℕ → List ℕ → List ℕ
 three name a b c = name ++ codes " " ++ a ++ codes "," ++ b ++ codes "," ++ c
+
+abbrev pub four : List ℕ → List ℕ → List ℕ → List ℕ → List ℕ → List ℕ
+four name a b c d = three name a b c ++ codes "," ++ d
 
 -- 0x and hexadecimal digits, without leading zeros
 abbrev pub hex : ℕ → List ℕ

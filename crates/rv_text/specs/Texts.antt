@@ -16,6 +16,7 @@ use Rattle.rv_base.specs.RegNames.{name_of}
 use Rattle.rv_base.specs.IrType.{name_of as type_name}
 use Rattle.rv_base.specs.Trap.{name_of as trap_name}
 use Rattle.rv_base.specs.AMode.{text_of as amode_text}
+use Rattle.rv_imms.specs.declared.uimm5.UImm5.{UImm5}
 use Rattle.rv_imms.specs.Bits.{text_with_sign}
 use Rattle.rv_ops.specs.declared.alu.AluOPRRR.{AluOPRRR}
 use Rattle.rv_ops.specs.declared.alu.AluOPRRR.TheVariants as rrr
@@ -27,8 +28,19 @@ use Rattle.rv_ops.specs.declared.float_fields.FpuOPWidth.{FpuOPWidth}
 use Rattle.rv_ops.specs.declared.float_fields.FRM.{FRM}
 use Rattle.rv_ops.specs.declared.fpu.FpuOPRRR.{FpuOPRRR}
 use Rattle.rv_ops.specs.declared.fpu.FpuOPRRR.TheVariants as fpu
+use Rattle.rv_ops.specs.declared.fpu.FpuOPRRRR.{FpuOPRRRR}
+use Rattle.rv_ops.specs.declared.fpu_rr.FpuOPRR.{FpuOPRR}
+use Rattle.rv_ops.specs.declared.fli.FliConstant.{FliConstant}
+use Rattle.rv_ops.specs.declared.csr.CsrRegOP.{CsrRegOP}
+use Rattle.rv_ops.specs.declared.csr.CsrRegOP.TheVariants.{CsrRW}
+use Rattle.rv_ops.specs.declared.csr.CsrImmOP.{CsrImmOP}
+use Rattle.rv_ops.specs.declared.csr.CsrImmOP.TheVariants.{CsrRWI}
+use Rattle.rv_ops.specs.declared.csr.CSR.{CSR}
+use Rattle.rv_ops.specs.declared.csr.CSR.TheVariants.{Frm}
+use Rattle.rv_ops.specs.Csr.{csr_reg_name, csr_imm_name, csr_name}
 use Rattle.rv_ops.specs.FloatFields.{frm_name}
-use Rattle.rv_ops.specs.Fpu.{name_with_width, fpu_rrr_stem, fpu_rrr_shows_frm}
+use Rattle.rv_ops.specs.Fli.{fli_text}
+use Rattle.rv_ops.specs.Fpu.{name_with_width, fpu_rr_name, fpu_rr_shows_frm, fpu_rrr_stem, fpu_rrr_shows_frm, fpu_rrrr_stem}
 use Rattle.rv_ops.specs.Memory.{load_name, store_name}
 use Rattle.rv_ops.specs.Compare.{branch_name}
 use Rattle.rv_inst.specs.declared.inst.CondBrTarget.{CondBrTarget}
@@ -39,8 +51,8 @@ use Rattle.rv_inst.specs.declared.inst.CountInfo.{CountInfo}
 use Rattle.rv_inst.specs.declared.inst.Brev8Info.{Brev8Info}
 use Rattle.rv_inst.specs.Rules.{is_zero, same_register}
 use Rattle.rv_inst.specs.declared.inst.Inst.{Inst}
-use Rattle.rv_inst.specs.declared.inst.Inst.TheVariants.{Nop0, Nop4, EBreak, SequencePoint, Args, Rets, DummyUse, Unwind, EmitIsland, RawData, Lui, Auipc, LoadInlineConst, AluRRR, AluRRImm12, Mov, MovFromPReg, Extend, Select, Load, Store, LoadAddr, LabelAddress, Ret, TrapIf, Jal, CondBr, BrTable, Udf, Jalr, Popcnt, Cltz, Brev8, StackProbeLoop, LoadExtNameGot, LoadExtNameNear, LoadExtNameFar, Call, CallInd, ReturnCall, ReturnCallInd, FpuRRR}
-use Rattle.rv_text.specs.Operands.{two, three, hex, label_text, listed, compare_text, value_text, written, table_text, arg_text, ret_text, use_text, unwind_text, try_text}
+use Rattle.rv_inst.specs.declared.inst.Inst.TheVariants.{Nop0, Nop4, EBreak, SequencePoint, Args, Rets, DummyUse, Unwind, EmitIsland, RawData, Lui, Auipc, LoadInlineConst, AluRRR, AluRRImm12, Mov, MovFromPReg, Extend, Select, Load, Store, LoadAddr, LabelAddress, Ret, TrapIf, Jal, CondBr, BrTable, Udf, Jalr, Popcnt, Cltz, Brev8, StackProbeLoop, LoadExtNameGot, LoadExtNameNear, LoadExtNameFar, Call, CallInd, ReturnCall, ReturnCallInd, Fli, FpuRR, FpuRRR, FpuRRRR, CsrReg, CsrImm}
+use Rattle.rv_text.specs.Operands.{two, three, four, hex, label_text, listed, compare_text, value_text, written, table_text, arg_text, ret_text, use_text, unwind_text, try_text}
 
 -- four bytes or eight as one number, the lowest byte first; others one by one
 abbrev pub data_text : List ℕ → List ℕ
@@ -133,6 +145,13 @@ abbrev pub mode_text : Bool → FRM → List ℕ
 mode_text true frm = codes "," ++ frm_name frm
 mode_text false frm = []
 
+-- a constant goes by its text, not by its number
+abbrev pub constant_text : FpuOPWidth → Reg → FliConstant → List ℕ
+constant_text width rd imm = two (name_with_width (codes "fli") width) (name_of rd) (fli_text imm.value)
+
+abbrev pub fpu_rr_text : FpuOPRR → FpuOPWidth → FRM → Reg → Reg → List ℕ
+fpu_rr_text op width frm rd rs = two (fpu_rr_name op width) (name_of rd) (name_of rs) ++ mode_text (fpu_rr_shows_frm op) frm
+
 abbrev pub plain_fpu_rrr_text : FpuOPRRR → FpuOPWidth → FRM → Reg → Reg → Reg → List ℕ
 plain_fpu_rrr_text op width frm rd rs1 rs2 =
     three (name_with_width (fpu_rrr_stem op) width) (name_of rd) (name_of rs1) (name_of rs2) ++ mode_text (fpu_rrr_shows_frm op) frm
@@ -149,6 +168,20 @@ fpu_rrr_text fpu.Fsgnjn width frm rd rs1 rs2 =
 fpu_rrr_text fpu.Fsgnjx width frm rd rs1 rs2 =
     if same_register rs1 rs2 then same_source_text (codes "fabs") width rd rs1 else plain_fpu_rrr_text fpu.Fsgnjx width frm rd rs1 rs2
 fpu_rrr_text op width frm rd rs1 rs2 = plain_fpu_rrr_text op width frm rd rs1 rs2
+
+abbrev pub fpu_rrrr_text : FpuOPRRRR → FpuOPWidth → FRM → Reg → Reg → Reg → Reg → List ℕ
+fpu_rrrr_text op width frm rd rs1 rs2 rs3 =
+    four (name_with_width (fpu_rrrr_stem op) width) (name_of rd) (name_of rs1) (name_of rs2) (name_of rs3) ++ mode_text true frm
+
+-- fsrm is a pseudo-instruction: frm is written, and what it held is dropped
+abbrev pub csr_reg_text : CsrRegOP → Reg → Reg → CSR → List ℕ
+csr_reg_text CsrRW rd rs Frm = if is_zero rd then codes "fsrm " ++ name_of rs else three (csr_reg_name CsrRW) (name_of rd) (csr_name Frm) (name_of rs)
+csr_reg_text op rd rs csr = three (csr_reg_name op) (name_of rd) (csr_name csr) (name_of rs)
+
+-- and so is fsrmi, where what it held is kept
+abbrev pub csr_imm_text : CsrImmOP → Reg → CSR → UImm5 → List ℕ
+csr_imm_text CsrRWI rd Frm imm = if is_zero rd then three (csr_imm_name CsrRWI) (name_of rd) (csr_name Frm) (decimal imm.value) else two (codes "fsrmi") (name_of rd) (decimal imm.value)
+csr_imm_text op rd csr imm = three (csr_imm_name op) (name_of rd) (csr_name csr) (decimal imm.value)
 
 abbrev pub text_of : Inst → List ℕ
 text_of Nop0 = codes "##zero length nop"
@@ -196,4 +229,9 @@ text_of (ReturnCall info) =
     codes "return_call User(" ++ symbol_text info.dest ++ codes ") new_stack_arg_size:" ++ decimal info.new_stack_arg_size ++ flat_map use_text info.uses
 text_of (ReturnCallInd info) =
     codes "return_call_ind " ++ name_of info.dest ++ codes " new_stack_arg_size:" ++ decimal info.new_stack_arg_size ++ flat_map use_text info.uses
+text_of (Fli width imm rd) = constant_text width rd.reg imm
+text_of (FpuRR op width frm rd rs) = fpu_rr_text op width frm rd.reg rs
 text_of (FpuRRR op width frm rd rs1 rs2) = fpu_rrr_text op width frm rd.reg rs1 rs2
+text_of (FpuRRRR op width frm rd rs1 rs2 rs3) = fpu_rrrr_text op width frm rd.reg rs1 rs2 rs3
+text_of (CsrReg op rd rs csr) = csr_reg_text op rd.reg rs csr
+text_of (CsrImm op rd csr imm) = csr_imm_text op rd.reg csr imm

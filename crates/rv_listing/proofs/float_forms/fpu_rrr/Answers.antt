@@ -1,5 +1,5 @@
 use Rattle.rv_listing.specs.Forms.{fpu_rrr_form}
-use Rattle.rv_listing.proofs.forms.fpu_rrr.Goals as goal
+use Rattle.rv_listing.proofs.float_forms.fpu_rrr.Goals as goal
 
 pub returns : goal.returns
 unfolding fpu_rrr_form
