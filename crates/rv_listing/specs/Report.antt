@@ -87,8 +87,9 @@ map_line m = codes "map " ++ decimal m.offset ++ sp ++ decimal m.span ++ flat_ma
 abbrev pub unwind_line : MachUnwind → List ℕ
 unwind_line u = codes "unwind " ++ decimal u.offset ++ sp ++ step_text u.inst ++ lf
 
-abbrev pub report : Code → List ℕ
-report c =
+-- the lines of a code's report, with these texts before its last line
+abbrev pub report_with : List ℕ → Code → List ℕ
+report_with texts c =
     codes "code " ++ decimal (length c.bytes) ++ lf
     ++ all_hex_lines c.bytes
     ++ flat_map span_line c.lines
@@ -102,4 +103,7 @@ report c =
     ++ flat_map patch_line c.patchable_call_sites
     ++ flat_map map_line c.stack_maps
     ++ flat_map unwind_line c.unwinds
-    ++ codes "end " ++ decimal c.end ++ lf
+    ++ (texts ++ codes "end ") ++ decimal c.end ++ lf
+
+abbrev pub report : Code → List ℕ
+report c = report_with [] c

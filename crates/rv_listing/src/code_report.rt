@@ -9,7 +9,7 @@ ghost use Rattle.rv_listing.specs.CodeRanges.{CodeFits};
 ghost use Rattle.rv_base.specs.RegNames.{name_of as register_name};
 ghost use Rattle.rv_listing.specs.Relocations.{target_text};
 ghost use Rattle.rv_listing.specs.UnwindSteps.{step_text};
-ghost use Rattle.rv_listing.specs.Report.{lf, hex_line, all_hex_lines, span_line, return_line, label_line, const_line, reloc_line, trap_line, call_line, frame_text, handler_text, try_line, patch_line, entry_text, map_line, unwind_line, report};
+ghost use Rattle.rv_listing.specs.Report.{lf, hex_line, all_hex_lines, span_line, return_line, label_line, const_line, reloc_line, trap_line, call_line, frame_text, handler_text, try_line, patch_line, entry_text, map_line, unwind_line, report, report_with};
 
 use crate::relocations::kind_name;
 use itoa::{Buffer, write_digits};
@@ -443,10 +443,11 @@ fn estimated_room(code: &Code) -> usize {
     bytes.saturating_add(code.lines.len().saturating_mul(32))
 }
 
-fn text_of(alloc: Global, code: &Code) -> Result<Vec<u8>, OutOfMemory>
-    ensures { IfOk result (λ text. text.items ≡ report code.now) }
+// The text of the code, with these lines before its last one.
+fn text_of(alloc: Global, code: &Code, texts: &[u8]) -> Result<Vec<u8>, OutOfMemory>
+    ensures { IfOk result (λ text. text.items ≡ report_with texts.now code.now) }
 {
-    let mut out = Vec::with_capacity(alloc, estimated_room(code))?;
+    let mut out = Vec::with_capacity(alloc, estimated_room(code).saturating_add(texts.len()))?;
     end_line(&mut out, b"code ", code.bytes.len() as u64)?;
     put_hex_lines(&mut out, code.bytes.as_slice())?;
     put_spans(&mut out, code.lines.as_slice())?;
@@ -460,6 +461,7 @@ fn text_of(alloc: Global, code: &Code) -> Result<Vec<u8>, OutOfMemory>
     put_patches(&mut out, code.patchable_call_sites.as_slice())?;
     put_maps(alloc, &mut out, code.stack_maps.as_slice())?;
     put_unwinds(alloc, &mut out, code.unwinds.as_slice())?;
+    put(&mut out, texts)?;
     end_line(&mut out, b"end ", code.end as u64)?;
     Ok(out)
 }
@@ -472,6 +474,13 @@ pub fn report(alloc: Global, code: &Code) -> Result<Vec<u8>, OutOfMemory>
     ensures text { IfOk result (λ text. text.items ≡ report code.now) }
     ensures one_code { IfOk result (λ text. (other : ACode) → CodeFits code.now → CodeFits other → report other ≡ text.items → other ≡ code.now) }
 {
-    let text = text_of(alloc, code)?;
+    let text = text_of(alloc, code, b"")?;
     Ok(text)
+}
+
+/// The same text, with more lines before the last: those of the texts of its listing's instructions.
+pub fn report_with(alloc: Global, code: &Code, texts: &[u8]) -> Result<Vec<u8>, OutOfMemory>
+    ensures { IfOk result (λ text. text.items ≡ report_with texts.now code.now) }
+{
+    text_of(alloc, code, texts)
 }

@@ -27,7 +27,7 @@ mod types;
 mod unwind_steps;
 mod value_regs;
 
-pub use code_report::report;
+pub use code_report::{report, report_with};
 pub use fields::LineError;
 pub use flags_header::with_flag;
 pub use hex_digits::hex_bytes;
