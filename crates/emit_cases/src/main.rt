@@ -3,37 +3,64 @@
 
 use case_files::{Case, CaseError, Cases, blocks_of, expect_text, read, rows_of, run_cases};
 use hex::encode;
-use rv_asm::run;
+use rv_command::run;
 use rv_stream::{SureSink, SureSource};
 use sha2::{Digest, Sha256};
-use std::alloc::Global;
+use std::alloc::{AllocError, Global};
 use std::fs;
 use std::process::ExitCode;
 
 /// The line before a listing whose report is a short one.
 const FLAGS: &str = "flags m zba zbb zca zcb\n";
 
-/// Calls of the program without words.
+/// Calls of the program.
 struct Calls;
 
-/// The status of a call over a listing, and the sink that took its text.
-fn called(alloc: Global, listing: &str) -> (u8, SureSink) {
+/// The status of a call with these words over a listing, and the sink that took its text.
+fn called(alloc: Global, words: &[String], listing: &str) -> (u8, SureSink) {
     let mut sink = SureSink::new(alloc);
     let outcome = run(
         alloc,
-        &[],
+        words,
         &mut SureSource::new(listing.as_bytes()),
         &mut sink,
     );
     (outcome.status(), sink)
 }
 
-/// The status of a call over a listing, a space, and its text.
-fn given_by(alloc: Global, listing: &str) -> Result<String, CaseError> {
-    let (status, sink) = called(alloc, listing);
+/// The status of a call with these words over a listing, a space, and its text.
+fn given_with(alloc: Global, words: &[String], listing: &str) -> Result<String, CaseError> {
+    let (status, sink) = called(alloc, words, listing);
     let mut text = format!(in alloc; "{status} ")?;
     text.push_str(&String::from_utf8_lossy(alloc, sink.bytes())?)?;
     Ok(text)
+}
+
+/// The same of a call without words.
+fn given_by(alloc: Global, listing: &str) -> Result<String, CaseError> {
+    given_with(alloc, &[], listing)
+}
+
+/// The words of a command after the first, each a space apart.
+fn words_of(alloc: Global, command: &str) -> Result<Vec<String>, AllocError> {
+    let mut words = Vec::new(alloc);
+    for word in command.split(' ').skip(1) {
+        words.push(String::from_str(alloc, word)?)?;
+    }
+    Ok(words)
+}
+
+/// Goes through commands, each a line before its listing, and returns how many there are.
+fn go_through_commands(alloc: Global, cases: &[Case]) -> Result<u32, CaseError> {
+    let mut count = 0u32;
+    for case in cases {
+        let (command, listing) = case.given.split_once('\n').unwrap_or((&case.given, ""));
+        let words = words_of(alloc, command)?;
+        let got = given_with(alloc, &words, listing)?;
+        expect_text(alloc, &case.name, &case.answer, &got)?;
+        count = count.saturating_add(1);
+    }
+    Ok(count)
 }
 
 /// Goes through cases, and returns how many there are.
@@ -131,6 +158,10 @@ impl Cases for Calls {
             "words" => {
                 let cases = rows_of(rt.alloc(), path, &read(rt, path)?)?;
                 go_through_words(rt.alloc(), &cases)
+            }
+            "commands" => {
+                let cases = blocks_of(rt.alloc(), path, &read(rt, path)?)?;
+                go_through_commands(rt.alloc(), &cases)
             }
             "cases" => {
                 let cases = blocks_of(rt.alloc(), path, &read(rt, path)?)?;

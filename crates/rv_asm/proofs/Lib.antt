@@ -1,6 +1,5 @@
 pub mod OneLineMore
 pub mod NoEarlyIsland
-pub mod Outcomes
 pub mod ExitPoints
 pub mod Finish
 pub mod RulesOfLines

@@ -2,7 +2,6 @@ pub mod BoundLabels
 pub mod LinesInBuffer
 pub mod FinishedCode
 pub mod Job
-pub mod Outcomes
 pub mod Reach
 pub mod Refusal
 pub mod Placed

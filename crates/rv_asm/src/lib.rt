@@ -5,8 +5,6 @@ mod assembly;
 mod frame;
 mod line_laws;
 mod lines;
-mod outcome;
-mod program;
 mod ranges;
 mod refusal;
 mod returns;
@@ -18,7 +16,4 @@ pub use line_laws::{
     only_memory_left, runs_compose, same_are_loaded_alike, silent_lines_unrecorded,
     spans_are_short, stack_loads_fine, stack_stores_fine, stored_is_loaded,
 };
-pub use outcome::Outcome;
-pub use program::run;
 pub use rv_listing::{ReadError, read_job, report};
-pub use rv_stream::{MemSink, MemSource, Sink, Source, StdSink, StdSource, SureSink, SureSource};

@@ -1,6 +1,7 @@
 -- A report read back, line by line: the bytes of the code, where the lines and the labels of its listing stand in it, and what a linker
 -- fills.
 use Rattle.std.specs.Prelude.{◌≡◌, ℕ, ◌+◌, ◌-◌, ◌^◌, Bool, ◌&&◌, List, [], ◌∷◌, ◌++◌, length, min, Option, Some, None, Result, Ok, Err, nat_lt, nat_le, ◌==◌, if◌then◌else◌, codes}
+use Rattle.std.specs.Option.{option_map_or}
 use Rattle.std.specs.Str.{bytes_eq}
 use Rattle.std.specs.Int.{w32, to_be_bytes}
 use Rattle.hex.specs.Hex.{encode_lower}
@@ -19,7 +20,7 @@ use Rattle.rv_load.specs.declared.program.Program.{Program}
 use Rattle.rv_load.specs.declared.program.ProgramError.{ProgramError}
 use Rattle.rv_load.specs.declared.program.ProgramError.TheVariants as errors
 use Rattle.rv_load.specs.declared.report.Part.{Part}
-use Rattle.rv_load.specs.declared.report.Part.TheVariants.{Nothing, Bytes, Lines, Returns, Labels, Constants, Relocations, Traps, Calls, Tries, Patches, Maps, Unwinds, End}
+use Rattle.rv_load.specs.declared.report.Part.TheVariants.{Nothing, Bytes, Lines, Returns, Labels, Constants, Relocations, Traps, Calls, Tries, Patches, Maps, Unwinds, Texts, End}
 use Rattle.rv_load.specs.declared.report.Draft.{Draft}
 
 abbrev pub blank : Draft
@@ -40,7 +41,8 @@ rank Tries = 9
 rank Patches = 10
 rank Maps = 11
 rank Unwinds = 12
-rank End = 13
+rank Texts = 13
+rank End = 14
 
 -- all bytes have come, and no later part
 abbrev pub may_have : Part → Draft → Bool
@@ -155,9 +157,17 @@ map_line d ws = map_words ws >>= λ m. if are_entries m.1 then at_offset Maps d 
 abbrev pub unwind_line : Draft → List (List ℕ) → Option Draft
 unwind_line d ws = unwind_words ws >>= λ u. at_offset Unwinds d u.0
 
+-- the number of a line, with a word after it at least
+abbrev pub has_text : List (List ℕ) → Bool
+has_text ws = option_map_or (λ i. nat_lt 0 (length i.1)) (field decimal ws) false
+
+-- `text I TEXT`, whatever the text is
+abbrev pub text_line : Draft → List (List ℕ) → Option Draft
+text_line d ws = if has_text ws && may_have Texts d then Some (record d { part = Texts }) else None
+
 -- `end OFFSET`
 abbrev pub end_line : Draft → List (List ℕ) → Option Draft
-end_line d ws = one_number ws >>= λ n. if may_have Unwinds d && nat_le n d.count then Some (record d { part = End }) else None
+end_line d ws = one_number ws >>= λ n. if may_have Texts d && nat_le n d.count then Some (record d { part = End }) else None
 
 abbrev pub by_name : Draft → List ℕ → List (List ℕ) → Option Draft
 by_name d name ws =
@@ -172,6 +182,7 @@ by_name d name ws =
     if bytes_eq name (codes "patch") then patch_line d ws else
     if bytes_eq name (codes "map") then map_line d ws else
     if bytes_eq name (codes "unwind") then unwind_line d ws else
+    if bytes_eq name (codes "text") then text_line d ws else
     if bytes_eq name (codes "code") then head_line d ws else
     if bytes_eq name (codes "end") then end_line d ws else
     row_line d name ws
@@ -186,7 +197,7 @@ with_line d line = by_words d (words_of line)
 
 -- the code of a report that is whole; the number of the line that is missing, where it isn't
 abbrev pub whole_at : ℕ → Draft → Result Program ℕ
-whole_at n d = if rank d.part == 13 then Ok (record { bytes = d.bytes; lines = d.lines; labels = d.labels; relocs = d.relocs }) else Err n
+whole_at n d = if rank d.part == 14 then Ok (record { bytes = d.bytes; lines = d.lines; labels = d.labels; relocs = d.relocs }) else Err n
 
 -- what comes of a line that is number n
 abbrev pub or_line : ℕ → Option Draft → (Draft → Result Program ℕ) → Result Program ℕ

@@ -6,7 +6,7 @@ ghost use Rattle.hex.specs.Hex.{encode_lower};
 ghost use Rattle.std.specs.Int.{w32, to_be_bytes};
 ghost use Rattle.rv_listing.specs.Tokens.{words_after, words_of, lines_of, decimal};
 ghost use Rattle.rv_listing.specs.Fields.{field, Takes, Makes};
-ghost use Rattle.rv_load.specs.Report.{rank, blank, may_have, is_offset, one_number, head_line, last_bytes, with_bytes, row_line, three_numbers, span_of, span_line, at_offset, return_offset, return_line, with_label, label_line, const_offset, const_line, with_reloc, reloc_line, trap_words, trap_line, call_line, try_line, patch_words, patch_line, map_line, unwind_line, end_line, with_line, MakesDraft, ReadsReport};
+ghost use Rattle.rv_load.specs.Report.{rank, blank, may_have, is_offset, one_number, head_line, last_bytes, with_bytes, row_line, three_numbers, span_of, span_line, at_offset, return_offset, return_line, with_label, label_line, const_offset, const_line, with_reloc, reloc_line, trap_words, trap_line, call_line, try_line, patch_words, patch_line, map_line, unwind_line, has_text, text_line, end_line, with_line, MakesDraft, ReadsReport};
 
 use crate::program::{Program, ProgramError};
 use crate::records::{
@@ -34,6 +34,7 @@ pub enum Part {
     Patches,
     Maps,
     Unwinds,
+    Texts,
     End,
 }
 
@@ -79,7 +80,8 @@ fn rank(part: Part) -> u8
         Part::Patches => 10,
         Part::Maps => 11,
         Part::Unwinds => 12,
-        Part::End => 13,
+        Part::Texts => 13,
+        Part::End => 14,
     }
 }
 
@@ -397,11 +399,32 @@ fn unwind_line(draft: &mut Draft, rest: &[u8]) -> Result<(), LineError>
     }
 }
 
+// Returns whether the number of a line stands here, with a word after it.
+fn has_text(rest: &[u8]) -> bool
+    ensures { result ≡ has_text (words_after rest.now) }
+{
+    match number(rest) {
+        Some((_, rest)) => next_word(rest).is_some(),
+        None => false,
+    }
+}
+
+fn text_line(draft: &mut Draft, rest: &[u8]) -> Result<(), LineError>
+    ensures { MakesDraft (text_line draft.old (words_after rest.now)) draft.new result }
+{
+    if has_text(rest) && may_have(Part::Texts, draft) {
+        draft.part = Part::Texts;
+        Ok(())
+    } else {
+        Err(LineError::NotAllowed)
+    }
+}
+
 fn end_line(draft: &mut Draft, rest: &[u8]) -> Result<(), LineError>
     ensures { MakesDraft (end_line draft.old (words_after rest.now)) draft.new result }
 {
     match last_number(rest) {
-        Some(offset) if may_have(Part::Unwinds, draft) && offset <= draft.count => {
+        Some(offset) if may_have(Part::Texts, draft) && offset <= draft.count => {
             draft.part = Part::End;
             Ok(())
         }
@@ -436,6 +459,8 @@ fn take_line(alloc: Global, draft: &mut Draft, line: &[u8]) -> Result<(), LineEr
         map_line(draft, rest)
     } else if is(b"unwind", name) {
         unwind_line(draft, rest)
+    } else if is(b"text", name) {
+        text_line(draft, rest)
     } else if is(b"code", name) {
         head_line(draft, rest)
     } else if is(b"end", name) {
@@ -460,7 +485,7 @@ fn read_lines(alloc: Global, text: &[u8]) -> Result<Program, ProgramError>
         number += 1;
         rest = after;
     }
-    if rank(draft.part) == 13 {
+    if rank(draft.part) == 14 {
         Ok(Program {
             bytes: draft.bytes,
             lines: draft.lines,

@@ -1,7 +1,7 @@
 //! Whole calls of the program that no file holds: over long inputs, and over streams that fail.
 
 use crate::reported::{assert_reported, reported, run_with};
-use rv_asm::run;
+use rv_command::run;
 use rv_stream::{MemSink, MemSource, SureSink, SureSource};
 use std::alloc::{AllocError, Global};
 use std::process::Abort;

@@ -1,6 +1,6 @@
 //! The status and the text of a call of the program over a listing.
 
-use rv_asm::run;
+use rv_command::run;
 use rv_stream::{SureSink, SureSource};
 use std::alloc::Global;
 use std::process::Abort;

@@ -3,9 +3,9 @@
 
 ghost use Rattle.std.specs.Prelude.{◌≡◌};
 ghost use Rattle.std.specs.Process.{exit_status};
-ghost use Rattle.rv_asm.specs.Outcomes.{status_of};
+ghost use Rattle.rv_command.specs.Outcomes.{status_of};
 
-use rv_asm::{Outcome, run};
+use rv_command::{Outcome, run};
 use rv_stream::{StdSink, StdSource};
 use std::env;
 use std::io::{self, ErrorKind};

@@ -1,0 +1,3 @@
+pub mod Outcomes
+mod Parsing
+mod Numbers

@@ -1,0 +1,132 @@
+//! What a call has to write, and how it ends once that is written.
+
+ghost use Rattle.std.specs.Prelude.{◌≡◌, ◌≢◌, IfOk};
+ghost use Rattle.rv_inst.specs.declared.error.EmitError.TheVariants as errors;
+ghost use Rattle.rv_command.specs.declared.outcome.Outcome.TheVariants as ends;
+ghost use Rattle.rv_command.specs.Outcomes.{wanted, usage_line, too_long_line, syntax_line, error_line, Means, MeansInput, Is};
+
+use crate::outcome::{Outcome, error_line, syntax_line, too_long_line, usage_line};
+use crate::words::Request;
+use rv_asm::assemble;
+use rv_base::{List, OutOfMemory};
+use rv_gen::summary;
+use rv_inst::{Code, EmitError, Job};
+use rv_listing::{ReadError, read_job, report, report_with};
+use rv_text::texts;
+use std::alloc::Global;
+
+#[derive(Drop)]
+pub struct Answer {
+    pub outcome: Outcome,
+    pub text: List<u8>,
+}
+
+pub(crate) fn usage(alloc: Global) -> Result<Answer, OutOfMemory>
+    ensures { IfOk result (Is ends.Usage usage_line) }
+{
+    Ok(Answer {
+        outcome: Outcome::Usage,
+        text: List::from_vec(usage_line(alloc)?),
+    })
+}
+
+pub(crate) fn too_long(alloc: Global) -> Result<Answer, OutOfMemory>
+    ensures { IfOk result (Is ends.TooLong too_long_line) }
+{
+    Ok(Answer {
+        outcome: Outcome::TooLong,
+        text: List::from_vec(too_long_line(alloc)?),
+    })
+}
+
+fn syntax(alloc: Global, line: usize) -> Result<Answer, OutOfMemory>
+    ensures { IfOk result (Is (ends.Syntax line) (syntax_line line)) }
+{
+    Ok(Answer {
+        outcome: Outcome::Syntax { line },
+        text: List::from_vec(syntax_line(alloc, line)?),
+    })
+}
+
+fn refused(alloc: Global, error: EmitError) -> Result<Answer, OutOfMemory>
+    ensures { IfOk result (λ answer. (error ≢ errors.OutOfMemory) × Is (ends.Refused error) (error_line error) answer) }
+{
+    match error {
+        EmitError::OutOfMemory => Err(OutOfMemory),
+        error => {
+            let text = List::from_vec(error_line(alloc, &error)?);
+            Ok(Answer {
+                outcome: Outcome::Refused { error },
+                text,
+            })
+        }
+    }
+}
+
+/// The text of a job's code. The memory of the job is given back before it is made.
+fn wanted(alloc: Global, request: Request, job: Job, code: &Code) -> Result<Vec<u8>, OutOfMemory>
+    ensures { IfOk result (λ text. text.items ≡ wanted request job code.now) }
+{
+    match request {
+        Request::Listing { texts: false } => {
+            drop(job);
+            report(alloc, code)
+        }
+        Request::Listing { texts: true } => {
+            let texts = texts(alloc, job.lines.as_slice())?;
+            drop(job);
+            report_with(alloc, code, &texts)
+        }
+        Request::Generated { number } => {
+            drop(job);
+            summary(alloc, number, code)
+        }
+    }
+}
+
+fn done(alloc: Global, request: Request, job: Job, code: Code) -> Result<Answer, OutOfMemory>
+    ensures { IfOk result (Is (ends.Done code) (wanted request job code)) }
+{
+    let text = List::from_vec(wanted(alloc, request, job, &code)?);
+    Ok(Answer {
+        outcome: Outcome::Done { code },
+        text,
+    })
+}
+
+/// The answer to a job that is asked for so.
+pub(crate) fn answer_of_job(
+    alloc: Global,
+    request: Request,
+    job: Job,
+) -> Result<Answer, OutOfMemory>
+    ensures { IfOk result (λ answer. Means request job answer.outcome answer.text) }
+{
+    match assemble(
+        alloc,
+        job.lines.as_slice(),
+        job.flags,
+        &job.frame,
+        job.constants.as_slice(),
+    ) {
+        Ok(code) => done(alloc, request, job, code),
+        Err(error) => refused(alloc, error),
+    }
+}
+
+/// The answer to an input, whose memory is given back once its job is read.
+pub(crate) fn answer_of_input(
+    alloc: Global,
+    request: Request,
+    input: Vec<u8>,
+) -> Result<Answer, OutOfMemory>
+    ensures { IfOk result (λ answer. MeansInput request input.items answer.outcome answer.text) }
+{
+    let job = match read_job(alloc, &input) {
+        Ok(job) => job,
+        Err(ReadError::Syntax { line }) => return syntax(alloc, line),
+        Err(ReadError::OutOfMemory) => return Err(OutOfMemory),
+    };
+    drop(input);
+    answer_of_job(alloc, request, job)
+}

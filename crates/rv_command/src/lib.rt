@@ -1,0 +1,12 @@
+//! The call of the program `rvemit`: what its words ask for, what it reads, how it ends, and what it writes.
+#![tactic(auto)]
+
+mod answer;
+mod outcome;
+mod program;
+mod words;
+
+pub use outcome::Outcome;
+pub use program::run;
+pub use rv_stream::{MemSink, MemSource, Sink, Source, StdSink, StdSource, SureSink, SureSource};
+pub use words::{Request, WordsError, read_words};
