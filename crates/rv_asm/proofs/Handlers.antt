@@ -21,7 +21,9 @@ use Rattle.rv_inst.specs.Records.{access_records, patch_records, return_records}
 use Rattle.rv_inst.specs.Sizes.{inst_records}
 use Rattle.rv_inst.specs.declared.code.LineSpan.{LineSpan}
 use Rattle.rv_inst.specs.declared.inst.Inst.{Inst}
-use Rattle.rv_inst.specs.declared.inst.Inst.TheVariants.{Load, Store, Call, CallInd}
+use Rattle.rv_inst.specs.UnitWords.{conversion_trap}
+use Rattle.rv_ops.specs.Fpu.{is_to_integer}
+use Rattle.rv_inst.specs.declared.inst.Inst.TheVariants.{Load, Store, Call, CallInd, FpuRR}
 use Rattle.rv_inst.specs.declared.inst.Line.{Line}
 use Rattle.rv_inst.specs.declared.inst.Line.TheVariants.{Inst as Put, Bind}
 use Rattle.rv_emit.specs.Emitted.{Buffer}
@@ -68,6 +70,7 @@ module _ (f g : ℕ → ℕ) where
   inst_agree : (context : Context) (start end : ℕ) (inst : Inst) → Agree (inst_labels inst) → tries_in f (inst_records context start end inst) ≡ tries_in g (inst_records context start end inst)
   inst_agree context start end (Load rd op flags from) h = access_agree _ flags.trap
   inst_agree context start end (Store src op flags to) h = access_agree _ flags.trap
+  inst_agree context start end (FpuRR op width frm rd rs) h = access_agree start (conversion_trap (is_to_integer op))
   inst_agree context start end (Call info) h = return_agree context.frame _ info.stack_map info.try_call_info (patch_records info.patchable _ _) (own_agree info.try_call_info h) (patch_agree info.patchable _ _)
   inst_agree context start end (CallInd info) h =
       subst (λ rs. tries_in f rs ≡ tries_in g rs) (append-nil (return_records context.frame _ info.stack_map info.try_call_info))

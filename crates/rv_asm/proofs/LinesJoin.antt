@@ -14,7 +14,7 @@ use Rattle.rv_inst.specs.Core.{is_integer, is_integer_line}
 use Rattle.rv_inst.specs.declared.inst.Line.{Line}
 use Rattle.rv_inst.specs.declared.inst.Line.TheVariants.{Inst as Put, Bind}
 use Rattle.rv_inst.specs.declared.inst.Inst.{Inst}
-use Rattle.rv_inst.specs.declared.inst.Inst.TheVariants.{FpuRRR}
+use Rattle.rv_inst.specs.declared.inst.Inst.TheVariants.{Call, CallInd}
 use Rattle.rv_inst.specs.declared.job.Job.{Job}
 use Rattle.rv_inst.specs.declared.code.Code.{Code}
 use Rattle.rv_inst.specs.Meaning.{Exit, Next, To, Leave, Break, Trap, Data, exit_of, effect_of, writes_of, temporaries_of, resumed, resumed_by, AreOutside, return_exit}
@@ -234,8 +234,9 @@ comes job code known t base symbols slots i line s v lt e core outside placed is
 
 -- what returns is of the integer core
 returns_integer : (flags : IsaFlags) (inst : Inst) (r : Return) → return_of flags inst ≡ Some r → is_integer inst ≡ true
-returns_integer flags (FpuRRR op width frm rd rs1 rs2) r e = absurd (cc)
-returns_integer flags inst r e = refl
+returns_integer flags (Call info) r e = refl
+returns_integer flags (CallInd info) r e = refl
+returns_integer flags inst r e = absurd (cc)
 
 -- from where the call of a line returns it goes on to the next line
 resumes : (job : Job) (code : Code) (known : Known) → IsThreaded job code known → (base : ℕ) (symbols slots : Addresses) (i : ℕ) (inst : Inst) (r : Return) (s : State) (v : Values) → slice_get job.lines i ≡ Some (Put inst) → return_of job.flags inst ≡ Some r → IsPlaced code base symbols slots s.values.mem → IsState s → AreValues v → s.pc ≡ address_of code base (Returned i) → Same v s.values → Comes job code base symbols slots (Returned i) v s

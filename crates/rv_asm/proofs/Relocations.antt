@@ -27,7 +27,9 @@ use Rattle.rv_inst.specs.Sizes.{Extent, Words, Island, After, Around, extent_of,
 use Rattle.rv_inst.specs.Returns.{StackLoad, loads_unless}
 use Rattle.rv_inst.specs.declared.code.LineSpan.{LineSpan}
 use Rattle.rv_inst.specs.declared.inst.Inst.{Inst}
-use Rattle.rv_inst.specs.declared.inst.Inst.TheVariants.{Load, Store, LoadExtNameGot, LoadExtNameNear, LoadExtNameFar, Call, CallInd, ReturnCall}
+use Rattle.rv_inst.specs.UnitWords.{conversion_trap}
+use Rattle.rv_ops.specs.Fpu.{is_to_integer}
+use Rattle.rv_inst.specs.declared.inst.Inst.TheVariants.{Load, Store, LoadExtNameGot, LoadExtNameNear, LoadExtNameFar, Call, CallInd, ReturnCall, FpuRR}
 use Rattle.rv_inst.specs.declared.inst.Line.{Line}
 use Rattle.rv_inst.specs.declared.inst.Line.TheVariants.{Inst as Put, Bind}
 use Rattle.rv_asm.specs.Reported.{start_of, end_of, line_records, records_from, IsGap, IsSized, IsSpan, FillsInLine, WordsApart}
@@ -107,6 +109,7 @@ return_fill frame at (Some entries) t more from to h = site_fill frame at t more
 inst_fill : (context : Context) (bytes : List ℕ) (inst : Inst) (start end : ℕ) → IsSized context.flags bytes (extent_of context inst) start end → FillInTurn (relocs_in (inst_records context start end inst)) start end
 inst_fill context bytes (Load rd op flags from) start end h = access_fill _ flags.trap start end (omega arith)
 inst_fill context bytes (Store src op flags to) start end h = access_fill _ flags.trap start end (omega arith)
+inst_fill context bytes (FpuRR op width frm rd rs) start end h = access_fill start (conversion_trap (is_to_integer op)) start end (omega arith)
 inst_fill context bytes (LoadExtNameGot rd name) start end h = (omega arith, (omega arith, omega arith))
 inst_fill context bytes (LoadExtNameNear rd name offset) start end h = (omega arith, (omega arith, omega arith))
 inst_fill context bytes (LoadExtNameFar rd name offset) start end h = (omega arith, omega arith)
@@ -149,6 +152,7 @@ call_among flags bytes popped (l ∷ loads) t start end from to h starts ends = 
 inst_among : (context : Context) (bytes : List ℕ) (inst : Inst) (start end j : ℕ) (r : MachReloc) → IsSized context.flags bytes (extent_of context inst) start end → slice_get (relocs_in (inst_records context start end inst)) j ≡ Some r → AreAmong (extent_of context inst) start end r.offset (r.offset + field_size r.kind)
 inst_among context bytes (Load rd op flags from) start end j r h e = absurd (none_filled _ j r (access_fill _ flags.trap 0 0 (omega arith)) e)
 inst_among context bytes (Store src op flags to) start end j r h e = absurd (none_filled _ j r (access_fill _ flags.trap 0 0 (omega arith)) e)
+inst_among context bytes (FpuRR op width frm rd rs) start end j r h e = absurd (none_filled _ j r (access_fill start (conversion_trap (is_to_integer op)) 0 0 (omega arith)) e)
 inst_among context bytes (LoadExtNameGot rd name) start end j r h e = fill_between (relocs_in (inst_records context start end (LoadExtNameGot rd name))) start end j r (inst_fill context bytes (LoadExtNameGot rd name) start end h) e
 inst_among context bytes (LoadExtNameNear rd name offset) start end j r h e = fill_between (relocs_in (inst_records context start end (LoadExtNameNear rd name offset))) start end j r (inst_fill context bytes (LoadExtNameNear rd name offset) start end h) e
 inst_among context bytes (LoadExtNameFar rd name offset) start end j r h e = fill_between (relocs_in (inst_records context start end (LoadExtNameFar rd name offset))) start end j r (inst_fill context bytes (LoadExtNameFar rd name offset) start end h) e

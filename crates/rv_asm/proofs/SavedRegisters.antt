@@ -20,7 +20,9 @@ use Rattle.rv_inst.specs.Sizes.{inst_records}
 use Rattle.rv_inst.specs.Rules.{inst_rule, broken_rule, is_virtual}
 use Rattle.rv_inst.specs.declared.code.LineSpan.{LineSpan}
 use Rattle.rv_inst.specs.declared.inst.Inst.{Inst}
-use Rattle.rv_inst.specs.declared.inst.Inst.TheVariants.{Load, Store, Call, CallInd, Unwind}
+use Rattle.rv_inst.specs.UnitWords.{conversion_trap}
+use Rattle.rv_ops.specs.Fpu.{is_to_integer}
+use Rattle.rv_inst.specs.declared.inst.Inst.TheVariants.{Load, Store, Call, CallInd, Unwind, FpuRR}
 use Rattle.rv_inst.specs.declared.inst.Line.{Line}
 use Rattle.rv_inst.specs.declared.inst.Line.TheVariants.{Inst as Put, Bind}
 use Rattle.rv_emit.proofs.Laws.{keeps}
@@ -58,6 +60,7 @@ return_saves frame at (Some entries) t more h = site_saves frame at t more h
 inst_saves : (context : Context) (start end : ℕ) (inst : Inst) → inst_rule context inst ≡ None → AllByRecursion SavesReal (unwinds_in (inst_records context start end inst))
 inst_saves context start end (Load rd op flags from) rule = access_saves _ flags.trap
 inst_saves context start end (Store src op flags to) rule = access_saves _ flags.trap
+inst_saves context start end (FpuRR op width frm rd rs) rule = access_saves start (conversion_trap (is_to_integer op))
 inst_saves context start end (Call info) rule = return_saves context.frame _ info.stack_map info.try_call_info (patch_records info.patchable _ _) (patch_saves info.patchable _ _)
 inst_saves context start end (CallInd info) rule =
     subst (λ rs. AllByRecursion SavesReal (unwinds_in rs)) (append-nil (return_records context.frame _ info.stack_map info.try_call_info))

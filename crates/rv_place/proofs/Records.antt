@@ -31,7 +31,9 @@ use Rattle.rv_inst.specs.Sizes.{Extent, Words, Island, After, Around, extent_of,
 use Rattle.rv_inst.specs.declared.code.Code.{Code}
 use Rattle.rv_inst.specs.declared.code.LineSpan.{LineSpan}
 use Rattle.rv_inst.specs.declared.inst.Inst.{Inst}
-use Rattle.rv_inst.specs.declared.inst.Inst.TheVariants.{Load, Store, LoadExtNameGot, LoadExtNameNear, LoadExtNameFar, Call, CallInd, ReturnCall}
+use Rattle.rv_inst.specs.UnitWords.{conversion_trap}
+use Rattle.rv_ops.specs.Fpu.{is_to_integer}
+use Rattle.rv_inst.specs.declared.inst.Inst.TheVariants.{Load, Store, LoadExtNameGot, LoadExtNameNear, LoadExtNameFar, Call, CallInd, ReturnCall, FpuRR}
 use Rattle.rv_inst.specs.declared.inst.Line.{Line}
 use Rattle.rv_inst.specs.declared.inst.Line.TheVariants.{Inst as Put, Bind}
 use Rattle.rv_inst.specs.declared.job.Job.{Job}
@@ -117,6 +119,7 @@ pair_aimed false e = absurd (cc)
 inst_aimed : (context : Context) (start end : ℕ) (inst : Inst) → AreAimed (relocs_in (inst_records context start end inst)) (relocs_in (inst_records context start end inst))
 inst_aimed context start end (Load rd op flags from) = access_aimed (relocs_in (inst_records context start end (Load rd op flags from))) _ flags.trap
 inst_aimed context start end (Store src op flags to) = access_aimed (relocs_in (inst_records context start end (Store src op flags to))) _ flags.trap
+inst_aimed context start end (FpuRR op width frm rd rs) = access_aimed (relocs_in (inst_records context start end (FpuRR op width frm rd rs))) start (conversion_trap (is_to_integer op))
 inst_aimed context start end (LoadExtNameGot rd name) = (refl, (pair_aimed _ (at_itself start), tt))
 inst_aimed context start end (LoadExtNameNear rd name offset) = (refl, (pair_aimed _ (at_itself start), tt))
 inst_aimed context start end (LoadExtNameFar rd name offset) = (refl, tt)
