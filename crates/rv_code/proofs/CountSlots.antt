@@ -1,5 +1,5 @@
 -- The instructions that count bits of a register, and that reverse those of its bytes: the pieces that make them, and how long they are.
-use Rattle.std.proofs.Common.{◌≡◌, ℕ, zero, suc, ◌<◌, ◌≤◌, Bool, true, false, refl, ap, sym, subst, arith, lit<, lit≤}
+use Rattle.std.proofs.Common.{◌≡◌, ℕ, zero, suc, ◌<◌, ◌≤◌, Bool, true, false, refl, ap, arith, lit<, lit≤}
 use Rattle.rv_base.specs.IrType.{bits_of}
 use Rattle.rv_base.specs.Regs.{number_of}
 use Rattle.rv_base.specs.declared.flags.IsaFlags.{IsaFlags}
@@ -11,7 +11,6 @@ use Rattle.rv_inst.specs.declared.inst.Inst.TheVariants.{Popcnt, Cltz, Brev8}
 use Rattle.rv_code.specs.Counts.{ones_pieces, zeros_pieces}
 use Rattle.rv_code.specs.Pieces.{pieces_size, IsBoundIn, AreClosedPieces}
 use Rattle.rv_code.specs.Reversals.{reverse_pieces}
-use Rattle.rv_code.proofs.ClosedPieces.{pieces_few}
 use Rattle.rv_code.proofs.MadeOfPieces.{IsMadeOf}
 use Rattle.rv_code.proofs.ShortOps.{window_long}
 

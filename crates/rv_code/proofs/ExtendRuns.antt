@@ -1,5 +1,5 @@
 -- The low bits of a register are extended.
-use Rattle.std.proofs.Common.{◌≡◌, ℕ, zero, suc, ◌+◌, ◌-◌, ◌*◌, ◌/◌, ◌%◌, ◌^◌, ◌<◌, ◌≤◌, pos, negsuc, Bool, true, false, [], ◌∷◌, List, Some, nat_lt, arith, refl, sym, ap, subst, ◌∙◌, lit<, eqb-true, mod-lt, mul-le-mul}
+use Rattle.std.proofs.Common.{◌≡◌, ℕ, zero, suc, ◌+◌, ◌-◌, ◌*◌, ◌/◌, ◌%◌, ◌^◌, ◌<◌, ◌≤◌, pos, negsuc, Bool, true, false, [], ◌∷◌, List, nat_lt, arith, refl, sym, ap, subst, ◌∙◌, lit<, eqb-true, mod-lt, mul-le-mul}
 use Rattle.std.specs.Prelude.{if◌then◌else◌}
 use Rattle.std.specs.Int.Signed.{shr_z}
 use mir.Syntax.{w64}
@@ -18,7 +18,7 @@ use Rattle.rv_ops.specs.Operations.{rri_op, immediate_of, shift_limit}
 use Rattle.rv_inst.specs.Bits.{extended}
 use Rattle.rv_inst.specs.Meaning.{Next, alu_rri}
 use Rattle.rv_inst.specs.Rules.{is_beyond}
-use Rattle.rv_inst.specs.SameValues.{Same, SameBut}
+use Rattle.rv_inst.specs.SameValues.{Same}
 use Rattle.rv_inst.specs.Sizes.{is_byte, right_shift}
 use Rattle.rv_inst.specs.declared.inst.Inst.TheVariants.{Extend}
 use Rattle.rv_code.specs.declared.state.EmitVState.{EmitVState}

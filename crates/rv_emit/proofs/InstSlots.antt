@@ -11,7 +11,6 @@ use Rattle.rv_base.specs.declared.regs.Writable.{Writable}
 use Rattle.std.specs.Int.{to_le_bytes, w32, w64}
 use Rattle.rv_base.specs.declared.flags.IsaFlags.{IsaFlags}
 use Rattle.rv_base.specs.declared.label.MachLabel.{MachLabel}
-use Rattle.rv_ops.specs.declared.alu.AluOPRRI.TheVariants.{Addi}
 use Rattle.rv_ops.specs.declared.memory.LoadOP.{LoadOP}
 use Rattle.rv_ops.specs.declared.memory.LoadOP.TheVariants as loads
 use Rattle.rv_ops.specs.declared.compare.IntegerCompare.{IntegerCompare}
@@ -23,7 +22,7 @@ use Rattle.rv_inst.specs.declared.inst.Inst.{Inst}
 use Rattle.rv_inst.specs.declared.inst.Inst.TheVariants.{Nop0, Nop4, EBreak, SequencePoint, Args, Rets, DummyUse, EmitIsland, RawData, Lui, Auipc, LoadInlineConst, AluRRR, AluRRImm12, Mov, MovFromPReg, Extend, Select, Load, Store, LoadAddr, LabelAddress, Ret, TrapIf, Jal, CondBr, BrTable, Udf, Jalr, Popcnt, Cltz, Brev8, StackProbeLoop, LoadExtNameGot, LoadExtNameNear, LoadExtNameFar, Call, CallInd, ReturnCall, ReturnCallInd, Unwind}
 use Rattle.rv_inst.specs.declared.inst.CondBrTarget.{CondBrTarget}
 use Rattle.rv_inst.specs.declared.inst.CondBrTarget.TheVariants.{Label as ToLabel, Fallthrough}
-use Rattle.rv_inst.specs.Sizes.{Words, extent_of, island_space, move_size, inst_records}
+use Rattle.rv_inst.specs.Sizes.{Words, extent_of, island_space, inst_records}
 use Rattle.rv_inst.specs.Uses.{uses_in}
 use Rattle.rv_base.specs.declared.constant.VCodeConstant.{VCodeConstant}
 use Rattle.rv_inst.specs.Operands.{inst_constant, named_by}

@@ -1,6 +1,6 @@
 -- An instruction that breaks no rule has at most as many bytes as its kind may.
 use Rattle.std.proofs.Common.{◌≡◌, ◌⊎◌, inl, inr, ℕ, ◌+◌, ◌*◌, ◌/◌, ◌≤◌, Bool, true, false, List, [], ◌∷◌, ◌++◌, length, Option, Some, None, refl, subst, arith, lit≤}
-use Rattle.std.specs.Prelude.{nat_eq, ℤ, pos, ◌-ℤ◌, cond, count_by, if◌then◌else◌}
+use Rattle.std.specs.Prelude.{ℤ, pos, ◌-ℤ◌, cond, count_by, if◌then◌else◌}
 use Rattle.std.proofs.lemmas.List.{length-append}
 use Rattle.std.proofs.lemmas.List.Recursion.{is_count_by}
 use Rattle.rv_base.specs.Frame.{sp_to_fp_of}
@@ -33,7 +33,7 @@ use Rattle.rv_inst.specs.Forms.{short_rri, short_jalr, short_load, short_store}
 use Rattle.rv_inst.specs.MostBytes.{most_bytes, return_limit, call_limit, sequence_limit}
 use Rattle.rv_inst.specs.Returns.{StackLoad, saves_from, setup_loads, restores, frame_above, typed_loads, location_loads, result_loads, loads_unless}
 use Rattle.rv_inst.specs.Rules.{is_word_type, is_on_stack, is_stacked, inst_rule}
-use Rattle.rv_inst.specs.Sizes.{space_in, extra_in, words_in, extent_of, island_space, inst_sum, move_size, branch_size, trap_size, return_size, fall, call_extent}
+use Rattle.rv_inst.specs.Sizes.{space_in, extra_in, words_in, extent_of, island_space, inst_sum, branch_size, return_size, fall, call_extent}
 use Rattle.rv_inst.specs.declared.inst.CondBrTarget.{CondBrTarget}
 use Rattle.rv_inst.specs.declared.inst.CondBrTarget.TheVariants.{Label, Fallthrough}
 use Rattle.rv_inst.specs.declared.inst.Inst.{Inst}

@@ -225,7 +225,7 @@ island_sound space old new made sound m = ⊎_elim (λ same. subst IsSoundBuffer
 
 -- at most one label more is allocated
 pub island_few : (space : ℕ) (old new : Buffer) (made : Bool) → IslandIfNeeded space old new made → allocated_of new ≤ 1 + allocated_of old
-island_few space old new made m = ⊎_elim (λ same. let e : allocated_of new ≡ allocated_of old = ap (λ (b : Buffer). allocated_of b) same.1 in omega arith) (λ put. let e = put.1.allocated in omega arith) m.put
+island_few space old new made m = ⊎_elim (λ (same : (made ≡ false) × (new ≡ old)). let e : allocated_of new ≡ allocated_of old = ap (λ (b : Buffer). allocated_of b) same.1 in omega arith) (λ (put : (made ≡ true) × AppendsIsland old new). let e = put.1.allocated in omega arith) m.put
 
 -- an island alone
 pub island_emits : (context : Context) (inst : Inst) (space : ℕ) (old new : Buffer) (made : Bool) → inst ≡ EmitIsland space → IslandIfNeeded space old new made → Emits context inst old new
