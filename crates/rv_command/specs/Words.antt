@@ -18,9 +18,9 @@ use Rattle.rv_command.specs.declared.words.WordsError.TheVariants as errors
 abbrev pub text_rule : Rule
 text_rule = record (new_rule (codes "text")) { long = Some (codes "text"); action = Some SetTrue }
 
--- the greatest number of a generated job that is taken: one less than 64 bits have
+-- the greatest number of a generated job, of 64 bits
 abbrev pub last_number : ℕ
-last_number = 2 ^ 64 - 2
+last_number = 2 ^ 64 - 1
 
 -- `--gen N`, once
 abbrev pub gen_rule : Rule

@@ -12,8 +12,8 @@ use std::alloc::Global;
 use std::fmt;
 use thiserror::Error as ThisError;
 
-/// The greatest number of a generated job that is taken.
-const LAST_NUMBER: u64 = u64::MAX - 1;
+/// The greatest number of a generated job.
+const LAST_NUMBER: u64 = u64::MAX;
 
 /// What the words ask for.
 #[derive(Clone, Copy, Debug, PartialEq, Eq)]
