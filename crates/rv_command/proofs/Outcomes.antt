@@ -10,7 +10,7 @@ use Rattle.rv_inst.specs.declared.code.Code.{Code}
 use Rattle.rv_inst.specs.declared.job.Job.{Job}
 use Rattle.rv_gen.specs.Generated.{gen_job}
 use Rattle.rv_listing.specs.Reading.{reads}
-use Rattle.rv_stream.specs.Ends.{Rose, Gave}
+use Rattle.rv_stream.specs.Ends.{Gave}
 use Rattle.rv_asm.specs.Refusal.{Finds, refusal}
 use Rattle.rv_command.specs.Words.{asked}
 use Rattle.rv_command.specs.declared.words.Request.{Request}

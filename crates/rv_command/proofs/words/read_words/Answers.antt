@@ -1,6 +1,6 @@
 use Rattle.std.proofs.Common.{◌≡◌, ◌∙◌, List, Some, ap, subst, sym, map, codes}
 use Rattle.std.specs.Prelude.{string_bytes, IfSome, Option}
-use Rattle.clap.specs.Words.{App, Row, Text, HasKind, IsUnsignedIn, app_of, fault_of, first_of, found_of, is_simple, is_simple_and_free, kind_of, matches_of, rows_of}
+use Rattle.clap.specs.Words.{App, Text, HasKind, IsUnsignedIn, app_of, fault_of, found_of, is_simple, is_simple_and_free, kind_of, matches_of, rows_of}
 use Rattle.clap.proofs.WalkLemmas.{first_value-rows}
 use Rattle.rv_command.specs.Words.{last_number, rvemit_app, asked}
 use Rattle.rv_command.proofs.Parsing.{is_simple_app, is_free_app, asked_for, parsed_error}
