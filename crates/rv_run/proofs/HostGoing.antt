@@ -154,8 +154,7 @@ module _ (host traced : Bool) (flags : IsaFlags) (base len limit : ℕ) (first :
       → HostRuns host traced flags base len limit first k new.full ending text × (new.flags ≡ flags)
   under_ends new ending u turned unanswered =
       let going = u.going.going in
-      let same : new.flags ≡ flags = ap (λ (m : Machine). m.flags) turned.1 ∙ u.going.same in
-      (
+      let same : new.flags ≡ flags = ap (λ (m : Machine). m.flags) turned.1 ∙ u.going.same in (
         record {
           more = u.more;
           given = u.given;
