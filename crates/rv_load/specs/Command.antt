@@ -33,10 +33,10 @@ opening = on_top (λ s. record s { has_version = true; no_binary_name = true }) 
 
 unfoldable pub rvrun_app : App
 rvrun_app =
-    with_rule (with_rule (with_rule (with_rule (with_rule (with_rule (with_rule (with_rule (with_rule (with_rule (with_rule (with_rule (with_rule opening
+    with_rule (with_rule (with_rule (with_rule (with_rule (with_rule (with_rule (with_rule (with_rule (with_rule (with_rule (with_rule (with_rule (with_rule opening
     (flag_rule (codes "hex"))) (option_rule (codes "base"))) (option_rule (codes "flags"))) (option_rule (codes "from")))
     (option_rule (codes "at"))) (option_rule (codes "steps"))) (list_rule (codes "data"))) (list_rule (codes "symbol")))
-    (list_rule (codes "slot"))) (option_rule (codes "setting"))) (list_rule (codes "answer"))) (flag_rule (codes "trace")))
+    (list_rule (codes "slot"))) (option_rule (codes "setting"))) (list_rule (codes "answer"))) (option_rule (codes "unit"))) (flag_rule (codes "trace")))
     (word_rule (codes "REGISTER=VALUE"))
 
 abbrev pub is_set : Option Text → Bool
@@ -56,6 +56,7 @@ pub record IsGiven (rows : List Row) (g : Given) : Type 0 where
   pub slots : map (λ s. s.now) g.slots ≡ unwrap_or (all_of (codes "slot") rows) []
   pub setting : option_map (λ s. s.now) g.setting ≡ first_of (codes "setting") rows
   pub answers : map (λ s. s.now) g.answers ≡ unwrap_or (all_of (codes "answer") rows) []
+  pub unit : option_map (λ s. s.now) g.unit ≡ first_of (codes "unit") rows
   pub registers : map (λ s. s.now) g.registers ≡ unwrap_or (all_of (codes "REGISTER=VALUE") rows) []
 
 -- no call for help or the version

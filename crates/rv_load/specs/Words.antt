@@ -166,6 +166,12 @@ abbrev pub answers_from : ℕ → List Answer → List (Bor (List ℕ)) → Resu
 answers_from i old [] = Ok old
 answers_from i old (w ∷ ws) = or_bad (bad.Answer i) (answer w.now) then λ new. answers_from (i + 1) (old ++ new ∷ []) ws
 
+-- ---- the unit
+
+abbrev pub host_of : Option (Bor (List ℕ)) → Result Bool BadWord
+host_of None = Ok false
+host_of (Some w) = if bytes_eq w.now (codes "host") then Ok true else Err bad.Unit
+
 -- ---- all of them
 
 -- what the words say, or the first bad one in this order
@@ -174,8 +180,8 @@ settings_of g =
     base_of g then λ base. flags_of g.flags then λ flags. start_of g.from g.at then λ start. steps_of g then λ steps.
     data_from 0 [] g.memory then λ bytes. registers_from 0 [] g.registers then λ registers.
     addresses_from Symbol 0 [] g.symbols then λ symbols. addresses_from Slot 0 [] g.slots then λ slots.
-    setting_of g.setting then λ setting. answers_from 0 [] g.answers then λ answers.
-    Ok (record { base = base; flags = flags; start = start; steps = steps; trace = g.trace; registers = registers; memory = bytes; symbols = symbols; slots = slots; setting = setting; answers = answers })
+    setting_of g.setting then λ setting. answers_from 0 [] g.answers then λ answers. host_of g.unit then λ host.
+    Ok (record { base = base; flags = flags; start = start; steps = steps; trace = g.trace; registers = registers; memory = bytes; symbols = symbols; slots = slots; setting = setting; answers = answers; host = host })
 
 -- what a reader of words returned; being out of memory says nothing
 abbrev pub Reads : {A : Type 0} → Result A BadWord → Result A SettingsError → Type 0

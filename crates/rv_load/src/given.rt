@@ -18,5 +18,6 @@ pub struct Given<'a> {
     pub slots: List<&'a str>,
     pub setting: Option<&'a str>,
     pub answers: List<&'a str>,
+    pub unit: Option<&'a str>,
     pub registers: List<&'a str>,
 }

@@ -5,7 +5,7 @@ ghost use Rattle.std.specs.List.{list_any};
 ghost use Rattle.std.specs.Str.{bytes_eq};
 ghost use Rattle.rv_listing.specs.Tokens.{parts_of};
 ghost use Rattle.rv_listing.specs.FlagsHeader.{flags_form};
-ghost use Rattle.rv_load.specs.Words.{value, number_or, base_of, steps_of, start_of, flags_of, file_register, is_same_file, is_same, named_register, register_value, with_register, put_register, registers_from, or_bad, data_bytes, data_from, name_address, with_address, put_address, addresses_from, settings_of, Reads, Leaves};
+ghost use Rattle.rv_load.specs.Words.{value, number_or, base_of, steps_of, start_of, flags_of, file_register, is_same_file, is_same, named_register, register_value, with_register, put_register, registers_from, or_bad, data_bytes, data_from, name_address, with_address, put_address, addresses_from, host_of, settings_of, Reads, Leaves};
 
 use crate::answers::{answers_of, setting_of};
 use crate::given::Given;
@@ -70,6 +70,8 @@ pub struct Settings {
     pub setting: Setting,
     /// What the units answer, in order.
     pub answers: List<Answer>,
+    /// Whether the host computes what no answer is left for.
+    pub host: bool,
 }
 
 /// A word that says nothing of a run. Data, registers, symbols, slots and answers are counted from 0.
@@ -101,6 +103,8 @@ pub enum BadWord {
     Setting,
     #[error("the answer with number {index}")]
     Answer { index: usize },
+    #[error("the unit")]
+    Unit,
 }
 
 /// Why words give no settings.
@@ -408,8 +412,24 @@ impl From<BadWord> for SettingsError {
     }
 }
 
+/// Whether the host is the unit.
+fn host_of(given: Option<&str>) -> Result<bool, BadWord>
+    ensures { result ≡ host_of given.entry }
+{
+    match given {
+        None => Ok(false),
+        Some(w) => {
+            if is(b"host", w.as_bytes()) {
+                Ok(true)
+            } else {
+                Err(BadWord::Unit)
+            }
+        }
+    }
+}
+
 /// What the words say; or the first bad one, in the order of base, flags, start, steps, data, registers, symbols, slots,
-/// setting and answers.
+/// setting, answers and unit.
 pub fn settings_of(alloc: Global, given: &Given) -> Result<Settings, SettingsError>
     ensures { Reads (settings_of given.now) result }
 {
@@ -423,6 +443,7 @@ pub fn settings_of(alloc: Global, given: &Given) -> Result<Settings, SettingsErr
     let slots = addresses_of(alloc, Named::Slot, given.slots.as_slice())?;
     let setting = setting_of(given.setting)?;
     let answers = answers_of(alloc, given.answers.as_slice())?;
+    let host = host_of(given.unit)?;
     Ok(Settings {
         base,
         flags,
@@ -435,5 +456,6 @@ pub fn settings_of(alloc: Global, given: &Given) -> Result<Settings, SettingsErr
         slots,
         setting,
         answers,
+        host,
     })
 }

@@ -186,6 +186,15 @@ fn command<'a>(alloc: Global) -> Result<Command<'a>, OutOfMemory>
             "What a unit answers, in order: bits:0x40, success, failure, length:4, vector:8=0x1 or stored:01--",
         ),
     )?;
+    let c = with_arg(
+        c,
+        option(
+            alloc,
+            "unit",
+            "NAME",
+            "What answers for floating-point operations where no answer is left: host, this machine's own arithmetic",
+        ),
+    )?;
     let c = with_arg(c, flag(alloc, "trace", "Print each step"))?;
     with_arg(
         c,
@@ -253,6 +262,7 @@ fn given_by<'a>(alloc: Global, matches: &ArgMatches<'a>) -> Result<Given<'a>, Ou
         slots: all_given(alloc, matches, "slot")?,
         setting: given(matches, "setting"),
         answers: all_given(alloc, matches, "answer")?,
+        unit: given(matches, "unit"),
         registers: all_given(alloc, matches, "REGISTER=VALUE")?,
     })
 }

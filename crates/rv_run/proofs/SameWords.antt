@@ -1,6 +1,7 @@
 -- What words give, they give once: readings of the same words have the same settings, and say the same of a bad word.
 use Rattle.std.proofs.Common.{◌≡◌, ℕ, ◌+◌, List, [], ◌∷◌, ◌++◌, Option, Some, None, Result, Ok, Err, refl, sym, ap, ◌∙◌}
-use Rattle.std.specs.Prelude.{map, option_map, unwrap_or, slice_get}
+use Rattle.std.specs.Prelude.{true, map, option_map, unwrap_or, slice_get, if◌then◌else◌, codes}
+use Rattle.std.specs.Str.{bytes_eq}
 use Rattle.std.specs.Borrow.{Bor}
 use Rattle.std.proofs.lemmas.Option.{same_Some, slice_get-map}
 use Rattle.rv_base.specs.declared.external_name.ExternalName.{ExternalName}
@@ -18,7 +19,7 @@ use Rattle.rv_load.specs.declared.settings.Start.TheVariants as start
 use Rattle.rv_full.specs.declared.answer.Answer.{Answer}
 use Rattle.rv_load.specs.Answers.{answer, setting_pair}
 use Rattle.rv_load.specs.Command.{Parses}
-use Rattle.rv_load.specs.Words.{or_bad, ◌then◌, number_or, aligned, start_of, flags_of, put_register, registers_from, data_bytes, data_from, put_address, addresses_from, setting_of, answers_from, settings_of}
+use Rattle.rv_load.specs.Words.{or_bad, ◌then◌, number_or, aligned, start_of, flags_of, put_register, registers_from, data_bytes, data_from, put_address, addresses_from, setting_of, answers_from, host_of, settings_of}
 use Rattle.rv_run.specs.Outcomes.{Asked, given_text, listed_text, addresses_of, word_text}
 
 abbrev text : Option (Bor (List ℕ)) → Option (List ℕ)
@@ -42,6 +43,7 @@ pub record Alike (g h : Given) : Type 0 where
   slots : texts g.slots ≡ texts h.slots
   setting : text g.setting ≡ text h.setting
   answers : texts g.answers ≡ texts h.answers
+  unit : text g.unit ≡ text h.unit
 
 pub alike : (words : List (List ℕ)) (g h : Given) → Parses words (Ok g) → Parses words (Ok h) → Alike g h
 alike words g h p q = record {
@@ -58,6 +60,7 @@ alike words g h p q = record {
   slots = p.1.slots ∙ sym q.1.slots;
   setting = p.1.setting ∙ sym q.1.setting;
   answers = p.1.answers ∙ sym q.1.answers;
+  unit = p.1.unit ∙ sym q.1.unit;
 }
 
 -- ---- settings
@@ -119,6 +122,12 @@ setting_alike None (Some y) e = absurd (cc)
 setting_alike (Some x) None e = absurd (cc)
 setting_alike (Some x) (Some y) e = ap (λ w. or_bad bad.Setting (setting_pair w)) (same_Some x.now y.now e)
 
+host_alike : (a b : Option (Bor (List ℕ))) → text a ≡ text b → host_of a ≡ host_of b
+host_alike None None e = refl
+host_alike None (Some y) e = absurd (cc)
+host_alike (Some x) None e = absurd (cc)
+host_alike (Some x) (Some y) e = ap (λ w. if bytes_eq w (codes "host") then Ok true else Err bad.Unit) (same_Some x.now y.now e)
+
 answers_alike : (i : ℕ) (old : List Answer) (xs ys : List (Bor (List ℕ))) → texts xs ≡ texts ys → answers_from i old xs ≡ answers_from i old ys
 answers_alike i old [] [] e = refl
 answers_alike i old [] (y ∷ ys) e = absurd (cc)
@@ -133,8 +142,8 @@ settings_alike g h a j =
     (number_alike 0x10000 bad.Base g.base h.base a.base j then aligned) then λ base. flags_alike g.flags h.flags a.flags j then λ flags. start_alike g.from h.from g.at h.at a.from a.at j then λ start. number_alike 10000000 bad.Steps g.steps h.steps a.steps j then λ steps.
     data_alike 0 [] g.memory h.memory a.memory j then λ bytes. registers_alike 0 [] g.registers h.registers a.registers j then λ registers.
     addresses_alike Symbol 0 [] g.symbols h.symbols a.symbols j then λ symbols. addresses_alike Slot 0 [] g.slots h.slots a.slots j then λ slots.
-    setting_alike g.setting h.setting a.setting j then λ setting. answers_alike 0 [] g.answers h.answers a.answers j then λ answers.
-    Ok (record { base = base; flags = flags; start = start; steps = steps; trace = a.trace j; registers = registers; memory = bytes; symbols = symbols; slots = slots; setting = setting; answers = answers })
+    setting_alike g.setting h.setting a.setting j then λ setting. answers_alike 0 [] g.answers h.answers a.answers j then λ answers. host_alike g.unit h.unit a.unit j then λ host.
+    Ok (record { base = base; flags = flags; start = start; steps = steps; trace = a.trace j; registers = registers; memory = bytes; symbols = symbols; slots = slots; setting = setting; answers = answers; host = host })
 
 -- a result is one
 pub not_both : {X Y : Type 0} (r : Result X Y) (x : X) (y : Y) → r ≡ Ok x → r ≡ Err y → ⊥
@@ -177,3 +186,4 @@ word_alike g h a (bad.Address named index) = listed_alike index (addresses_of g 
 word_alike g h a (bad.AddressTwice named index) = listed_alike index (addresses_of g named) (addresses_of h named) (addresses_texts g h a named)
 word_alike g h a bad.Setting = given_alike g.setting h.setting a.setting
 word_alike g h a (bad.Answer index) = listed_alike index g.answers h.answers a.answers
+word_alike g h a bad.Unit = given_alike g.unit h.unit a.unit

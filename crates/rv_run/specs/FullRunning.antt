@@ -44,7 +44,3 @@ IsIntegerEnd flags b (NeedsAnswer offset word) = ⊥
 abbrev pub StepOrEnding : ℕ → ℕ → ℕ → ℕ → Machine → Machine → Option Ending → Type 0
 StepOrEnding base len limit k old new None = (full_ending_of old.flags base len limit k old.full ≡ None) × (fstep old.flags old.full ≡ Some new.full) × (new.flags ≡ old.flags)
 StepOrEnding base len limit k old new (Some ending) = (full_ending_of old.flags base len limit k old.full ≡ Some ending) × (new ≡ old)
-
--- a run of a machine
-abbrev pub RunsTo : ℕ → ℕ → ℕ → Machine → ℕ → Machine → Ending → Type 0
-RunsTo base len limit old k new ending = FullRuns old.flags base len limit old.full k new.full ending × (new.flags ≡ old.flags)

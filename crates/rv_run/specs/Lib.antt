@@ -1,4 +1,5 @@
 pub mod Files
+pub mod Computed
 pub mod FullRunning
 pub mod Memory
 pub mod Outcomes

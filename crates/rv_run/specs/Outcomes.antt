@@ -31,12 +31,12 @@ use Rattle.rv_load.specs.Hex.{ReadsHex}
 use Rattle.rv_load.specs.Report.{ReadsReport}
 use Rattle.rv_load.specs.Words.{settings_of}
 use Rattle.rv_run.specs.Files.{unit_lines}
-use Rattle.rv_run.specs.FullRunning.{FullRuns, IsIntegerEnd}
+use Rattle.rv_run.specs.Computed.{HostRuns}
+use Rattle.rv_run.specs.FullRunning.{IsIntegerEnd}
 use Rattle.rv_run.specs.Memory.{memory_lines}
 use Rattle.rv_run.specs.Output.{file, run_text}
 use Rattle.rv_run.specs.Running.{Runs}
 use Rattle.rv_run.specs.Starting.{begin}
-use Rattle.rv_run.specs.Tracing.{trace_where}
 use Rattle.rv_run.specs.declared.ending.Ending.{Ending}
 use Rattle.rv_run.specs.declared.ending.Ending.TheVariants.{Left, Limit, Break, NoOperation, NeedsAnswer}
 use Rattle.rv_run.specs.declared.result.Run.{Run}
@@ -58,6 +58,7 @@ cause_text (bad.Address named index) = codes "no NAME=ADDRESS with a name as use
 cause_text (bad.AddressTwice named index) = codes "gives a name that an earlier word gives"
 cause_text bad.Setting = codes "no AVL,VTYPE with a vector length below 32 and a vtype below 256"
 cause_text (bad.Answer index) = codes "no success, failure, bits:VALUE, length:N, vector:N=0xBITS or stored:HEX"
+cause_text bad.Unit = codes "no unit, which host is"
 
 abbrev pub word_line : BadWord → List ℕ → List ℕ
 word_line cause word = codes "rvrun: " ++ word ++ codes ": " ++ cause_text cause ++ codes "\n"
@@ -145,13 +146,13 @@ abbrev pub Loads : Bool → List ℕ → Result Program ProgramError → Type 0
 Loads true = ReadsHex
 Loads false = ReadsReport
 
--- What is shown is of the machine that so many steps of the model reach from the one that the words and the program
--- give, and the run ended there for this cause.
+-- What is shown is of the machine that so many steps of the model reach from the one that the words and the program give, with
+-- the answers of the words and then those that the host computes, where the words name it; and the run ended there for this cause.
 pub record IsRun (s : Settings) (p : Program) (run : Run) : Type 0 where
   pub first : Machine
   pub last : Machine
   pub begins : begin s p ≡ Ok first
-  pub ran : FullRuns s.flags s.base (length p.bytes) s.steps first.full run.steps last.full run.ending
+  pub ran : HostRuns s.host s.trace s.flags s.base (length p.bytes) s.steps first.full run.steps last.full run.ending run.trace
   -- a run of the integer machine is this one, where no unit goes on at its end: as many steps, to the same state and cause, and all else as it was
   pub integer : (k : ℕ) (t : State) (ending : Ending) → Runs s.flags s.base (length p.bytes) s.steps first.full.state k t ending → IsIntegerEnd s.flags (put t first.full) ending
       → (run.steps ≡ k) × (last.full ≡ put t first.full) × (run.ending ≡ ending)
@@ -162,7 +163,6 @@ pub record IsRun (s : Settings) (p : Program) (run : Run) : Type 0 where
   pub after : run.after ≡ file 31 last.full.state.values
   pub units : run.units ≡ unit_lines first.full.units last.full.units
   pub memory : run.memory ≡ memory_lines first.full.state.values.mem last.full.state.values.mem
-  pub trace : run.trace ≡ trace_where s.trace s.flags s.base run.steps first.full
 
 -- the text of a word, where it was given
 abbrev pub given_text : Option (Bor (List ℕ)) → List ℕ
@@ -191,6 +191,7 @@ word_text g (bad.Address named index) = listed_text (addresses_of g named) index
 word_text g (bad.AddressTwice named index) = listed_text (addresses_of g named) index
 word_text g bad.Setting = given_text g.setting
 word_text g (bad.Answer index) = listed_text g.answers index
+word_text g bad.Unit = given_text g.unit
 
 -- why the code can't stand at its base with the addresses that the words give, if it can't
 abbrev pub unplaced : Settings → Program → Option PlaceError

@@ -3,6 +3,7 @@
 
 mod ending;
 mod files;
+mod host;
 mod memory;
 mod outcome;
 mod output;

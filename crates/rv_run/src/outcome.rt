@@ -116,6 +116,7 @@ fn cause_text(cause: BadWord) -> &'static str
         BadWord::Setting => "no AVL,VTYPE with a vector length below 32 and a vtype below 256",
         BadWord::Answer { index: _ } =>
             "no success, failure, bits:VALUE, length:N, vector:N=0xBITS or stored:HEX",
+        BadWord::Unit => "no unit, which host is",
     }
 }
 

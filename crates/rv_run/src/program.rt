@@ -4,10 +4,9 @@ ghost use Rattle.std.specs.Prelude.{◌≡◌, ◌<◌, length, map, string_byte
 ghost use Rattle.rv_fill.specs.Refusal.{Finds};
 ghost use Rattle.rv_run.specs.Memory.{memory_lines};
 ghost use Rattle.rv_run.specs.Output.{file};
-ghost use Rattle.rv_run.specs.FullRunning.{RunsTo};
+ghost use Rattle.rv_run.specs.Computed.{RunsTo};
 ghost use Rattle.rv_run.specs.Settled.{IsSettled};
 ghost use Rattle.rv_run.specs.Starting.{begin};
-ghost use Rattle.rv_run.specs.Tracing.{trace_where};
 ghost use Rattle.rv_run.specs.Outcomes.{Loads, IsRun, given_text, listed_text, word_text, addresses_of, unplaced, IsLinked, reloc_of, OfLinked, OfProgram, Means, Words, call, Asked, AskRun, Ended, WritesText};
 
 use crate::ending::{Ending, Place};
@@ -63,12 +62,12 @@ fn run_asked<P: Progress>(
 ) -> Result<(u64, Ending), OutOfMemory>
     requires flags { machine.old.flags ≡ settings.now.flags }
     requires empty { lines.old.items ≡ [] }
-    ensures ran { IfOk result (λ r. RunsTo place.base place.len settings.now.steps machine.old r.0 machine.new r.1) }
-    ensures lines { IfOk result (λ r. lines.new.items ≡ trace_where settings.now.trace settings.now.flags place.base r.0 machine.old.full) }
+    ensures { IfOk result (λ r. RunsTo settings.now.host settings.now.trace place.base place.len settings.now.steps machine.old r.0 machine.new r.1 lines.new.items) }
 {
     if settings.trace {
         run_traced(
             alloc,
+            settings.host,
             settings.flags,
             machine,
             place,
@@ -77,7 +76,14 @@ fn run_asked<P: Progress>(
             progress,
         )
     } else {
-        run_code(settings.flags, machine, place, settings.steps, progress)
+        run_code(
+            settings.host,
+            settings.flags,
+            machine,
+            place,
+            settings.steps,
+            progress,
+        )
     }
 }
 
@@ -164,6 +170,7 @@ fn word_text(alloc: Global, given: &Given, cause: BadWord) -> Result<List<u8>, O
         BadWord::Twice { index } => listed_text(alloc, given.registers.as_slice(), index),
         BadWord::Setting => given_text(alloc, given.setting),
         BadWord::Answer { index } => listed_text(alloc, given.answers.as_slice(), index),
+        BadWord::Unit => given_text(alloc, given.unit),
         BadWord::Address { named, index } | BadWord::AddressTwice { named, index } => listed_text(
             alloc,
             addresses_of(given, named),

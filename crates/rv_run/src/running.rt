@@ -1,11 +1,14 @@
 //! Runs code until it goes no further.
 
-ghost use Rattle.std.specs.Prelude.{◌≡◌, ◌<◌, IfOk, Some, None, ℕ};
+ghost use Rattle.std.specs.Prelude.{◌≡◌, ◌<◌, IfOk, Some, None, ℕ, Bool, false, []};
 ghost use Rattle.rv_base.specs.declared.flags.IsaFlags.{IsaFlags as Flags};
 ghost use Rattle.rv_run.specs.Running.{offset_in, word_at, is_break_base, is_break_op, is_break, stop_of};
-ghost use Rattle.rv_run.specs.FullRunning.{full_ending_of, StepOrEnding, RunsTo};
+ghost use Rattle.rv_full.specs.Units.{FullState};
+ghost use Rattle.rv_run.specs.FullRunning.{full_ending_of, StepOrEnding};
+ghost use Rattle.rv_run.specs.Computed.{IsUnanswered, RunsTo};
 
 use crate::ending::{Ending, Place};
+use crate::host::host_turn;
 use crate::progress::{Progress, note_steps};
 use rv_base::{IsaFlags, OutOfMemory};
 use rv_full::{FullMachine, FullStep};
@@ -118,7 +121,8 @@ pub(crate) fn turn(
 
 // Why a run goes no further after as many steps as it may have.
 pub(crate) fn last_ending(machine: &FullMachine, place: Place) -> Ending
-    ensures { (flags : Flags) (limit : ℕ) → full_ending_of flags place.base place.len limit limit machine.now.full ≡ Some result }
+    ensures ends { (flags : Flags) (limit : ℕ) → full_ending_of flags place.base place.len limit limit machine.now.full ≡ Some result }
+    ensures unanswered { (host : Bool) (flags : Flags) (last : FullState) → IsUnanswered host flags last result }
 {
     match offset_in(place, machine.pc()) {
         Some(_) => Ending::Limit,
@@ -128,8 +132,9 @@ pub(crate) fn last_ending(machine: &FullMachine, place: Place) -> Ending
     }
 }
 
-/// Runs the code at its place, with at most so many steps. Returns how many were done, and why it went no further.
+/// Runs the code at its place, with at most so many steps, and with what the host answers where it is to. Returns how many were done, and why it went no further.
 pub fn run_code<P: Progress>(
+    host: bool,
     flags: IsaFlags,
     machine: &mut FullMachine,
     place: Place,
@@ -137,11 +142,11 @@ pub fn run_code<P: Progress>(
     progress: &mut P,
 ) -> Result<(u64, Ending), OutOfMemory>
     requires { machine.old.flags ≡ flags }
-    ensures { IfOk result (λ r. RunsTo place.base place.len limit machine.old r.0 machine.new r.1) }
+    ensures { IfOk result (λ r. RunsTo host false place.base place.len limit machine.old r.0 machine.new r.1 []) }
 {
     for done in 0..limit {
         note_steps(progress, done);
-        match turn(flags, machine, place, limit, done)? {
+        match host_turn(host, flags, machine, place, limit, done)? {
             None => {}
             Some(ending) => return Ok((done, ending)),
         }

@@ -1,14 +1,15 @@
 //! Runs code, and writes a line for each step.
 
-ghost use Rattle.std.specs.Prelude.{◌≡◌, ◌++◌, ◌<◌, [], length, IfOk, IfSome, OnOk};
+ghost use Rattle.std.specs.Prelude.{◌≡◌, ◌++◌, ◌<◌, [], length, IfOk, IfSome, OnOk, true};
 ghost use Rattle.rv_machine.specs.Decode as decoding;
 ghost use Rattle.rv_machine.specs.Layout.{HasFileRegisters};
-ghost use Rattle.rv_run.specs.FullRunning.{StepOrEnding, RunsTo};
-ghost use Rattle.rv_run.specs.Tracing.{unit_line, operation_line, line_to, trace, PutsLine};
+ghost use Rattle.rv_run.specs.Computed.{RunsTo, TurnsTraced};
+ghost use Rattle.rv_run.specs.Tracing.{unit_line, operation_line, line_to, PutsLine};
 
 use crate::ending::{Ending, Place};
+use crate::host::host_turn;
 use crate::progress::{Progress, note_steps};
-use crate::running::{last_ending, turn, word_at};
+use crate::running::{last_ending, word_at};
 use crate::written::put_unit_written;
 use rv_base::{IsaFlags, OutOfMemory};
 use rv_disasm::put_place;
@@ -68,6 +69,7 @@ fn put_operation(
 // One step, and its line.
 fn traced_turn(
     alloc: Global,
+    host: bool,
     flags: IsaFlags,
     machine: &mut FullMachine,
     place: Place,
@@ -77,13 +79,12 @@ fn traced_turn(
 ) -> Result<Option<Ending>, OutOfMemory>
     requires below { done < limit }
     requires flags { machine.old.flags ≡ flags }
-    ensures turned { IfOk result (StepOrEnding place.base place.len limit done machine.old machine.new) }
-    ensures line { IfOk result (PutsLine flags place.base machine.old out.old.items out.new.items) }
+    ensures { IfOk result (TurnsTraced host flags place.base place.len limit done machine.old machine.new out.old.items out.new.items) }
 {
     let word = word_at(machine);
     let offset = machine.pc().saturating_sub(place.base);
     let vectors = *machine.vectors();
-    match turn(flags, machine, place, limit, done)? {
+    match host_turn(host, flags, machine, place, limit, done)? {
         Some(ending) => Ok(Some(ending)),
         None => {
             let decoded = int_decode(flags, word);
@@ -96,6 +97,7 @@ fn traced_turn(
 /// Runs the code as `run_code` does, and puts a line for each step after nothing.
 pub fn run_traced<P: Progress>(
     alloc: Global,
+    host: bool,
     flags: IsaFlags,
     machine: &mut FullMachine,
     place: Place,
@@ -105,12 +107,11 @@ pub fn run_traced<P: Progress>(
 ) -> Result<(u64, Ending), OutOfMemory>
     requires flags { machine.old.flags ≡ flags }
     requires empty { out.old.items ≡ [] }
-    ensures ran { IfOk result (λ r. RunsTo place.base place.len limit machine.old r.0 machine.new r.1) }
-    ensures lines { IfOk result (λ r. out.new.items ≡ trace flags place.base r.0 machine.old.full) }
+    ensures { IfOk result (λ r. RunsTo host true place.base place.len limit machine.old r.0 machine.new r.1 out.new.items) }
 {
     for done in 0..limit {
         note_steps(progress, done);
-        match traced_turn(alloc, flags, machine, place, limit, done, out)? {
+        match traced_turn(alloc, host, flags, machine, place, limit, done, out)? {
             None => {}
             Some(ending) => return Ok((done, ending)),
         }

@@ -19,6 +19,7 @@ returns c =
     let slot : rule_of c.list-3.result ≡ list_rule (codes "slot") = search rules in
     let setting : rule_of c.option-6.result ≡ option_rule (codes "setting") = search rules in
     let answer : rule_of c.list-4.result ≡ list_rule (codes "answer") = search rules in
+    let unit : rule_of c.option-7.result ≡ option_rule (codes "unit") = search rules in
     let trace : rule_of c.flag-2.result ≡ flag_rule (codes "trace") = search rules in
     let word : rule_of c.word.result ≡ word_rule (codes "REGISTER=VALUE") = search rules in
     let one = c.in_ok-c.ensures ∙ ap₂ with_rule c.opening-c.ensures hex in
@@ -32,5 +33,6 @@ returns c =
     let nine = c.in_ok-c-9.ensures ∙ ap₂ with_rule eight slot in
     let ten = c.in_ok-c-10.ensures ∙ ap₂ with_rule nine setting in
     let eleven = c.in_ok-c-11.ensures ∙ ap₂ with_rule ten answer in
-    let twelve = c.in_ok-c-12.ensures ∙ ap₂ with_rule eleven trace in
-    IfOk-weaker c.with_arg-13.result _ _ (λ made h. h ∙ ap₂ with_rule twelve word) c.with_arg-13.ensures
+    let twelve = c.in_ok-c-12.ensures ∙ ap₂ with_rule eleven unit in
+    let thirteen = c.in_ok-c-13.ensures ∙ ap₂ with_rule twelve trace in
+    IfOk-weaker c.with_arg-14.result _ _ (λ made h. h ∙ ap₂ with_rule thirteen word) c.with_arg-14.ensures
