@@ -19,7 +19,7 @@ use Rattle.rv_inst.specs.declared.inst.Inst.{Inst}
 use Rattle.rv_inst.specs.declared.inst.Inst.TheVariants.{Fli, FpuRR, FpuRRR, FpuRRRR, CsrReg, CsrImm}
 use Rattle.rv_inst.specs.declared.units.PlacedReg.{PlacedReg}
 
--- its family; the operation that the machine decodes; its registers, in the order of its fields, each with the class that its place asks;
+-- its family; the operation that the machine decodes; its registers, the result's first, each with the class that its place asks;
 -- whether its rounding mode, and its format, are ones that the operation takes; and the trap that it may take, which is recorded at
 -- its word
 pub record UnitWord : Type 0 where
