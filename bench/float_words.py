@@ -1,10 +1,11 @@
 #!/usr/bin/env python3
-"""Writes crates/float_words/stdout: the words of all floating-point operations, of constants, of operations on frm and of compressed
-loads and stores, as an assembler makes them of their texts. Wants llvm-mc 19 or later, which has Zfa.
+"""Writes crates/float_words/stdout: the words of all floating-point operations, of constants, of operations on frm and of loads and
+stores, as an assembler makes them of their texts. Wants llvm-mc 19 or later, which has Zfa. A second assembler, GNU as 2.40 or later, has to
+make the same of them, but for those of Zfa, and for conversions that never round, of which it takes no rounding mode and puts rne.
 
-  float_words.py LLVM_MC
+  float_words.py LLVM_MC [AS OBJCOPY]
 """
-import re, subprocess, sys
+import re, subprocess, sys, tempfile
 from pathlib import Path
 
 OUT = Path(__file__).parent.parent / 'crates/float_words/stdout'
@@ -50,6 +51,7 @@ for i in range(64):
     rd, rs, third = (number(i, p) for p in range(3))
     for name in ('csrrw', 'csrrs', 'csrrc'): say(f'{name} {rd} frm {rs}', name, [f'x{rd}', 'frm', f'x{rs}'])
     for name in ('csrrwi', 'csrrsi', 'csrrci'): say(f'{name} {rd} frm {rs}', name, [f'x{rd}', 'frm', str(rs)])
+    for name in ('flh', 'flw', 'fld', 'fsh', 'fsw', 'fsd'): say(f'{name} {rd} {65 * i - 2048} {rs}', name, [f'f{rd}', f'{65 * i - 2048}(x{rs})'])
     for name in ('c.fld', 'c.fsd'): say(f'{name} {8 + rd % 8} {third} {8 + rs % 8}', name, [f'f{8 + rd % 8}', f'{8 * third}(x{8 + rs % 8})'])
     for name in ('c.fldsp', 'c.fsdsp'): say(f'{name} {rd} {i}', name, [f'f{rd}', f'{8 * i}(x2)'])
 
@@ -58,3 +60,17 @@ out = subprocess.run([sys.argv[1], '-triple=riscv64', '-mattr=+f,+d,+zfh,+zfa,+c
 codes = [bytes(int(x, 16) for x in m.split(',')) for m in re.findall(r'encoding: \[(.*?)\]', out.stdout)]
 assert len(codes) == len(rows), (out.stderr[:2000], len(codes), len(rows))
 OUT.write_text(''.join(f'{shown}: {int.from_bytes(code, "little"):0{2 * len(code)}x}\n' for (shown, _), code in zip(rows, codes)))
+
+# the second assembler, which has no Zfa
+if sys.argv[2:]:
+    assembler, objcopy = sys.argv[2:]
+    is_exact = lambda text: re.match(r'fcvt\.(s\.h|d\.(wu?|s|h)) ', text)
+    its = [(text, code) for (_, text), code in zip(rows, codes) if not re.match(r'fli|fround|fminm|fmaxm', text)]
+    its = [(text.removesuffix(',rne') if is_exact(text) else text, code) for text, code in its if not is_exact(text) or text.endswith(',rne')]
+    with tempfile.TemporaryDirectory() as room:
+        feed = '.option norelax\n.option norvc\n' + ''.join(f'.option rvc\n{text}\n.option norvc\n' if text.startswith('c.') else text + '\n' for text, _ in its)
+        subprocess.run([assembler, '-march=rv64gc_zfh', '-o', f'{room}/it.o'], input=feed, text=True, check=True)
+        subprocess.run([objcopy, '-O', 'binary', '-j', '.text', f'{room}/it.o', f'{room}/it.bin'], check=True)
+        made = open(f'{room}/it.bin', 'rb').read()
+    assert made == b''.join(code for _, code in its), 'the two assemblers differ'
+    print(f'{len(rows)} rows; the second assembler makes the same of {len(its)}')

@@ -1,4 +1,4 @@
-//! Writes the words of all floating-point operations, of constants, of operations on `frm` and of compressed loads and stores, a
+//! Writes the words of all floating-point operations, of constants, of operations on `frm` and of loads and stores, a
 //! line each, at register numbers that go round. The expected output is an assembler's: `bench/float_words.py` makes it.
 #![tactic(auto)]
 
@@ -9,12 +9,12 @@ use numbers::Numbers;
 use rv_base::Writable;
 use rv_encode::{
     encode_c_fld, encode_c_fldsp, encode_c_fsd, encode_c_fsdsp, encode_csr_imm, encode_csr_reg,
-    encode_fli, encode_fp_rr, encode_fp_rrr, encode_fp_rrrr,
+    encode_fli, encode_fp_rr, encode_fp_rrr, encode_fp_rrrr, encode_load, encode_store,
 };
-use rv_imms::{UImm5, Uimm5, Uimm6};
+use rv_imms::{Imm12, UImm5, Uimm5, Uimm6};
 use rv_ops::{CSR, FRM, FliConstant, FpuOPRR, FpuOPRRR, FpuOPRRRR, FpuOPWidth};
 use std::io;
-use tables::{CSR_IMM, CSR_REG, MODES, RR, RRR, RRRR, WIDTHS};
+use tables::{CSR_IMM, CSR_REG, LOADS, MODES, RR, RRR, RRRR, STORES, WIDTHS};
 
 /// The words of an operation of one source.
 fn one_source(
@@ -137,6 +137,26 @@ fn of_csr(rt: &HostRuntime, number: u8) -> io::Result<()> {
     Ok(())
 }
 
+/// The words of loads and stores, at offsets from one end of their range to the other.
+fn accesses(rt: &HostRuntime, number: u8) -> io::Result<()> {
+    let at = Numbers::new(number);
+    let (r, base) = (at.number(0), at.number(1));
+    let Some(offset) = Imm12::maybe_from_i64(i64::from(number) * 65 - 2048) else {
+        return Ok(());
+    };
+    for op in LOADS {
+        let word = encode_load(op, Writable::from_reg(at.float(0)), at.int(1), offset);
+        let name = op.op_name();
+        println!(rt; "{name} {r} {offset} {base}: {word:08x}")?;
+    }
+    for op in STORES {
+        let word = encode_store(op, at.int(1), at.float(0), offset);
+        let name = op.op_name();
+        println!(rt; "{name} {r} {offset} {base}: {word:08x}")?;
+    }
+    Ok(())
+}
+
 /// The halfwords of loads and stores past a register.
 fn past_a_register(rt: &HostRuntime, number: u8) -> io::Result<()> {
     let at = Numbers::new(number);
@@ -172,6 +192,7 @@ fn main(rt: HostRuntime) -> io::Result<()> {
     }
     for number in 0..64u8 {
         of_csr(&rt, number)?;
+        accesses(&rt, number)?;
         past_a_register(&rt, number)?;
         past_sp(&rt, number)?;
     }

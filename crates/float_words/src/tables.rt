@@ -1,6 +1,8 @@
 //! All operations, and the formats and rounding modes that they may have.
 
-use rv_ops::{CsrImmOP, CsrRegOP, FRM, FpuOPRR, FpuOPRRR, FpuOPRRRR, FpuOPWidth};
+use rv_ops::{
+    CsrImmOP, CsrRegOP, FRM, FpuOPRR, FpuOPRRR, FpuOPRRRR, FpuOPWidth, LoadOP, StoreOP,
+};
 
 pub const WIDTHS: [FpuOPWidth; 3] = [FpuOPWidth::H, FpuOPWidth::S, FpuOPWidth::D];
 
@@ -55,3 +57,7 @@ pub const RRRR: [FpuOPRRRR; 4] = [
 pub const CSR_REG: [CsrRegOP; 3] = [CsrRegOP::CsrRW, CsrRegOP::CsrRS, CsrRegOP::CsrRC];
 
 pub const CSR_IMM: [CsrImmOP; 3] = [CsrImmOP::CsrRWI, CsrImmOP::CsrRSI, CsrImmOP::CsrRCI];
+
+pub const LOADS: [LoadOP; 3] = [LoadOP::Flh, LoadOP::Flw, LoadOP::Fld];
+
+pub const STORES: [StoreOP; 3] = [StoreOP::Fsh, StoreOP::Fsw, StoreOP::Fsd];

@@ -16,7 +16,7 @@ use Rattle.rv_encode.specs.Operations.{decoded_csr_imm, decoded_csr_reg, decoded
 use Rattle.rv_inst.specs.declared.inst.Family.{Family}
 use Rattle.rv_inst.specs.declared.inst.Family.TheVariants.{Float}
 use Rattle.rv_inst.specs.declared.inst.Inst.{Inst}
-use Rattle.rv_inst.specs.declared.inst.Inst.TheVariants.{Fli, FpuRR, FpuRRR, FpuRRRR, CsrReg, CsrImm}
+use Rattle.rv_inst.specs.declared.inst.Inst.TheVariants.{Nop0, Nop4, EBreak, SequencePoint, Args, Rets, DummyUse, Unwind, EmitIsland, RawData, Lui, Auipc, LoadInlineConst, AluRRR, AluRRImm12, Mov, MovFromPReg, Extend, Select, Load, Store, LoadAddr, LabelAddress, Ret, TrapIf, Jal, CondBr, BrTable, Udf, Jalr, Popcnt, Cltz, Brev8, StackProbeLoop, LoadExtNameGot, LoadExtNameNear, LoadExtNameFar, Call, CallInd, ReturnCall, ReturnCallInd, Fli, FpuRR, FpuRRR, FpuRRRR, CsrReg, CsrImm}
 use Rattle.rv_inst.specs.declared.units.PlacedReg.{PlacedReg}
 
 -- its family; the operation that the machine decodes; its registers, in the order of its fields, each with the class that its place asks;
@@ -56,7 +56,47 @@ unit_word (FpuRRR op width frm rd rs1 rs2) = Some (record (float_word (decoded_f
 unit_word (FpuRRRR op width frm rd rs1 rs2 rs3) = Some (record (float_word (decoded_fpu_rrrr op width frm (number_of rd.reg) (number_of rs1) (number_of rs2) (number_of rs3)) (place FloatReg rd.reg ∷ place FloatReg rs1 ∷ place FloatReg rs2 ∷ place FloatReg rs3 ∷ [])) { width = is_width width })
 unit_word (CsrReg op rd rs csr) = Some (float_word (decoded_csr_reg op (number_of rd.reg) (number_of rs)) (place Int rd.reg ∷ place Int rs ∷ []))
 unit_word (CsrImm op rd csr imm) = Some (float_word (decoded_csr_imm op (number_of rd.reg) imm.value) (place Int rd.reg ∷ []))
-unit_word _ = None
+unit_word Nop0 = None
+unit_word Nop4 = None
+unit_word EBreak = None
+unit_word SequencePoint = None
+unit_word (Args args) = None
+unit_word (Rets rets) = None
+unit_word (DummyUse reg) = None
+unit_word (Unwind inst) = None
+unit_word (EmitIsland needed_space) = None
+unit_word (RawData bytes) = None
+unit_word (Lui rd imm) = None
+unit_word (Auipc rd imm) = None
+unit_word (LoadInlineConst rd type imm) = None
+unit_word (AluRRR op rd rs1 rs2) = None
+unit_word (AluRRImm12 op rd rs imm) = None
+unit_word (Mov rd rm type) = None
+unit_word (MovFromPReg rd rm) = None
+unit_word (Extend rd rn signed from_bits to_bits) = None
+unit_word (Select info) = None
+unit_word (Load rd op flags from) = None
+unit_word (Store src op flags to) = None
+unit_word (LoadAddr rd mem) = None
+unit_word (LabelAddress dst label) = None
+unit_word Ret = None
+unit_word (TrapIf cmp code) = None
+unit_word (Jal label) = None
+unit_word (CondBr taken not_taken kind) = None
+unit_word (BrTable index tmp1 tmp2 targets) = None
+unit_word (Udf code) = None
+unit_word (Jalr rd base offset) = None
+unit_word (Popcnt info) = None
+unit_word (Cltz leading info) = None
+unit_word (Brev8 info) = None
+unit_word (StackProbeLoop guard_size probe_count tmp) = None
+unit_word (LoadExtNameGot rd name) = None
+unit_word (LoadExtNameNear rd name offset) = None
+unit_word (LoadExtNameFar rd name offset) = None
+unit_word (Call info) = None
+unit_word (CallInd info) = None
+unit_word (ReturnCall info) = None
+unit_word (ReturnCallInd info) = None
 
 pub none_is_some : false ≡ true → ⊥
 none_is_some e = subst (λ (b : Bool). cond b ⊥ (Unit {0})) e tt
