@@ -1,8 +1,6 @@
 //! All operations, and the formats and rounding modes that they may have.
 
-use rv_ops::{
-    CsrImmOP, CsrRegOP, FRM, FpuOPRR, FpuOPRRR, FpuOPRRRR, FpuOPWidth, LoadOP, StoreOP,
-};
+use rv_ops::{CsrImmOP, CsrRegOP, FRM, FpuOPRR, FpuOPRRR, FpuOPRRRR, FpuOPWidth, LoadOP, StoreOP};
 
 pub const WIDTHS: [FpuOPWidth; 3] = [FpuOPWidth::H, FpuOPWidth::S, FpuOPWidth::D];
 
