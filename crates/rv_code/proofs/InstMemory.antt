@@ -52,7 +52,7 @@ chain_out {s = s} slots size u w e long goes same are_values written placed =
     comes_out (at (wrap (s.pc + size)) w) goes (omega arith) (record { same = same; is_state = record { pc = omega arith; values = written }; are_values = are_values; placed = placed })
 
 -- where parts are entered, the code is short
-bounds : {site : Site} {start after : ℕ} {parts : List Part} {s : State} {v : Values} → Enters site start after parts s v → AreShort site
+pub bounds : {site : Site} {start after : ℕ} {parts : List Part} {s : State} {v : Values} → Enters site start after parts s v → AreShort site
 bounds e = record { short = e.short; labels = e.labels }
 
 -- a register is written
@@ -76,7 +76,7 @@ once_named k slots e = record {
   same = e.same;
 }
 
-after_access : (site : Site) (allocated offset : ℕ) (trap : Option TrapCode) (slots : List Slot) → StandsIn site allocated offset (access_slots trap ++ slots) → StandsIn site allocated offset slots
+pub after_access : (site : Site) (allocated offset : ℕ) (trap : Option TrapCode) (slots : List Slot) → StandsIn site allocated offset (access_slots trap ++ slots) → StandsIn site allocated offset slots
 after_access site allocated offset None slots stands = stands
 after_access site allocated offset (Some code) slots stands = stands.1
 
@@ -84,25 +84,25 @@ access_none : (trap : Option TrapCode) → size_of (access_slots trap) ≡ 0
 access_none None = refl
 access_none (Some code) = refl
 
-access_size : (trap : Option TrapCode) (slots : List Slot) → size_of (access_slots trap ++ slots) ≡ size_of slots
+pub access_size : (trap : Option TrapCode) (slots : List Slot) → size_of (access_slots trap ++ slots) ≡ size_of slots
 access_size None slots = refl
 access_size (Some code) slots = omega arith
 
 -- ---- an access to an address that is computed in x31
 
 -- an operation that stands after the code of an address, and the machine there
-record IsReady (site : Site) (slots : List Slot) (start k a : ℕ) (d : Decoded) (s : State) : Type 0 where
+pub record IsReady (site : Site) (slots : List Slot) (start k a : ℕ) (d : Decoded) (s : State) : Type 0 where
   pub goes : Sets site.context.flags k s 31 a
   pub here : IsAt site (start + k) 4 (at (wrap (s.pc + k)) (set_reg s.values 31 a))
   pub has : CodeHas site (start + k) (d ∷ [])
   pub long : k + 4 ≡ size_of slots
   pub back : wrap (reg (set_reg s.values 31 a) 31 + low64 (pos 0)) ≡ a
 
-abbrev access_after : IsaFlags → Location → Option TrapCode → Decoded → List Slot
+abbrev pub access_after : IsaFlags → Location → Option TrapCode → Decoded → List Slot
 access_after flags loc trap d = address_slots flags 31 loc ++ access_slots trap ++ Op d ∷ []
 
 -- the address is computed
-ready : {site : Site} {start after : ℕ} {s : State} {v : Values} (loc : Location) (trap : Option TrapCode) (d : Decoded) → d.len ≡ 4 → IsUsableAt loc → Enters site start after (slots_alone (access_after site.context.flags loc trap d)) s v → IsReady site (access_after site.context.flags loc trap d) start (size_of (address_slots site.context.flags 31 loc)) (address_at (environment site start after) s.values loc) d s
+pub ready : {site : Site} {start after : ℕ} {s : State} {v : Values} (loc : Location) (trap : Option TrapCode) (d : Decoded) → d.len ≡ 4 → IsUsableAt loc → Enters site start after (slots_alone (access_after site.context.flags loc trap d)) s v → IsReady site (access_after site.context.flags loc trap d) start (size_of (address_slots site.context.flags 31 loc)) (address_at (environment site start after) s.values loc) d s
 ready {site} {start} {after} {s} loc trap d four based e =
     let slots = address_slots site.context.flags 31 loc in
     let k = size_of slots in

@@ -75,3 +75,6 @@ pub mod MadeOfPieces
 pub mod UnitRuns
 pub mod UnitRules
 pub mod UnitWordRuns
+pub mod ExactRows
+pub mod FloatAccesses
+pub mod ReadyAccesses
