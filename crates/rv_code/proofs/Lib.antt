@@ -55,6 +55,7 @@ pub mod AddressRuns
 mod InstMemory
 mod AddressOperands
 pub mod FineOperands
+mod AccessRows
 mod FormActs
 pub mod MemorySlots
 pub mod NumberRuns
