@@ -11,35 +11,31 @@ use Rattle.rv_inst.specs.declared.code.Code.{Code}
 use Rattle.rv_inst.specs.declared.inst.Inst.{Inst}
 use Rattle.rv_inst.specs.declared.inst.Line.TheVariants.{Inst as Put}
 use Rattle.rv_inst.specs.declared.job.Job.{Job}
-use Rattle.rv_inst.specs.Meaning.{Next}
 use Rattle.rv_inst.specs.Rules.{Faults, is_reserved, is_virtual}
 use Rattle.rv_inst.specs.UnitWords.{UnitWord}
 use Rattle.rv_inst.proofs.UnitWords.{IsUnit, is_unit}
 use Rattle.rv_machine.specs.declared.decoding.Decoded.{Decoded}
 use Rattle.rv_machine.specs.State.{wrap}
 use Rattle.rv_full.specs.Rows.{Row, row_takes}
-use Rattle.rv_full.specs.Steps.{Goes, fiter, fnext, row_next, stepped}
+use Rattle.rv_full.specs.Steps.{fnext, row_next}
 use Rattle.rv_full.specs.UnitRows.{unit_row}
-use Rattle.rv_full.specs.Units.{FullState, FullValues, full_at, put, values_of}
-use Rattle.rv_full.specs.Vectors.{is_legal}
-use Rattle.rv_full.proofs.LargerMachine.{integer_run}
-use Rattle.rv_full.proofs.Runs.{fiter_none, fiter_after}
+use Rattle.rv_full.specs.Units.{FullState, FullValues, full_at, values_of}
+use Rattle.rv_full.proofs.Runs.{fiter_none}
 use Rattle.rv_code.specs.Chains.{IsAt}
-use Rattle.rv_code.specs.InstRuns.{ComesOut}
 use Rattle.rv_code.specs.InstParts.{access_slots, slots_alone, unit_parts}
 use Rattle.rv_code.specs.Sites.{Site, CodeHas, IsPlacedAt, PartsStand}
 use Rattle.rv_code.specs.Slots.{Op}
-use Rattle.rv_code.specs.UnitRuns.{RowsAgree, RowGoes, RowAsks, AreUsableIn}
-use Rattle.rv_emit.proofs.Laws.{iter_none, same_but, keeps, unit_next_at, row_comes, are_usable_in, parts_are, stands_alone, IsUnitOperation, unit_operation}
-use Rattle.rv_asm.specs.FullMeaning.{FullMeaning, SameFullBut, answers_of, meaning_by, meaning_of, operation_row}
+use Rattle.rv_code.specs.UnitRuns.{FullComesOut, RowsAgree, RowGoes, RowAsks, AreUsableIn}
+use Rattle.rv_emit.proofs.Laws.{same_but, keeps, fiter_one, unit_next_at, row_comes, are_usable_in, parts_are, stands_alone, IsUnitOperation, unit_operation}
+use Rattle.rv_asm.specs.FullMeaning.{FullMeaning, answers_of, meaning_by, meaning_of, operation_row}
 use Rattle.rv_asm.specs.FullSimulation.{Placing, StandsAt, LineAt, Stops, environment_at}
 use Rattle.rv_asm.specs.Placed.{Addresses}
 use Rattle.rv_asm.specs.Reported.{start_of, end_of}
-use Rattle.rv_asm.specs.Simulation.{At, AtStart, Leads}
-use Rattle.rv_asm.proofs.EqualValues.{same_itself}
+use Rattle.rv_asm.specs.Simulation.{At, AtStart}
 use Rattle.rv_asm.proofs.FullRuns.{UnitLines}
-use Rattle.rv_asm.proofs.Images.{placed_at, placed_again}
-use Rattle.rv_asm.proofs.LinesJoin.{Known, site_of, InstIn, IsThreaded, reaches}
+use Rattle.rv_asm.proofs.Images.{placed_at}
+use Rattle.rv_asm.proofs.LinesComeOut.{line_out}
+use Rattle.rv_asm.proofs.LinesJoin.{Known, site_of, InstIn, IsThreaded}
 use Rattle.rv_asm.proofs.OneComes.{CameOut, OneComes}
 
 wrap_fits : (n : ℕ) → wrap n < 2 ^ 64

@@ -63,7 +63,7 @@ sets_out {s = s} {v = v} slots size n x usable fits e long goes =
 
 -- ---- the name of a constant has no bytes, nor has the record of a trap
 
-once_named : {site : Site} {start after : ℕ} {s : State} {v : Values} (k : VCodeConstant) (slots : List Slot) → Enters site start after (slots_alone (Names k ∷ slots)) s v → Enters site start after (slots_alone slots) s v
+pub once_named : {site : Site} {start after : ℕ} {s : State} {v : Values} (k : VCodeConstant) (slots : List Slot) → Enters site start after (slots_alone (Names k ∷ slots)) s v → Enters site start after (slots_alone slots) s v
 once_named k slots e = record {
   even = e.even;
   within = e.within;

@@ -55,8 +55,8 @@ pub mod AddressRuns
 mod InstMemory
 mod AddressOperands
 pub mod FineOperands
-mod AccessRows
-mod FormActs
+pub mod AccessRows
+pub mod FormActs
 pub mod MemorySlots
 pub mod NumberRuns
 pub mod NumberSlots
@@ -79,3 +79,4 @@ pub mod UnitWordRuns
 pub mod ExactRows
 pub mod FloatAccesses
 pub mod ReadyAccesses
+pub mod FloatAccessRuns

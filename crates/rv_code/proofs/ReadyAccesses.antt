@@ -34,27 +34,28 @@ spare_same : {site : Site} {start after : ℕ} {parts : List Part} {s : State} {
 spare_same {s = s} n x high e = record { regs = λ m lt. e.same.regs m lt ∙ sym (reads_other s.values n m x (λ same. absurd (omega arith))); mem = e.same.mem }
 
 -- no code is before it
-pub near_ready : {site : Site} {start after : ℕ} {s : State} {v : Values} (trap : Option TrapCode) (d : Decoded) → HasSize d → d.rs1 < 30 → Enters site start after (slots_alone (access_slots trap ++ Op d ∷ [])) s v → IsReadyAt site start after (wrap (reg v d.rs1 + low64 d.imm)) d v s
-near_ready {site} {start} {s = s} trap d size based e =
+pub near_ready : {site : Site} {start after : ℕ} {s : State} {v : Values} (trap : Option TrapCode) (d : Decoded) (r : ℕ) (o : ℤ) → d.rs1 ≡ r → d.imm ≡ o → HasSize d → r < 30 → Enters site start after (slots_alone (access_slots trap ++ Op d ∷ [])) s v → IsReadyAt site start after (wrap (reg v r + low64 o)) d v s
+near_ready {site} {start} {s = s} trap d r o base offset size based e =
     let long = access_size trap (Op d ∷ []) in
     let h = starts_at (access_slots trap ++ Op d ∷ []) e in
     let pc = e.is_state.pc in
     let room = h.room in
     let ends = e.stands.2 in
     let stays : s.pc ≡ wrap (s.pc + 0) = omega arith in
+    let none : start ≡ start + 0 = omega arith in
     record {
       before = record {
         size = 0;
         values = s.values;
         goes = subst (λ n. Goes site.context.flags 0 s (at n s.values)) stays (goes_none site.context.flags s);
         here = record { even = let even = h.even in omega arith; room = omega arith; placed = h.placed; pc = let here = h.pc in omega arith };
-        has = let none : start ≡ start + 0 = omega arith in subst (λ n. CodeHas site n (d ∷ [])) none (after_access site e.stands.0 start trap (Op d ∷ []) e.stands.1).0;
+        has = subst (λ n. CodeHas site n (d ∷ [])) none (after_access site e.stands.0 start trap (Op d ∷ []) e.stands.1).0;
         some = size.some;
         ends = omega arith;
         same = e.same;
         written = e.is_state.values;
       };
-      address = ap (λ n. wrap (n + low64 d.imm)) (sym (e.same.regs d.rs1 based));
+      address = (λ i. wrap (reg s.values (base i) + low64 (offset i))) ∙ ap (λ n. wrap (n + low64 o)) (sym (e.same.regs r based));
     }
 
 -- the address is in x31
