@@ -1,5 +1,6 @@
 -- Which operation of the machine a load or a store is: one of integers, or of a floating-point register of a format.
-use Rattle.std.proofs.Common.{◌≡◌, false, Some, refl, sym, ap, ◌∙◌}
+use Rattle.std.proofs.Common.{◌≡◌, Bool, true, false, Some, refl, ap}
+use Rattle.std.specs.Prelude.{not}
 use Rattle.std.proofs.lemmas.Option.{same_Some}
 use Rattle.rv_machine.specs.declared.ops.FloatFormat.{FloatFormat}
 use Rattle.rv_machine.specs.declared.ops.MOp.TheVariants.{Load, Store, FloatLoad, FloatStore}
@@ -37,3 +38,8 @@ pub float_store : (op : StoreOP) (format : FloatFormat) → store_format op ≡ 
 float_store stores.Fsw format e = ap FloatStore (same_Some _ format e)
 float_store stores.Fsd format e = ap FloatStore (same_Some _ format e)
 float_store _ format e = absurd (cc)
+
+-- a load or a store of the integer core is one
+pub not_true : (c : Bool) → not c ≡ true → c ≡ false
+not_true true e = absurd (cc)
+not_true false e = refl

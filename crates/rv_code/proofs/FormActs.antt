@@ -9,7 +9,8 @@ use Rattle.std.proofs.lemmas.Bool.Decides.{nat_tests}
 use Rattle.std.proofs.Math.Nat.{add_comm, mul_comm}
 use Rattle.rv_base.specs.declared.flags.IsaFlags.{IsaFlags}
 use Rattle.rv_machine.specs.declared.decoding.Decoded.{Decoded}
-use Rattle.rv_machine.specs.declared.ops.MOp.TheVariants.{Base, Alu}
+use Rattle.rv_machine.specs.declared.ops.FloatFormat.TheVariants.{D}
+use Rattle.rv_machine.specs.declared.ops.MOp.TheVariants.{Base, Alu, FloatLoad, FloatStore}
 use Rattle.rv_machine.specs.declared.ops.BaseOp.TheVariants.{Lui, Jalr, Ebreak}
 use Rattle.rv_machine.specs.declared.ops.AluOp.{AluOp}
 use Rattle.rv_machine.specs.declared.ops.AluOp.TheVariants.{Int, Mul, Bit}
@@ -33,7 +34,7 @@ use Rattle.rv_inst.specs.Meaning.{alu_rrr}
 use Rattle.rv_encode.specs.Operations.{decoded, decoded_rrr, decoded_rri, load_op, load_row, store_op, store_row, decoded_load, decoded_store}
 use Rattle.rv_machine.specs.Layout.{bare_form, compressed}
 use Rattle.rv_machine.specs.Memory.{load_result, store_bytes}
-use Rattle.rv_inst.specs.Forms.{form_where, chosen, is_either, is_short, other_source, add_form, either_form, first_form, zext_w_form, zca_rrr, form_rrr, short_rrr, sp, ra, shift_amount, is_equal, is_six_bits, is_scaled, is_move, move_form, is_addi16sp, is_addi4spn, is_li, is_addi, addi_form, ori_form, addiw_form, slli_form, right_shift_form, andi_form, not_form, extend_form, zca_rri, form_rri, short_rri, form_lui, short_lui, form_jalr, short_jalr, form_ebreak, short_ebreak, load_form, word_load_form, narrow_load_form, zca_load, form_load, short_load, store_form, word_store_form, narrow_store_form, zca_store, form_store, short_store}
+use Rattle.rv_inst.specs.Forms.{form_where, chosen, is_either, is_short, other_source, add_form, either_form, first_form, zext_w_form, zca_rrr, form_rrr, short_rrr, sp, ra, shift_amount, is_equal, is_six_bits, is_scaled, is_move, move_form, is_addi16sp, is_addi4spn, is_li, is_addi, addi_form, ori_form, addiw_form, slli_form, right_shift_form, andi_form, not_form, extend_form, zca_rri, form_rri, short_rri, form_lui, short_lui, form_jalr, short_jalr, form_ebreak, short_ebreak, load_form, word_load_form, narrow_load_form, fld_form, zca_load, form_load, short_load, store_form, word_store_form, narrow_store_form, fsd_form, zca_store, form_store, short_store}
 use Rattle.rv_code.proofs.AccessRows.{IsIntegerLoad, IsIntegerStore, integer_load, integer_store}
 use Rattle.rv_code.proofs.OperationActs.{rrr_acts, rrr_len, rri_acts}
 
@@ -313,20 +314,25 @@ short_ebreak_long flags = on_chosen (λ d. IsLength d.len) (form_ebreak flags) (
 
 -- ---- loads and stores
 
--- what holds of a load's operation in two bytes and in four holds of the one that stands for it
-word_load_either : (P : Decoded → Type 0) (op : LoadOP) (rd base : ℕ) (offset : ℤ) → P (compressed (load_row op) rd base 0 offset) → IfSome (word_load_form op rd base offset) P
+-- what holds of a load in two bytes and in four holds of the one that stands for it
+word_load_either : (P : Decoded → Type 0) (op : LoadOP) (rd base : ℕ) (offset : ℤ) → P (load_form (load_op op) rd base offset) → IfSome (word_load_form op rd base offset) P
 word_load_either P op rd base offset h =
-    let form = load_form op rd base offset in
+    let form = load_form (load_op op) rd base offset in
     let near = form_where (is_scaled (load_size op) 31 offset) form in
     tested P (base == sp) (form_where (not (rd == 0) && is_scaled (load_size op) 63 offset) form) (if is_short rd && is_short base then near else None)
     (λ stack. guarded P (not (rd == 0) && is_scaled (load_size op) 63 offset) form (λ holds. h))
     (under P (is_short rd && is_short base) near (guarded P (is_scaled (load_size op) 31 offset) form (λ holds. h)))
 
-float_load_either : (P : Decoded → Type 0) (flags : IsaFlags) (op : LoadOP) (rd base : ℕ) (offset : ℤ) → P (compressed (load_row op) rd base 0 offset) → IfSome (float_load_form flags op rd base offset) P
-float_load_either P flags op rd base offset h = ?
+narrow_load_either : (P : Decoded → Type 0) (flags : IsaFlags) (most : ℕ) (op : LoadOP) (rd base : ℕ) (offset : ℤ) → P (load_form (load_op op) rd base offset) → IfSome (narrow_load_form flags most op rd base offset) P
+narrow_load_either P flags most op rd base offset h = guarded P (flags.has_zcb && is_short rd && is_short base && is_scaled (load_size op) most offset) (load_form (load_op op) rd base offset) (λ holds. h)
 
-narrow_load_either : (P : Decoded → Type 0) (flags : IsaFlags) (most : ℕ) (op : LoadOP) (rd base : ℕ) (offset : ℤ) → P (compressed (load_row op) rd base 0 offset) → IfSome (narrow_load_form flags most op rd base offset) P
-narrow_load_either P flags most op rd base offset h = guarded P (flags.has_zcb && is_short rd && is_short base && is_scaled (load_size op) most offset) (load_form op rd base offset) (λ holds. h)
+fld_either : (P : Decoded → Type 0) (flags : IsaFlags) (rd base : ℕ) (offset : ℤ) → P (compressed (FloatLoad D) rd base 0 offset) → IfSome (fld_form flags rd base offset) P
+fld_either P flags rd base offset h =
+    let form = compressed (FloatLoad D) rd base 0 offset in
+    let near = form_where (flags.has_zcd && is_scaled 8 31 offset) form in
+    tested P (base == sp) (form_where (flags.has_zcd && is_scaled 8 63 offset) form) (if is_short rd && is_short base then near else None)
+    (λ stack. guarded P (flags.has_zcd && is_scaled 8 63 offset) form (λ holds. h))
+    (under P (is_short rd && is_short base) near (guarded P (flags.has_zcd && is_scaled 8 31 offset) form (λ holds. h)))
 
 zca_load_either : (P : Decoded → Type 0) (flags : IsaFlags) (op : LoadOP) (rd base : ℕ) (offset : ℤ) → P (compressed (load_row op) rd base 0 offset) → IfSome (zca_load flags op rd base offset) P
 zca_load_either P flags loads.Lb rd base offset h = tt
@@ -337,7 +343,7 @@ zca_load_either P flags loads.Lhu rd base offset h = narrow_load_either P flags 
 zca_load_either P flags loads.Lwu rd base offset h = tt
 zca_load_either P flags loads.Ld rd base offset h = word_load_either P loads.Ld rd base offset h
 zca_load_either P flags loads.Flw rd base offset h = tt
-zca_load_either P flags loads.Fld rd base offset h = float_load_either P flags loads.Fld rd base offset h
+zca_load_either P flags loads.Fld rd base offset h = fld_either P flags rd base offset h
 
 pub short_load_either : (P : Decoded → Type 0) (flags : IsaFlags) (op : LoadOP) (rd base : ℕ) (offset : ℤ) → P (compressed (load_row op) rd base 0 offset) → P (decoded_load op rd base offset) → P (short_load flags op rd base offset)
 short_load_either P flags op rd base offset half word =
@@ -359,17 +365,25 @@ short_load_does flags op rd base offset integer =
     (record { long = inl refl; acts = λ s v. ap (λ o. act_on o (compressed (load_row op) rd base 0 offset) s) row })
     (record { long = inr refl; acts = λ s v. ap (λ o. act_on o (decoded_load op rd base offset) s) row })
 
--- so of a store's
-word_store_either : (P : Decoded → Type 0) (op : StoreOP) (base src : ℕ) (offset : ℤ) → P (compressed (store_row op) 0 base src offset) → IfSome (word_store_form op base src offset) P
+-- so of a store
+word_store_either : (P : Decoded → Type 0) (op : StoreOP) (base src : ℕ) (offset : ℤ) → P (store_form (store_op op) base src offset) → IfSome (word_store_form op base src offset) P
 word_store_either P op base src offset h =
-    let form = store_form op base src offset in
+    let form = store_form (store_op op) base src offset in
     let near = form_where (is_scaled (store_size op) 31 offset) form in
     tested P (base == sp) (form_where (is_scaled (store_size op) 63 offset) form) (if is_short src && is_short base then near else None)
     (λ stack. guarded P (is_scaled (store_size op) 63 offset) form (λ holds. h))
     (under P (is_short src && is_short base) near (guarded P (is_scaled (store_size op) 31 offset) form (λ holds. h)))
 
-narrow_store_either : (P : Decoded → Type 0) (flags : IsaFlags) (most : ℕ) (op : StoreOP) (base src : ℕ) (offset : ℤ) → P (compressed (store_row op) 0 base src offset) → IfSome (narrow_store_form flags most op base src offset) P
-narrow_store_either P flags most op base src offset h = guarded P (flags.has_zcb && is_short src && is_short base && is_scaled (store_size op) most offset) (store_form op base src offset) (λ holds. h)
+narrow_store_either : (P : Decoded → Type 0) (flags : IsaFlags) (most : ℕ) (op : StoreOP) (base src : ℕ) (offset : ℤ) → P (store_form (store_op op) base src offset) → IfSome (narrow_store_form flags most op base src offset) P
+narrow_store_either P flags most op base src offset h = guarded P (flags.has_zcb && is_short src && is_short base && is_scaled (store_size op) most offset) (store_form (store_op op) base src offset) (λ holds. h)
+
+fsd_either : (P : Decoded → Type 0) (flags : IsaFlags) (base src : ℕ) (offset : ℤ) → P (compressed (FloatStore D) 0 base src offset) → IfSome (fsd_form flags base src offset) P
+fsd_either P flags base src offset h =
+    let form = compressed (FloatStore D) 0 base src offset in
+    let near = form_where (flags.has_zcd && is_scaled 8 31 offset) form in
+    tested P (base == sp) (form_where (flags.has_zcd && is_scaled 8 63 offset) form) (if is_short src && is_short base then near else None)
+    (λ stack. guarded P (flags.has_zcd && is_scaled 8 63 offset) form (λ holds. h))
+    (under P (is_short src && is_short base) near (guarded P (flags.has_zcd && is_scaled 8 31 offset) form (λ holds. h)))
 
 zca_store_either : (P : Decoded → Type 0) (flags : IsaFlags) (op : StoreOP) (base src : ℕ) (offset : ℤ) → P (compressed (store_row op) 0 base src offset) → IfSome (zca_store flags op base src offset) P
 zca_store_either P flags stores.Sb base src offset h = narrow_store_either P flags 3 stores.Sb base src offset h
@@ -377,7 +391,7 @@ zca_store_either P flags stores.Sh base src offset h = narrow_store_either P fla
 zca_store_either P flags stores.Sw base src offset h = word_store_either P stores.Sw base src offset h
 zca_store_either P flags stores.Sd base src offset h = word_store_either P stores.Sd base src offset h
 zca_store_either P flags stores.Fsw base src offset h = tt
-zca_store_either P flags stores.Fsd base src offset h = under P flags.has_zcd (word_store_form stores.Fsd base src offset) (word_store_either P stores.Fsd base src offset h)
+zca_store_either P flags stores.Fsd base src offset h = fsd_either P flags base src offset h
 
 pub short_store_either : (P : Decoded → Type 0) (flags : IsaFlags) (op : StoreOP) (base src : ℕ) (offset : ℤ) → P (compressed (store_row op) 0 base src offset) → P (decoded_store op base src offset) → P (short_store flags op base src offset)
 short_store_either P flags op base src offset half word =

@@ -196,7 +196,9 @@ pub load_runs : (site : Site) (setting : EmitVState) (rd : Writable Reg) (op : L
 load_runs site setting rd op flags from integer h based real = record {
   run = λ start after s v e clear.
       let loc = location_of site.context.frame from in
-      subst (λ x. ComesOut site start after Next [] (set_reg v (number_of rd.reg) x) s) (loaded op loc based e) (load_out (number_of rd.reg) op loc flags.trap integer h.1 based real e);
+      let x = load_result (load_op op) v.mem (address_at (environment site start after) v loc) in
+      subst (λ (c : Bool). ComesOut site start after Next [] (if c then v else set_reg v (number_of rd.reg) x) s) (sym integer)
+      (subst (λ y. ComesOut site start after Next [] (set_reg v (number_of rd.reg) y) s) (loaded op loc based e) (load_out (number_of rd.reg) op loc flags.trap integer h.1 based real e));
 }
 
 -- ---- stores
@@ -254,9 +256,10 @@ store_runs site setting to op flags src integer h based = record {
       let env = environment site start after in
       let loc = location_of site.context.frame to in
       let where_stored = address_same env v s.values loc based e.same in
-      subst (λ a. ComesOut site start after Next [] (put_bytes v a (store_bytes (store_op op) (reg v (number_of src)))) s) (sym where_stored)
+      subst (λ (c : Bool). ComesOut site start after Next [] (if c then v else put_bytes v (address_at env v loc) (store_bytes (store_op op) (reg v (number_of src)))) s) (sym integer)
+      (subst (λ a. ComesOut site start after Next [] (put_bytes v a (store_bytes (store_op op) (reg v (number_of src)))) s) (sym where_stored)
       (subst (λ x. ComesOut site start after Next [] (put_bytes v (address_at env s.values loc) (store_bytes (store_op op) x)) s) (sym (e.same.regs (number_of src) h.1))
-      (store_out op (number_of src) loc flags.trap integer h.1 based e (subst (λ a. AreOutside site.base (length site.bytes) (addresses_from a (store_size op))) where_stored clear)));
+      (store_out op (number_of src) loc flags.trap integer h.1 based e (subst (λ a. AreOutside site.base (length site.bytes) (addresses_from a (store_size op))) where_stored clear))));
 }
 
 -- ---- addresses

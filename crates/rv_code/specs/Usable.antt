@@ -1,5 +1,5 @@
 -- What the words of an instruction ask of its registers, labels and numbers.
-use Rattle.std.specs.Prelude.{◌≡◌, ◌≢◌, ◌⊎◌, ◌<◌, ◌≤◌, true, List, [], ◌∷◌, length, Option, Some, None, IsSome}
+use Rattle.std.specs.Prelude.{◌≡◌, ◌≢◌, ◌⊎◌, ◌<◌, ◌≤◌, true, false, List, [], ◌∷◌, length, Option, Some, None, IsSome}
 use Rattle.std.proofs.Common.{refl}
 use Rattle.rv_base.specs.declared.amode.AMode.{AMode}
 use Rattle.rv_base.specs.declared.call.CallRetPair.{CallRetPair}
@@ -18,7 +18,8 @@ use Rattle.rv_base.specs.declared.value_regs.ValueRegs.{ValueRegs}
 use Rattle.rv_base.specs.ValueRegs.{count_of}
 use Rattle.rv_base.specs.declared.label.MachLabel.{MachLabel}
 use Rattle.mach_labels.specs.Table.{first_inner}
-use Rattle.rv_ops.specs.Memory.{load_of}
+use Rattle.rv_ops.specs.Memory.{is_float_load, load_of}
+use Rattle.rv_ops.specs.declared.memory.LoadOP.{LoadOP}
 use Rattle.rv_ops.specs.declared.compare.IntegerCompare.{IntegerCompare}
 use Rattle.rv_encode.specs.Registers.{IsIntRegister, IsRealRegister}
 use Rattle.rv_inst.specs.UnitWords.{UnitWord, registers_in, unit_of}
@@ -73,6 +74,10 @@ IsFineAddress constants (SlotOffset o) = IsNear o
 IsFineAddress constants (IncomingArg o) = IsNear o
 IsFineAddress constants (Const k) = k.number < length constants
 IsFineAddress constants (ToLabel l) = IsListed l
+
+-- a register of the machine is loaded, an integer register by a load of integers
+abbrev pub IsFineLoad : LoadOP → Reg → Type 0
+IsFineLoad op r = IsRealRegister r × (is_float_load op ≡ false → IsIntRegister r)
 
 -- a register isn't the one that an address counts from
 abbrev pub IsApart : Reg → Option Reg → Type 0
@@ -131,8 +136,8 @@ IsFine constants (Mov rd rm type) = IsIntRegister rd.reg × IsIntRegister rm
 IsFine constants (MovFromPReg rd rm) = IsIntRegister rd.reg × IsIntRegister (Real rm)
 IsFine constants (Extend rd rn signed from_bits to_bits) = IsIntRegister rd.reg × IsIntRegister rn × (1 ≤ from_bits) × (from_bits ≤ 64)
 IsFine constants (Select info) = IsFineChoice info.dst info.condition info.x info.y
-IsFine constants (Load rd op flags from) = IsIntRegister rd.reg × IsFineAddress constants from
-IsFine constants (Store src op flags to) = IsIntRegister src × IsFineAddress constants to
+IsFine constants (Load rd op flags from) = IsFineLoad op rd.reg × IsFineAddress constants from
+IsFine constants (Store src op flags to) = IsRealRegister src × IsFineAddress constants to
 IsFine constants (LoadAddr rd mem) = IsIntRegister rd.reg × IsFineAddress constants mem × IsApart rd.reg (base_of mem)
 IsFine constants (LabelAddress dst label) = IsIntRegister dst.reg × IsListed label
 IsFine constants Ret = Unit {0}

@@ -4,12 +4,15 @@
 ghost use Rattle.std.specs.Prelude.{◌≡◌, ◌==◌, ◌&&◌, ◌*◌, ◌^◌, ◌-◌, ◌<◌, ◌≤◌, not, true, false, pos, MatchOption, IfSome};
 ghost use Rattle.rv_base.specs.declared.flags.IsaFlags.{IsaFlags as Flags};
 ghost use Rattle.rv_base.specs.Regs.{number_of};
+ghost use Rattle.rv_machine.specs.declared.ops.FloatFormat.TheVariants.{D};
 ghost use Rattle.rv_machine.specs.declared.ops.LoadOp.TheVariants.{Lw, Ld};
+ghost use Rattle.rv_machine.specs.declared.ops.MOp.TheVariants.{FloatLoad, FloatStore};
+ghost use Rattle.rv_machine.specs.Layout.{compressed};
 ghost use Rattle.rv_ops.specs.Memory.{load_size, store_size};
 ghost use Rattle.rv_encode.specs.Registers.{IsIntRegister, IsRealRegister, IsShortRegister};
 ghost use Rattle.rv_encode.specs.Operations.{load_op, store_op};
 ghost use Rattle.rv_encode.specs.Compressed.{cl_load, cs_store};
-ghost use Rattle.rv_inst.specs.Forms.{sp, is_short, is_scaled, form_where, load_form, word_load_form, narrow_load_form, form_load, store_form, word_store_form, narrow_store_form, form_store};
+ghost use Rattle.rv_inst.specs.Forms.{sp, is_short, is_scaled, form_where, load_form, word_load_form, narrow_load_form, fld_form, form_load, store_form, word_store_form, narrow_store_form, fsd_form, form_store};
 ghost use Rattle.rv_emit.specs.Encoded.{IsForm, IsScaledBy, narrow_size, narrow_most, narrow_load, narrow_store};
 
 use crate::compressed::{number, reg_is_compressible};
@@ -211,35 +214,40 @@ fn float_load(flags: IsaFlags, rd: WritableReg, base: Reg, offset: Imm12) -> Opt
     requires rd { IsRealRegister rd.reg }
     requires base { IsIntRegister base }
     requires zca { flags.has_zca ≡ true }
-    ensures { IsForm flags result (float_load_form flags Fld (number_of rd.reg) (number_of base) offset.value) }
+    ensures { IsForm flags result (fld_form flags (number_of rd.reg) (number_of base) offset.value) }
 {
-    if !flags.has_zcd {
-        return None;
-    }
     if number(base) == 2 {
-        c_fldsp(rd, offset)
+        c_fldsp(flags, rd, offset)
     } else if reg_is_compressible(rd.reg) && reg_is_compressible(base) {
-        c_fld(rd, base, offset)
+        c_fld(flags, rd, base, offset)
     } else {
         None
     }
 }
 
-fn c_fldsp(rd: WritableReg, offset: Imm12) -> Option<u16>
-    requires { IsRealRegister rd.reg }
-    ensures { (flags : Flags) → flags.has_zca ≡ true → flags.has_zcd ≡ true → IsForm flags result (form_where (is_scaled 8 63 offset.value) (load_form Fld (number_of rd.reg) sp offset.value)) }
+fn c_fldsp(flags: IsaFlags, rd: WritableReg, offset: Imm12) -> Option<u16>
+    requires rd { IsRealRegister rd.reg }
+    requires zca { flags.has_zca ≡ true }
+    ensures { IsForm flags result (form_where (flags.has_zcd && is_scaled 8 63 offset.value) (compressed (FloatLoad D) (number_of rd.reg) sp 0 offset.value)) }
 {
+    if !flags.has_zcd {
+        return None;
+    }
     match scaled(8, 63, offset) {
         Some(value) => Some(encode_c_fldsp(rd, Uimm6 { value })),
         None => None,
     }
 }
 
-fn c_fld(rd: WritableReg, base: Reg, offset: Imm12) -> Option<u16>
+fn c_fld(flags: IsaFlags, rd: WritableReg, base: Reg, offset: Imm12) -> Option<u16>
     requires rd { IsShortRegister rd.reg }
     requires base { IsShortRegister base }
-    ensures { (flags : Flags) → flags.has_zca ≡ true → flags.has_zcd ≡ true → IsForm flags result (form_where (is_scaled 8 31 offset.value) (load_form Fld (number_of rd.reg) (number_of base) offset.value)) }
+    requires zca { flags.has_zca ≡ true }
+    ensures { IsForm flags result (form_where (flags.has_zcd && is_scaled 8 31 offset.value) (compressed (FloatLoad D) (number_of rd.reg) (number_of base) 0 offset.value)) }
 {
+    if !flags.has_zcd {
+        return None;
+    }
     match scaled(8, 31, offset) {
         Some(value) => Some(encode_c_fld(rd, base, Uimm5 { value })),
         None => None,
@@ -251,35 +259,40 @@ fn float_store(flags: IsaFlags, base: Reg, src: Reg, offset: Imm12) -> Option<u1
     requires base { IsIntRegister base }
     requires src { IsRealRegister src }
     requires zca { flags.has_zca ≡ true }
-    ensures { IsForm flags result (float_store_form flags Fsd (number_of base) (number_of src) offset.value) }
+    ensures { IsForm flags result (fsd_form flags (number_of base) (number_of src) offset.value) }
 {
-    if !flags.has_zcd {
-        return None;
-    }
     if number(base) == 2 {
-        c_fsdsp(src, offset)
+        c_fsdsp(flags, src, offset)
     } else if reg_is_compressible(src) && reg_is_compressible(base) {
-        c_fsd(base, src, offset)
+        c_fsd(flags, base, src, offset)
     } else {
         None
     }
 }
 
-fn c_fsdsp(src: Reg, offset: Imm12) -> Option<u16>
-    requires { IsRealRegister src }
-    ensures { (flags : Flags) → flags.has_zca ≡ true → flags.has_zcd ≡ true → IsForm flags result (form_where (is_scaled 8 63 offset.value) (store_form Fsd sp (number_of src) offset.value)) }
+fn c_fsdsp(flags: IsaFlags, src: Reg, offset: Imm12) -> Option<u16>
+    requires src { IsRealRegister src }
+    requires zca { flags.has_zca ≡ true }
+    ensures { IsForm flags result (form_where (flags.has_zcd && is_scaled 8 63 offset.value) (compressed (FloatStore D) 0 sp (number_of src) offset.value)) }
 {
+    if !flags.has_zcd {
+        return None;
+    }
     match scaled(8, 63, offset) {
         Some(value) => Some(encode_c_fsdsp(src, Uimm6 { value })),
         None => None,
     }
 }
 
-fn c_fsd(base: Reg, src: Reg, offset: Imm12) -> Option<u16>
+fn c_fsd(flags: IsaFlags, base: Reg, src: Reg, offset: Imm12) -> Option<u16>
     requires base { IsShortRegister base }
     requires src { IsShortRegister src }
-    ensures { (flags : Flags) → flags.has_zca ≡ true → flags.has_zcd ≡ true → IsForm flags result (form_where (is_scaled 8 31 offset.value) (store_form Fsd (number_of base) (number_of src) offset.value)) }
+    requires zca { flags.has_zca ≡ true }
+    ensures { IsForm flags result (form_where (flags.has_zcd && is_scaled 8 31 offset.value) (compressed (FloatStore D) 0 (number_of base) (number_of src) offset.value)) }
 {
+    if !flags.has_zcd {
+        return None;
+    }
     match scaled(8, 31, offset) {
         Some(value) => Some(encode_c_fsd(src, base, Uimm5 { value })),
         None => None,
