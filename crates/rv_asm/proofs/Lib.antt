@@ -41,3 +41,4 @@ mod OneComes
 mod LinesComeOut
 mod UnitLines
 mod FloatLines
+mod OtherLines

@@ -13,7 +13,7 @@ use Rattle.rv_inst.specs.declared.inst.Line.TheVariants.{Inst as Put}
 use Rattle.rv_inst.specs.declared.job.Job.{Job}
 use Rattle.rv_inst.specs.Rules.{Faults, is_reserved, is_virtual}
 use Rattle.rv_inst.specs.UnitWords.{UnitWord}
-use Rattle.rv_inst.proofs.UnitWords.{IsUnit, is_unit}
+use Rattle.rv_inst.proofs.UnitWords.{IsUnit}
 use Rattle.rv_machine.specs.declared.decoding.Decoded.{Decoded}
 use Rattle.rv_machine.specs.State.{wrap}
 use Rattle.rv_full.specs.Rows.{Row, row_takes}
@@ -32,7 +32,6 @@ use Rattle.rv_asm.specs.FullSimulation.{Placing, StandsAt, LineAt, Stops, enviro
 use Rattle.rv_asm.specs.Placed.{Addresses}
 use Rattle.rv_asm.specs.Reported.{start_of, end_of}
 use Rattle.rv_asm.specs.Simulation.{At, AtStart}
-use Rattle.rv_asm.proofs.FullRuns.{UnitLines}
 use Rattle.rv_asm.proofs.Images.{placed_at}
 use Rattle.rv_asm.proofs.LinesComeOut.{line_out}
 use Rattle.rv_asm.proofs.LinesJoin.{Known, site_of, InstIn, IsThreaded}
@@ -147,12 +146,9 @@ module _ (job : Job) (code : Code) (known : Known) (t : IsThreaded job code know
   stops : RowAsks next_pc (unit_row d v) (unit_row d (values_of b)) b.answers → Stops placing (At i) v b
   stops a = record { there = there; steps = 0; state = b; ran = fiter_none job.flags b; asks = next ∙ a.asks; took = []; answers = refl; few = subst (λ (m : FullMeaning). 0 < 2 * m.own_answers (environment_at there) v) (sym means) (subst (λ (r : Row). 0 < 2 * answers_of r) (sym a.takes) (lit< tt)) }
 
-  unit_comes : OneComes placing (At i) v b
+  pub unit_comes : OneComes placing (At i) v b
   unit_comes = by (row_comes next_pc (values_of b) (unit_row d v) (unit_row d (values_of b)) b.answers agree s.is_state.answers)
     where
       by : RowGoes next_pc (values_of b) (unit_row d v) (unit_row d (values_of b)) b.answers ⊎ RowAsks next_pc (unit_row d v) (unit_row d (values_of b)) b.answers → OneComes placing (At i) v b
       by (inl g) = inl (came_out g)
       by (inr a) = inr (inl (stops a))
-
-pub unit_lines : (job : Job) (code : Code) (known : Known) → IsThreaded job code known → UnitLines job code
-unit_lines job code known t base symbols slots i inst v b listed unit s = unit_comes job code known t base symbols slots i inst (is_unit inst unit) v b listed s

@@ -19,12 +19,11 @@ use Rattle.rv_base.specs.declared.regs.Reg.TheVariants.{Real, Virtual as AVirtua
 use Rattle.rv_base.specs.declared.regs.RegClass.{RegClass}
 use Rattle.rv_base.specs.declared.regs.RegClass.TheVariants.{Int, Float, Vector}
 use Rattle.rv_base.specs.Regs.{class_of, number_of}
-use Rattle.rv_ops.specs.Memory.{load_of}
 use Rattle.rv_ops.specs.declared.memory.LoadOP.{LoadOP}
 use Rattle.rv_encode.specs.Registers.{IsIntRegister}
 use Rattle.rv_inst.specs.Context.{Context}
 use Rattle.rv_inst.specs.Operands.{use_registers, def_registers, location_registers}
-use Rattle.rv_inst.specs.Returns.{StackLoad, typed_loads, location_loads, result_loads, loads_unless}
+use Rattle.rv_inst.specs.Returns.{StackLoad, typed_loads, location_loads, result_loads, loads_unless, result_load}
 use Rattle.rv_inst.specs.Rules.{is_int_class, same_class, differ_in_class, is_virtual, is_reserved, is_other_class, is_stack, is_int_type, class_for, is_outside, location_differs, is_on_stack, is_loaded_from, is_unloadable, is_into_stack, either_into, results_clash, inst_rule}
 use Rattle.rv_inst.specs.declared.inst.Inst.{Inst}
 use Rattle.rv_inst.specs.declared.inst.Inst.TheVariants.{Call, CallInd}
@@ -43,8 +42,7 @@ below n h = grind (arith, nat_tests)
 record IsResult (r : Reg) (type : IrType) : Type 0 where
   usable : IsUsable r
   apart : number_of r ≢ 2
-  typed : IsSome (load_of type)
-  integer : IfSome (load_of type) IsIntegerLoad
+  typed : IsSome (result_load type)
 
 -- its register has the class Int
 int_class : (class : RegClass) → not (same_class class Int) ≡ false → not (is_int_class class) ≡ false
@@ -61,14 +59,14 @@ not_stack (Real p) u e same = from (is_int_class p.class) (ap is_int_class u.0) 
     from false int other = absurd (cc)
 not_stack (AVirtual class index) u e same = absurd u.0
 
-in_integer : (r : Reg) (type : IrType) → IsSome (load_of type) → IfSome (load_of type) IsIntegerLoad → is_virtual r ≡ false → is_reserved r ≡ false → not (same_class (class_of r) Int) ≡ false → is_stack r ≡ false → IsResult r type
-in_integer r type typed integer real free class apart = let usable = is_usable r real (int_class (class_of r) class) free in record { usable = usable; apart = not_stack r usable apart; typed = typed; integer = integer }
+in_integer : (r : Reg) (type : IrType) → IsSome (result_load type) → is_virtual r ≡ false → is_reserved r ≡ false → not (same_class (class_of r) Int) ≡ false → is_stack r ≡ false → IsResult r type
+in_integer r type typed real free class apart = let usable = is_usable r real (int_class (class_of r) class) free in record { usable = usable; apart = not_stack r usable apart; typed = typed }
 
 stacked : (r : Reg) (type : IrType) → is_virtual r ≡ false → is_reserved r ≡ false → is_outside (class_for type) (class_of r) ≡ false → not (is_int_type type) ≡ false → is_stack r ≡ false → IsResult r type
-stacked r I8 real free class type apart = in_integer r I8 refl refl real free class apart
-stacked r I16 real free class type apart = in_integer r I16 refl refl real free class apart
-stacked r I32 real free class type apart = in_integer r I32 refl refl real free class apart
-stacked r I64 real free class type apart = in_integer r I64 refl refl real free class apart
+stacked r I8 real free class type apart = in_integer r I8 refl real free class apart
+stacked r I16 real free class type apart = in_integer r I16 refl real free class apart
+stacked r I32 real free class type apart = in_integer r I32 refl real free class apart
+stacked r I64 real free class type apart = in_integer r I64 refl real free class apart
 stacked r _ real free class type apart = absurd (cc)
 
 -- by where it is
@@ -76,13 +74,21 @@ located_fine : (r : Reg) (location : RetLocation) → is_virtual r ≡ false →
 located_fine r (InReg s) real free class type apart = tt
 located_fine r (OnStack offset t) real free class type apart = let h = stacked r t real free class type apart in (h.usable.0, h.typed)
 
+-- which is a load of integers
+result_integer : (type : IrType) → IfSome (result_load type) IsIntegerLoad
+result_integer I8 = refl
+result_integer I16 = refl
+result_integer I32 = refl
+result_integer I64 = refl
+result_integer _ = tt
+
 typed_loadable : (register offset : ℕ) (op : Option LoadOP) → IfSome op IsIntegerLoad → register < 30 → register ≢ 2 → AreLoadable (typed_loads register offset op)
 typed_loadable register offset None integer usable apart = tt
 typed_loadable register offset (Some op) integer usable apart = (record { register = record { usable = usable; apart = apart }; integer = integer }, tt)
 
 located_loadable : (r : Reg) (location : RetLocation) → is_virtual r ≡ false → is_reserved r ≡ false → location_differs r location ≡ false → (is_on_stack location && not (is_loaded_from location)) ≡ false → (is_on_stack location && is_stack r) ≡ false → AreLoadable (location_loads r location)
 located_loadable r (InReg s) real free class type apart = tt
-located_loadable r (OnStack offset t) real free class type apart = let h = stacked r t real free class type apart in typed_loadable (number_of r) offset (load_of t) h.integer h.usable.1 h.apart
+located_loadable r (OnStack offset t) real free class type apart = let h = stacked r t real free class type apart in typed_loadable (number_of r) offset (result_load t) (result_integer t) h.usable.1 h.apart
 
 -- ---- all of them
 

@@ -53,7 +53,7 @@ mod ImmediateValues
 mod SameMemory
 pub mod AddressRuns
 mod InstMemory
-mod AddressOperands
+pub mod AddressOperands
 pub mod FineOperands
 pub mod AccessRows
 pub mod FormActs
@@ -80,3 +80,4 @@ pub mod ExactRows
 pub mod FloatAccesses
 pub mod ReadyAccesses
 pub mod FloatAccessRuns
+pub mod MovedRegisters

@@ -18,7 +18,7 @@ use Rattle.rv_base.specs.declared.value_regs.ValueRegs.{ValueRegs}
 use Rattle.rv_base.specs.ValueRegs.{count_of}
 use Rattle.rv_base.specs.declared.label.MachLabel.{MachLabel}
 use Rattle.mach_labels.specs.Table.{first_inner}
-use Rattle.rv_ops.specs.Memory.{is_float_load, load_of}
+use Rattle.rv_ops.specs.Memory.{is_float_load}
 use Rattle.rv_ops.specs.declared.memory.LoadOP.{LoadOP}
 use Rattle.rv_ops.specs.declared.compare.IntegerCompare.{IntegerCompare}
 use Rattle.rv_encode.specs.Registers.{IsIntRegister, IsRealRegister}
@@ -27,6 +27,7 @@ use Rattle.rv_inst.specs.declared.units.PlacedReg.{PlacedReg}
 use Rattle.rv_inst.specs.declared.inst.Inst.{Inst}
 use Rattle.rv_inst.specs.declared.inst.Inst.TheVariants.{Nop0, Nop4, EBreak, SequencePoint, Args, Rets, DummyUse, EmitIsland, RawData, Lui, Auipc, LoadInlineConst, AluRRR, AluRRImm12, Mov, MovFromPReg, Extend, Select, Load, Store, LoadAddr, LabelAddress, Ret, TrapIf, Jal, CondBr, BrTable, Udf, Jalr, Popcnt, Cltz, Brev8, StackProbeLoop, LoadExtNameGot, LoadExtNameNear, LoadExtNameFar, Call, CallInd, ReturnCall, ReturnCallInd, Unwind}
 use Rattle.rv_inst.specs.Operands.{all_of, written_in}
+use Rattle.rv_inst.specs.Returns.{result_load}
 use Rattle.rv_inst.specs.Rules.{is_int_type}
 use Rattle.rv_inst.specs.declared.inst.CondBrTarget.{CondBrTarget}
 use Rattle.rv_inst.specs.declared.inst.CondBrTarget.TheVariants.{Label, Fallthrough}
@@ -55,7 +56,7 @@ IsFineTry (Some t) = IsListed t.continuation
 -- a result on the stack is loaded, by its type, into an integer register
 abbrev pub IsFineResult : Reg → RetLocation → Type 0
 IsFineResult r (InReg s) = Unit {0}
-IsFineResult r (OnStack offset type) = IsIntRegister r × IsSome (load_of type)
+IsFineResult r (OnStack offset type) = IsIntRegister r × IsSome (result_load type)
 
 abbrev pub AreFineResults : List CallRetPair → Type 0
 AreFineResults [] = Unit {0}

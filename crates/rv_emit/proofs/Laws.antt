@@ -57,6 +57,7 @@ pub use Rattle.rv_code.proofs.OneOperations.{IsAlone, one_slot, stands_alone, ha
 pub use Rattle.rv_code.proofs.UnitRuns.{fiter_one, unit_next_at, row_comes}
 pub use Rattle.rv_code.proofs.UnitRules.{are_usable_in}
 pub use Rattle.rv_code.proofs.AddressOperands.{full_load_kept, full_store_kept}
+pub use Rattle.rv_code.proofs.MovedRegisters.{moves_integers, chooses_integers}
 pub use Rattle.rv_code.proofs.FloatAccessRuns.{full_load, full_store}
 pub use Rattle.rv_code.proofs.UnitWordRuns.{IsUnitOperation, parts_are, unit_operation}
 -- how long the operations of a jump by a register are
