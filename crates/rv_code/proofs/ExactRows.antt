@@ -8,7 +8,7 @@ use Rattle.rv_inst.specs.SameValues.{Same}
 use Rattle.rv_full.specs.Rows.{Does}
 use Rattle.rv_full.specs.Steps.{Goes as GoesTo, fnext, row_next}
 use Rattle.rv_full.specs.UnitRows.{unit_row}
-use Rattle.rv_full.specs.Units.{FullState, FullValues, AnswerFits, AreUnits, full_at, put}
+use Rattle.rv_full.specs.Units.{FullState, FullValues, AnswerFits, AreUnits, Units, full_at, put}
 use Rattle.rv_full.proofs.LargerMachine.{integer_run}
 use Rattle.rv_full.proofs.Runs.{fiter_after}
 use Rattle.rv_code.specs.Chains.{Goes, IsAt}
@@ -31,8 +31,8 @@ pub record IsBefore (site : Site) (start after : ℕ) (d : Decoded) (v : Values)
   pub written : AreValues values
 
 -- the values of the machine there
-abbrev pub before_values : {site : Site} {start after : ℕ} {d : Decoded} {v : Values} {b : FullState} → IsBefore site start after d v b.state → FullValues
-before_values {b = b} y = record { ints = y.values; units = b.units }
+abbrev pub before_values : {site : Site} {start after : ℕ} {d : Decoded} {v : Values} {s : State} → Units → IsBefore site start after d v s → FullValues
+before_values units y = record { ints = y.values; units = units }
 
 -- What the operation does then: no answer is taken, and the setting is left.
 pub record DoesThere (site : Site) (d : Decoded) (made : FullValues) (b : FullState) (x : FullValues) : Type 0 where
@@ -46,7 +46,7 @@ pub record DoesThere (site : Site) (d : Decoded) (made : FullValues) (b : FullSt
   pub setting : after.units.setting ≡ b.units.setting
   pub placed : IsPlacedAt site after.ints.mem
 
-pub exact_out : {site : Site} {start after : ℕ} {d : Decoded} {v : Values} {made : FullValues} {b : FullState} (y : IsBefore site start after d v b.state) → DoesThere site d made b (before_values y) → AllByRecursion AnswerFits b.answers → FullComesOut site after [] made [] b
+pub exact_out : {site : Site} {start after : ℕ} {d : Decoded} {v : Values} {made : FullValues} {b : FullState} (y : IsBefore site start after d v b.state) → DoesThere site d made b (before_values b.units y) → AllByRecursion AnswerFits b.answers → FullComesOut site after [] made [] b
 exact_out {site} {start} {after} {d} {made = made} {b = b} y w fit =
     let flags = site.context.flags in
     let t = at (wrap (b.state.pc + y.size)) y.values in

@@ -45,11 +45,11 @@ low_bytes_long D n = refl
 -- ---- what they do
 
 module _ {site : Site} {start after : ℕ} {d : Decoded} {v : FullValues} {b : FullState} (format : FloatFormat) (register a : ℕ) (y : IsBefore site start after d v.ints b.state) (address : wrap (reg y.values d.rs1 + low64 d.imm) ≡ a) (units : v.units ≡ b.units) (are_values : AreValues v.ints) (full : IsFullState b) where
-  pub load_does : d.op ≡ FloatLoad format → d.rd ≡ register → register < 32 → DoesThere site d (float_loaded format register a v) b (before_values y)
+  pub load_does : d.op ≡ FloatLoad format → d.rd ≡ register → register < 32 → DoesThere site d (float_loaded format register a v) b (before_values b.units y)
   load_does is to lt = record {
     none = λ s. ap (λ op. act_on op d s) is;
-    after = float_loaded format register a (before_values y);
-    row = ap (λ op. row_of op d (before_values y)) is ∙ (λ i. Does (float_loaded format (to i) (address i) (before_values y)));
+    after = float_loaded format register a (before_values b.units y);
+    row = ap (λ op. row_of op d (before_values b.units y)) is ∙ (λ i. Does (float_loaded format (to i) (address i) (before_values b.units y)));
     same = record { ints = y.same; units = λ i. set_freg (units i) register (boxed format (loaded_same v.ints.mem y.values.mem a (format_bytes format) y.same.mem i)) };
     are_values = are_values;
     written = y.written;
@@ -58,13 +58,13 @@ module _ {site : Site} {start after : ℕ} {d : Decoded} {v : FullValues} {b : F
     placed = y.here.placed;
   }
 
-  pub store_does : d.op ≡ FloatStore format → d.rs2 ≡ register → AreOutside site.base (length site.bytes) (addresses_from a (format_bytes format)) → DoesThere site d (float_stored format register a v) b (before_values y)
+  pub store_does : d.op ≡ FloatStore format → d.rs2 ≡ register → AreOutside site.base (length site.bytes) (addresses_from a (format_bytes format)) → DoesThere site d (float_stored format register a v) b (before_values b.units y)
   store_does is from clear =
       let bytes = low_bytes format (freg b.units register) in
       record {
         none = λ s. ap (λ op. act_on op d s) is;
-        after = float_stored format register a (before_values y);
-        row = ap (λ op. row_of op d (before_values y)) is ∙ (λ i. Does (float_stored format (from i) (address i) (before_values y)));
+        after = float_stored format register a (before_values b.units y);
+        row = ap (λ op. row_of op d (before_values b.units y)) is ∙ (λ i. Does (float_stored format (from i) (address i) (before_values b.units y)));
         same = record {
           ints = subst (λ (u : Units). Same (put_bytes v.ints a (low_bytes format (freg u register))) (put_bytes y.values a bytes)) (sym units) (record { regs = y.same.regs; mem = store_same v.ints.mem y.values.mem a bytes y.same.mem });
           units = units;
