@@ -38,4 +38,7 @@ pub mod Laws
 mod IslandEnds
 mod FullRuns
 mod OneComes
+mod LinesComeOut
 mod UnitLines
+mod FloatLines
+mod OtherLines

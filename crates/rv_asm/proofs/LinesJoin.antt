@@ -187,7 +187,7 @@ same_labels : (job : Job) (code : Code) (known : Known) → IsThreaded job code 
 same_labels job code known t base symbols slots mem i [] bound = tt
 same_labels job code known t base symbols slots mem i (l ∷ labels) bound = (ap (λ at. wrap (base + unwrap_or at 0)) (t.bound l.number bound.0), same_labels job code known t base symbols slots mem i labels bound.1)
 
-agrees : (job : Job) (code : Code) (known : Known) → IsThreaded job code known → (base : ℕ) (symbols slots : Addresses) (mem : Memory) (i : ℕ) (line : Line) → slice_get job.lines i ≡ Some line → AgreeOn (named_labels line) (environment (site_of job code known base symbols slots mem) (start_of code.lines i) (end_of code.lines i)) (environment_of job code base symbols slots i)
+pub agrees : (job : Job) (code : Code) (known : Known) → IsThreaded job code known → (base : ℕ) (symbols slots : Addresses) (mem : Memory) (i : ℕ) (line : Line) → slice_get job.lines i ≡ Some line → AgreeOn (named_labels line) (environment (site_of job code known base symbols slots mem) (start_of code.lines i) (end_of code.lines i)) (environment_of job code base symbols slots i)
 agrees job code known t base symbols slots mem i line e = record {
   start = refl;
   after = refl;

@@ -11,41 +11,31 @@ use Rattle.rv_inst.specs.declared.code.Code.{Code}
 use Rattle.rv_inst.specs.declared.inst.Inst.{Inst}
 use Rattle.rv_inst.specs.declared.inst.Line.TheVariants.{Inst as Put}
 use Rattle.rv_inst.specs.declared.job.Job.{Job}
-use Rattle.rv_inst.specs.Meaning.{Next}
 use Rattle.rv_inst.specs.Rules.{Faults, is_reserved, is_virtual}
 use Rattle.rv_inst.specs.UnitWords.{UnitWord}
-use Rattle.rv_inst.proofs.UnitWords.{IsUnit, is_unit}
+use Rattle.rv_inst.proofs.UnitWords.{IsUnit}
 use Rattle.rv_machine.specs.declared.decoding.Decoded.{Decoded}
 use Rattle.rv_machine.specs.State.{wrap}
 use Rattle.rv_full.specs.Rows.{Row, row_takes}
-use Rattle.rv_full.specs.Steps.{Goes, fiter, fnext, row_next, stepped}
+use Rattle.rv_full.specs.Steps.{fnext, row_next}
 use Rattle.rv_full.specs.UnitRows.{unit_row}
-use Rattle.rv_full.specs.Units.{FullState, FullValues, full_at, put, values_of}
-use Rattle.rv_full.specs.Vectors.{is_legal}
-use Rattle.rv_full.proofs.LargerMachine.{integer_run}
-use Rattle.rv_full.proofs.Runs.{fiter_none, fiter_after}
+use Rattle.rv_full.specs.Units.{FullState, FullValues, full_at, values_of}
+use Rattle.rv_full.proofs.Runs.{fiter_none}
 use Rattle.rv_code.specs.Chains.{IsAt}
-use Rattle.rv_code.specs.InstRuns.{ComesOut}
 use Rattle.rv_code.specs.InstParts.{access_slots, slots_alone, unit_parts}
 use Rattle.rv_code.specs.Sites.{Site, CodeHas, IsPlacedAt, PartsStand}
 use Rattle.rv_code.specs.Slots.{Op}
-use Rattle.rv_code.specs.UnitRuns.{RowsAgree, RowGoes, RowAsks, AreUsableIn}
-use Rattle.rv_emit.proofs.Laws.{iter_none, same_but, keeps, unit_next_at, row_comes, are_usable_in, parts_are, stands_alone, IsUnitOperation, unit_operation}
-use Rattle.rv_asm.specs.FullMeaning.{FullMeaning, SameFullBut, answers_of, meaning_by, meaning_of, operation_row}
+use Rattle.rv_code.specs.UnitRuns.{FullComesOut, RowsAgree, RowGoes, RowAsks, AreUsableIn}
+use Rattle.rv_emit.proofs.Laws.{same_but, keeps, fiter_one, unit_next_at, row_comes, are_usable_in, parts_are, stands_alone, IsUnitOperation, unit_operation}
+use Rattle.rv_asm.specs.FullMeaning.{FullMeaning, answers_of, meaning_by, meaning_of, operation_row}
 use Rattle.rv_asm.specs.FullSimulation.{Placing, StandsAt, LineAt, Stops, environment_at}
 use Rattle.rv_asm.specs.Placed.{Addresses}
 use Rattle.rv_asm.specs.Reported.{start_of, end_of}
-use Rattle.rv_asm.specs.Simulation.{At, AtStart, Leads}
-use Rattle.rv_asm.proofs.EqualValues.{same_itself}
-use Rattle.rv_asm.proofs.FullRuns.{UnitLines}
-use Rattle.rv_asm.proofs.Images.{placed_at, placed_again}
-use Rattle.rv_asm.proofs.LinesJoin.{Known, site_of, InstIn, IsThreaded, reaches}
+use Rattle.rv_asm.specs.Simulation.{At, AtStart}
+use Rattle.rv_asm.proofs.Images.{placed_at}
+use Rattle.rv_asm.proofs.LinesComeOut.{line_out}
+use Rattle.rv_asm.proofs.LinesJoin.{Known, site_of, InstIn, IsThreaded}
 use Rattle.rv_asm.proofs.OneComes.{CameOut, OneComes}
-
--- one step of the machine with all units
-fiter_one : (flags : IsaFlags) (b c : FullState) → fnext flags b ≡ Goes c → fiter flags 1 b ≡ Some c
-unfolding fiter
-fiter_one flags b c next = ap stepped next
 
 wrap_fits : (n : ℕ) → wrap n < 2 ^ 64
 wrap_fits n = omega arith
@@ -137,55 +127,28 @@ module _ (job : Job) (code : Code) (known : Known) (t : IsThreaded job code know
   came_out : RowGoes next_pc (values_of b) (unit_row d v) (unit_row d (values_of b)) b.answers → CameOut placing (At i) v b
   came_out g =
       let c = full_at next_pc g.after g.left in
-      let e : ComesOut site start end Next [] g.made.ints c.state = record {
-        steps = 0;
-        state = c.state;
+      let out : FullComesOut site end [] g.made g.took b = record {
+        steps = 1;
+        state = c;
         moved = lit≤ tt;
-        ran = iter_none job.flags c.state;
-        arrives = at_end;
-        same = same_but [] g.agree.same.ints;
-        is_state = record { pc = wrap_fits (b.state.pc + d.len); values = g.agree.is_values };
+        ran = fiter_one job.flags b c (next ∙ g.next);
+        pc = at_end;
+        same = record { ints = same_but [] g.agree.same.ints; units = g.agree.same.units };
         are_values = g.agree.are_values;
+        is_state = record { state = record { pc = wrap_fits (b.state.pc + d.len); values = g.agree.is_values }; units = g.agree.units; answers = g.fit };
+        answers = g.parted;
+        setting = g.agree.setting;
         placed = subst (IsPlacedAt site) (sym g.agree.mem) placed;
       } in
-      let led = reaches job code known t base symbols slots b.state.values.mem s.placed i (slice_get_within job.lines i (Put inst) listed) [] g.made.ints c.state Next tt e in
-      let r = led.reached in
-      record {
-        steps = r.steps + 1;
-        state = put r.state c;
-        ran = fiter_after job.flags r.steps 1 b c (fiter_one job.flags b c (next ∙ g.next)) ∙ integer_run job.flags r.steps r.state c r.ran;
-        point = led.point;
-        values = record { ints = r.state.values; units = g.after.units };
-        took = g.took;
-        line = record {
-          there = there;
-          made = g.made;
-          takes = subst (λ (m : FullMeaning). m.takes (environment_at there) v (m.own_of g.took) ≡ Some (g.made, [])) (sym means) g.takes;
-          effect = subst (λ free. SameFullBut free g.made (record { ints = r.state.values; units = g.after.units })) (sym u.temporaries) (record { ints = r.same; units = g.agree.same.units });
-          leads = subst (λ exit. Leads job.lines code i exit led.point) (sym (u.exit (environment_at there) v.ints)) led.leads;
-        };
-        moved = λ back. omega arith;
-        answers = g.parted;
-        stands = record {
-          pc = r.stands;
-          stopped = r.stopped;
-          same = record { ints = same_itself r.state.values; units = refl };
-          is_state = record { state = r.is_state; units = g.agree.units; answers = g.fit };
-          are_values = r.is_state.values;
-          legal = ap is_legal g.agree.setting ∙ s.legal;
-          placed = placed_again code base symbols slots b.state.values.mem (context_of job) known.place known.records r.state.values.mem r.placed t.fields s.placed;
-        };
-      }
+      line_out job code known t base symbols slots i inst v b listed s (subst (λ free. FullComesOut site end free g.made g.took b) (sym u.temporaries) out) (u.exit (environment_at there) v.ints)
+      (subst (λ (m : FullMeaning). m.takes (environment_at there) v (m.own_of g.took) ≡ Some (g.made, [])) (sym means) g.takes)
 
   stops : RowAsks next_pc (unit_row d v) (unit_row d (values_of b)) b.answers → Stops placing (At i) v b
   stops a = record { there = there; steps = 0; state = b; ran = fiter_none job.flags b; asks = next ∙ a.asks; took = []; answers = refl; few = subst (λ (m : FullMeaning). 0 < 2 * m.own_answers (environment_at there) v) (sym means) (subst (λ (r : Row). 0 < 2 * answers_of r) (sym a.takes) (lit< tt)) }
 
-  unit_comes : OneComes placing (At i) v b
+  pub unit_comes : OneComes placing (At i) v b
   unit_comes = by (row_comes next_pc (values_of b) (unit_row d v) (unit_row d (values_of b)) b.answers agree s.is_state.answers)
     where
       by : RowGoes next_pc (values_of b) (unit_row d v) (unit_row d (values_of b)) b.answers ⊎ RowAsks next_pc (unit_row d v) (unit_row d (values_of b)) b.answers → OneComes placing (At i) v b
       by (inl g) = inl (came_out g)
       by (inr a) = inr (inl (stops a))
-
-pub unit_lines : (job : Job) (code : Code) (known : Known) → IsThreaded job code known → UnitLines job code
-unit_lines job code known t base symbols slots i inst v b listed unit s = unit_comes job code known t base symbols slots i inst (is_unit inst unit) v b listed s

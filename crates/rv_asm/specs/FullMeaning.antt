@@ -1,21 +1,30 @@
 -- What a line means on the machine with all units: what it makes of the values with the units' answers. Each family of instructions is
--- a case: those of integers take no answer, and leave the units as they were; a float operation does what its row does.
+-- a case: those of integers take no answer, and leave the units as they were; a float operation does what its row does. A load or a store
+-- of a floating-point register takes no answer either.
 use Rattle.std.specs.Prelude.{ℕ, ◌&&◌, Bool, true, List, [], ◌∷◌, Option, Some, None}
+use Rattle.rv_base.specs.declared.amode.AMode.{AMode}
+use Rattle.rv_base.specs.declared.regs.Reg.{Reg}
+use Rattle.rv_base.specs.Regs.{number_of}
 use Rattle.rv_inst.specs.Context.{context_by}
 use Rattle.rv_inst.specs.Core.{is_integer_line}
 use Rattle.rv_inst.specs.declared.inst.Family.{Family}
 use Rattle.rv_inst.specs.declared.inst.Family.TheVariants.{Pseudo, Integer, Memory, Control, Loop, Symbols, Calls, Float}
 use Rattle.rv_inst.specs.declared.inst.Inst.{Inst}
+use Rattle.rv_inst.specs.declared.inst.Inst.TheVariants.{Load, Store}
 use Rattle.rv_inst.specs.declared.inst.Line.{Line}
 use Rattle.rv_inst.specs.declared.inst.Line.TheVariants.{Inst as Put, Bind}
 use Rattle.rv_inst.specs.Families.{family_of}
-use Rattle.rv_inst.specs.Meaning.{Environment, writes_of}
+use Rattle.rv_inst.specs.Meaning.{Environment, address_of, addresses_from, writes_of}
 use Rattle.rv_inst.specs.Sizes.{operation_of}
 use Rattle.rv_machine.specs.declared.decoding.Decoded.{Decoded}
+use Rattle.rv_machine.specs.declared.ops.FloatFormat.{FloatFormat}
+use Rattle.rv_ops.specs.Memory.{load_format, store_format}
 use Rattle.rv_full.specs.declared.answer.Answer.{Answer}
+use Rattle.rv_full.specs.Floats.{format_bytes}
 use Rattle.rv_full.specs.Rows.{Row, Absent, Does, Takes, row_takes}
 use Rattle.rv_full.specs.UnitRows.{unit_row}
 use Rattle.rv_full.specs.Units.{FullValues}
+pub use Rattle.rv_code.specs.FloatAccesses.{float_loaded, float_stored}
 pub use Rattle.rv_code.specs.FullValues.{SameFull, SameFullBut}
 use Rattle.rv_asm.specs.Simulation.{Entry, AtStart, AtReturn, effect_from}
 
@@ -66,10 +75,38 @@ of_unit entry inst = record {
   own_of = λ took. took;
 }
 
+-- a load of a floating-point register: the number at the address goes into it, boxed
+abbrev pub of_float_load : FloatFormat → Reg → AMode → FullMeaning
+of_float_load format rd from = record {
+  takes = λ env v answers. Some (float_loaded format (number_of rd) (address_of env from v.ints) v, answers);
+  writes = λ env v answers. [];
+  own_answers = λ env v. 0;
+  own_of = λ took. took;
+}
+
+-- a store of one: its low bytes go to the address
+abbrev pub of_float_store : FloatFormat → Reg → AMode → FullMeaning
+of_float_store format src to = record {
+  takes = λ env v answers. Some (float_stored format (number_of src) (address_of env to v.ints) v, answers);
+  writes = λ env v answers. addresses_from (address_of env to v.ints) (format_bytes format);
+  own_answers = λ env v. 0;
+  own_of = λ took. took;
+}
+
+-- by the format of the register, where it is a floating-point one; else as of integers
+abbrev pub of_access : Option FloatFormat → (FloatFormat → FullMeaning) → FullMeaning → FullMeaning
+of_access None of_float integers = integers
+of_access (Some format) of_float integers = of_float format
+
+abbrev pub of_memory : Entry → Inst → FullMeaning
+of_memory entry (Load rd op flags from) = of_access (load_format op) (λ format. of_float_load format rd.reg from) (of_integers entry (Put (Load rd op flags from)))
+of_memory entry (Store src op flags to) = of_access (store_format op) (λ format. of_float_store format src to) (of_integers entry (Put (Store src op flags to)))
+of_memory entry inst = of_integers entry (Put inst)
+
 abbrev pub meaning_by : Family → Entry → Inst → FullMeaning
 meaning_by Pseudo entry inst = of_integers entry (Put inst)
 meaning_by Integer entry inst = of_integers entry (Put inst)
-meaning_by Memory entry inst = of_integers entry (Put inst)
+meaning_by Memory entry inst = of_memory entry inst
 meaning_by Control entry inst = of_integers entry (Put inst)
 meaning_by Loop entry inst = of_integers entry (Put inst)
 meaning_by Symbols entry inst = of_integers entry (Put inst)

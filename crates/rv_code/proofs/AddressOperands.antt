@@ -1,6 +1,6 @@
 -- What loads, stores and addresses that break no rule give of their registers, offsets and labels.
-use Rattle.std.proofs.Common.{◌≡◌, ◌≢◌, ℕ, ◌<◌, Bool, true, false, List, [], ◌∷◌, length, Option, Some, None, refl, sym, ◌∙◌, lit<, arith}
-use Rattle.std.specs.Prelude.{◌||◌, ◌&&◌, ◌==◌, ◌-◌, ◌^◌, ℤ, pos, negsuc, int_lt, is_none, slice_get}
+use Rattle.std.proofs.Common.{◌≡◌, ◌≢◌, ℕ, ◌<◌, Bool, true, false, List, [], ◌∷◌, length, Option, Some, None, refl, ap, sym, subst, ◌∙◌, lit<, arith}
+use Rattle.std.specs.Prelude.{◌||◌, ◌&&◌, ◌==◌, ◌-◌, ◌^◌, not, if◌then◌else◌, ℤ, pos, negsuc, int_lt, is_none, slice_get}
 use Rattle.std.specs.List.{list_any}
 use Rattle.std.proofs.lemmas.Bool.{eqb-false}
 use Rattle.std.proofs.lemmas.Int.{ints}
@@ -15,17 +15,21 @@ use Rattle.rv_base.specs.declared.regs.Reg.{Reg}
 use Rattle.rv_base.specs.declared.regs.Reg.TheVariants.{Real, Virtual}
 use Rattle.rv_base.specs.declared.regs.Writable.{Writable}
 use Rattle.rv_base.specs.AMode.{IsNear, base_of, own_offset, registers_of}
-use Rattle.rv_base.specs.Regs.{number_of, stack_pointer, frame_pointer}
+use Rattle.rv_base.specs.declared.regs.RegClass.{RegClass}
+use Rattle.rv_base.specs.declared.regs.RegClass.TheVariants.{Int, Float, Vector}
+use Rattle.rv_base.specs.Regs.{class_of, number_of, stack_pointer, frame_pointer}
 use Rattle.rv_ops.specs.declared.memory.LoadOP.{LoadOP}
 use Rattle.rv_ops.specs.declared.memory.StoreOP.{StoreOP}
-use Rattle.rv_ops.specs.Memory.{load_size}
+use Rattle.rv_ops.specs.Memory.{load_class, load_size, store_class}
 use Rattle.rv_inst.specs.Addresses.{location_of, is_distant}
 use Rattle.rv_inst.specs.Operands.{address_targets, labels_of}
-use Rattle.rv_inst.specs.Rules.{same_class, same_register, is_base, is_zero, is_buffer_label, is_shorter, lacks_named, lacks_constant}
+use Rattle.rv_inst.specs.Rules.{same_class, same_register, is_base, is_int_class, is_not_of, is_other_class, is_reserved, is_virtual, is_zero, is_buffer_label, is_shorter, lacks_named, lacks_constant}
 use Rattle.rv_inst.specs.declared.inst.Inst.TheVariants.{Load, Store, LoadAddr, LabelAddress}
 use Rattle.rv_code.specs.Usable.{IsUsable, IsFine, IsFineAddress, IsApart}
 use Rattle.rv_code.proofs.AddressRules.{IsUsableAt, IsRealAt, IsApartAt}
-use Rattle.rv_code.proofs.Operands.{Keeps, AreUsable, are_usable, not_zero, listed}
+use Rattle.rv_code.proofs.AccessRows.{IsIntegerLoad, IsIntegerStore}
+use Rattle.rv_code.proofs.Operands.{Keeps, AreUsable, are_usable, is_usable, not_zero, listed, or_left, or_right}
+use Rattle.rv_code.proofs.UnitRules.{is_real}
 
 -- ---- addresses
 
@@ -99,18 +103,67 @@ apart_at frame r (Label l) real h = tt
 
 -- ---- each instruction
 
+-- a register that an access moves, and those that its address counts from
+record IsAccess (class : RegClass) (r : Reg) (mode : AMode) : Type 0 where
+  real : is_virtual r ≡ false
+  placed : is_not_of class r ≡ false
+  free : is_reserved r ≡ false
+  address : AreUsable (registers_of mode)
+
+access : (class : RegClass) (r : Reg) (mode : AMode) → list_any is_virtual (r ∷ registers_of mode) ≡ false → (is_not_of class r || list_any is_other_class (registers_of mode)) ≡ false → list_any is_reserved (r ∷ registers_of mode) ≡ false → IsAccess class r mode
+access class r mode real placed free = record {
+  real = or_left (is_virtual r) _ real;
+  placed = or_left (is_not_of class r) _ placed;
+  free = or_left (is_reserved r) _ free;
+  address = are_usable (registers_of mode) (or_right (is_virtual r) _ real) (or_right (is_not_of class r) _ placed) (or_right (is_reserved r) _ free);
+}
+
+int_class : (class : RegClass) → not (same_class class Int) ≡ false → not (is_int_class class) ≡ false
+int_class Int e = refl
+int_class Float e = absurd (cc)
+int_class Vector e = absurd (cc)
+
+-- an integer register, where the class asked is theirs
+usable_int : (class : RegClass) (r : Reg) (mode : AMode) → class ≡ Int → IsAccess class r mode → IsUsable r
+usable_int class r mode is a = is_usable r a.real (int_class (class_of r) (subst (λ asked. is_not_of asked r ≡ false) is a.placed)) a.free
+
+load_access : (rd : Writable Reg) (op : LoadOP) (flags : MemFlagsData) (from : AMode) → Keeps (Load rd op flags from) → IsAccess (load_class op) rd.reg from
+load_access rd op flags from k = access (load_class op) rd.reg from k.real k.placed k.free
+
+store_access : (to : AMode) (op : StoreOP) (flags : MemFlagsData) (src : Reg) → Keeps (Store src op flags to) → IsAccess (store_class op) src to
+store_access to op flags src k = access (store_class op) src to k.real k.placed k.free
+
+-- of integers
 pub record LoadKept (frame : FrameLayout) (rd : Writable Reg) (from : AMode) : Type 0 where
   pub usable : IsUsable rd.reg
   pub based : IsUsableAt (location_of frame from)
   pub real : IsRealAt (number_of rd.reg) (location_of frame from)
 
-pub load_kept : (frame : FrameLayout) (rd : Writable Reg) (op : LoadOP) (flags : MemFlagsData) (from : AMode) → Keeps (Load rd op flags from) → LoadKept frame rd from
-load_kept frame rd op flags from k =
-    let all = are_usable (rd.reg ∷ registers_of from) k.real k.placed k.free in
-    record { usable = all.0; based = usable_at frame from all.1; real = real_at frame rd.reg from all.0 k.counted }
+loads_int : (op : LoadOP) → IsIntegerLoad op → load_class op ≡ Int
+loads_int op integer = ap (λ c. if c then Float else Int) integer
 
-pub store_kept : (frame : FrameLayout) (to : AMode) (op : StoreOP) (flags : MemFlagsData) (src : Reg) → Keeps (Store src op flags to) → IsUsable src × IsUsableAt (location_of frame to)
-store_kept frame to op flags src k = let all = are_usable (src ∷ registers_of to) k.real k.placed k.free in (all.0, usable_at frame to all.1)
+stores_int : (op : StoreOP) → IsIntegerStore op → store_class op ≡ Int
+stores_int op integer = ap (λ c. if c then Float else Int) integer
+
+pub load_kept : (frame : FrameLayout) (rd : Writable Reg) (op : LoadOP) (flags : MemFlagsData) (from : AMode) → IsIntegerLoad op → Keeps (Load rd op flags from) → LoadKept frame rd from
+load_kept frame rd op flags from integer k =
+    let a = load_access rd op flags from k in
+    let usable = usable_int (load_class op) rd.reg from (loads_int op integer) a in
+    record { usable = usable; based = usable_at frame from a.address; real = real_at frame rd.reg from usable k.counted }
+
+pub store_kept : (frame : FrameLayout) (to : AMode) (op : StoreOP) (flags : MemFlagsData) (src : Reg) → IsIntegerStore op → Keeps (Store src op flags to) → IsUsable src × IsUsableAt (location_of frame to)
+store_kept frame to op flags src integer k = let a = store_access to op flags src k in (usable_int (store_class op) src to (stores_int op integer) a, usable_at frame to a.address)
+
+-- of any register
+number_low : (r : Reg) → is_virtual r ≡ false → number_of r < 32
+number_low (Real p) e = p.in_file
+number_low (Virtual class index) e = absurd (cc)
+
+pub full_load_kept : (frame : FrameLayout) (rd : Writable Reg) (op : LoadOP) (flags : MemFlagsData) (from : AMode) → Keeps (Load rd op flags from) → (number_of rd.reg < 32) × IsUsableAt (location_of frame from)
+full_load_kept frame rd op flags from k = let a = load_access rd op flags from k in (number_low rd.reg a.real, usable_at frame from a.address)
+
+pub full_store_kept : (frame : FrameLayout) (to : AMode) (op : StoreOP) (flags : MemFlagsData) (src : Reg) → Keeps (Store src op flags to) → IsUsableAt (location_of frame to)
+full_store_kept frame to op flags src k = usable_at frame to (store_access to op flags src k).address
 
 pub record LoadAddrKept (frame : FrameLayout) (rd : Writable Reg) (mem : AMode) : Type 0 where
   pub usable : IsUsable rd.reg
@@ -129,10 +182,12 @@ label_address_kept dst label k = let usable = (are_usable (dst.reg ∷ []) k.rea
 
 -- and what emission asks of them
 pub load_fine : (constants : List Constant) (rd : Writable Reg) (op : LoadOP) (flags : MemFlagsData) (from : AMode) → Keeps (Load rd op flags from) → lacks_constant constants (Load rd op flags from) ≡ false → IsFine constants (Load rd op flags from)
-load_fine constants rd op flags from k there = let all = are_usable (rd.reg ∷ registers_of from) k.real k.placed k.free in (all.0.0, fine_address constants (load_size op) from all.1 k.ranged k.listed there)
+load_fine constants rd op flags from k there =
+    let a = load_access rd op flags from k in
+    ((is_real rd.reg a.real, λ integer. (usable_int (load_class op) rd.reg from (loads_int op integer) a).0), fine_address constants (load_size op) from a.address k.ranged k.listed there)
 
 pub store_fine : (constants : List Constant) (to : AMode) (op : StoreOP) (flags : MemFlagsData) (src : Reg) → Keeps (Store src op flags to) → lacks_constant constants (Store src op flags to) ≡ false → IsFine constants (Store src op flags to)
-store_fine constants to op flags src k there = let all = are_usable (src ∷ registers_of to) k.real k.placed k.free in (all.0.0, fine_address constants 0 to all.1 k.ranged k.listed there)
+store_fine constants to op flags src k there = let a = store_access to op flags src k in (is_real src a.real, fine_address constants 0 to a.address k.ranged k.listed there)
 
 pub load_addr_fine : (constants : List Constant) (rd : Writable Reg) (mem : AMode) → Keeps (LoadAddr rd mem) → lacks_constant constants (LoadAddr rd mem) ≡ false → IsFine constants (LoadAddr rd mem)
 load_addr_fine constants rd mem k there =

@@ -32,12 +32,13 @@ use Rattle.rv_code.specs.Operations.{decoded_addi, short_jump, jump_size}
 use Rattle.rv_code.specs.Sites.{Site, BytesAt, AimsFrom, CodeHas, StandsIn}
 use Rattle.rv_code.specs.Slots.{Label, Slot, Op, Aim, Data, Notes, Names, Allocate, Here, Fill, Address, CallTo, size_of, between}
 use Rattle.rv_inst.specs.SameValues.{Same}
+use Rattle.rv_code.proofs.AccessRows.{IsIntegerLoad}
 use Rattle.rv_code.proofs.AddressRules.{IsUsableAt, IsApartAt}
 use Rattle.rv_code.proofs.Chains.{goes_both, goes_at_least}
 use Rattle.rv_code.proofs.CodeSteps.{pc_in_code, step_at, at_next}
 use Rattle.rv_code.proofs.ImmediateValues.{offset_sums, distance_sums}
 use Rattle.rv_code.proofs.Registers.{are_values_set, reads_back, reads_other}
-use Rattle.rv_code.proofs.ShortOps.{rrr_acts, rri_acts, lui_acts, jump_acts, rrr_sized, rri_sized, lui_sized, jump_len, least_even, least_some, least_few, small_number}
+use Rattle.rv_code.proofs.ShortOps.{rrr_acts, rri_acts, lui_acts, jump_acts, rrr_sized, rri_sized, lui_sized, jump_len, least_even, least_some, least_few, load_acts_wide, small_number}
 
 -- ---- slots one after the other
 
@@ -124,9 +125,9 @@ immediate_goes {site} {offset} {s} allocated rd o false test some lt fits is_sta
 -- ---- an offset, from among the code
 
 -- the auipc, the load of bytes that stand after the code, and the jump over them
-pub over_goes : {site : Site} {offset : ℕ} {s : State} (allocated rd size x : ℕ) (op : LoadOP) (bytes : List ℕ) → 0 < rd → rd < 32 → size < 16 → length bytes ≡ size → ((mem : Memory) (a : ℕ) → BytesAt mem a bytes → load_result (load_op op) mem a ≡ x) → 0 < size → IsState s →
+pub over_goes : {site : Site} {offset : ℕ} {s : State} (allocated rd size x : ℕ) (op : LoadOP) (bytes : List ℕ) → IsIntegerLoad op → 0 < rd → rd < 32 → size < 16 → length bytes ≡ size → ((mem : Memory) (a : ℕ) → BytesAt mem a bytes → load_result (load_op op) mem a ≡ x) → 0 < size → IsState s →
     IsAt site offset (8 + jump_size site.context.flags + size) s → StandsIn site allocated offset (load_over site.context.flags rd op size) → BytesAt s.values.mem (site.base + (offset + 4 + 4 + (short_jump site.context.flags (pos (size + jump_size site.context.flags))).len)) bytes → Sets site.context.flags (8 + jump_size site.context.flags + size) s rd x
-over_goes {site} {offset} {s} allocated rd size x op bytes some lt little long reads filled is_state whole stands there =
+over_goes {site} {offset} {s} allocated rd size x op bytes integer some lt little long reads filled is_state whole stands there =
     let flags = site.context.flags in
     let j = jump_size flags in
     let few = least_few flags in
@@ -149,7 +150,7 @@ over_goes {site} {offset} {s} allocated rd size x op bytes some lt little long r
     let address : wrap (reg s1.values rd + low64 (pos (8 + j))) ≡ site.base + (offset + 4 + 4 + jump.len) = (λ i. wrap (back i + low64 (pos (8 + j)))) ∙ omega (arith, none, ahead, here, room, filled, long, jump_long) in
     let read : load_result (load_op op) s.values.mem (wrap (reg s1.values rd + low64 (pos (8 + j)))) ≡ x = ap (load_result (load_op op) s.values.mem) address ∙ reads s.values.mem (site.base + (offset + 4 + 4 + jump.len)) there in
     let loaded : Sets flags 8 s rd x = sets_both 4 4 rd a x (sets_one (decoded (Base base.Auipc) rd 0 0 (pos 0)) rd a h (omega arith) stands.0 refl)
-    (sets_one (decoded_load op rd rd (pos (8 + j))) rd x h1 (omega arith) stands.1.0 (λ i. Some (at (wrap (s1.pc + 4)) (set_reg s1.values rd (read i))))) in
+    (sets_one (decoded_load op rd rd (pos (8 + j))) rd x h1 (omega arith) stands.1.0 (load_acts_wide op rd rd (pos (8 + j)) s1 integer ∙ (λ i. Some (at (wrap (s1.pc + 4)) (set_reg s1.values rd (read i)))))) in
     let h2 : IsAt site (offset + 8) jump.len s2 = set_at 8 rd x (shorter (8 + jump.len) h (omega arith)) refl in
     let jumped : wrap (s2.pc + low64 far) ≡ wrap (s.pc + (8 + j + size)) = (λ i. wrap (s2.pc + over i)) ∙ omega arith in
     goes_both {n = 0} loaded (goes_at_least (omega arith) (step_at jump [] (at (wrap (s.pc + (8 + j + size))) s2.values) h2 (omega arith) (subst (λ n. CodeHas site n (jump ∷ [])) (omega arith) stands.1.1.0) (jump_acts flags far s2 ∙ (λ i. Some (at (jumped i) s2.values)))))
@@ -159,11 +160,11 @@ pub inline_size : (flags : IsaFlags) (rd size : ℕ) (op : LoadOP) (bytes : List
 inline_size flags rd size op bytes long = let jump = jump_len flags (pos (size + jump_size flags)) in omega arith
 
 -- those bytes are a constant
-pub inline_goes : {site : Site} {offset : ℕ} {s : State} (allocated rd size x : ℕ) (op : LoadOP) (bytes : List ℕ) → 0 < rd → rd < 32 → size < 16 → length bytes ≡ size → ((mem : Memory) (a : ℕ) → BytesAt mem a bytes → load_result (load_op op) mem a ≡ x) → 0 < size → IsState s →
+pub inline_goes : {site : Site} {offset : ℕ} {s : State} (allocated rd size x : ℕ) (op : LoadOP) (bytes : List ℕ) → IsIntegerLoad op → 0 < rd → rd < 32 → size < 16 → length bytes ≡ size → ((mem : Memory) (a : ℕ) → BytesAt mem a bytes → load_result (load_op op) mem a ≡ x) → 0 < size → IsState s →
     IsAt site offset (size_of (inline_slots site.context.flags rd op size bytes)) s → StandsIn site allocated offset (inline_slots site.context.flags rd op size bytes) → Sets site.context.flags (8 + jump_size site.context.flags + size) s rd x
-inline_goes {site} {offset} {s} allocated rd size x op bytes some lt little long reads filled is_state h stands =
+inline_goes {site} {offset} {s} allocated rd size x op bytes integer some lt little long reads filled is_state h stands =
     let e = inline_size site.context.flags rd size op bytes long in
-    over_goes allocated rd size x op bytes some lt little long reads filled is_state (shorter (8 + jump_size site.context.flags + size) h (omega arith)) (stands.0, (stands.1.0, (stands.1.1.0, tt))) (stands.1.1.1.0 s.values.mem h.placed)
+    over_goes allocated rd size x op bytes integer some lt little long reads filled is_state (shorter (8 + jump_size site.context.flags + size) h (omega arith)) (stands.0, (stands.1.0, (stands.1.1.0, tt))) (stands.1.1.1.0 s.values.mem h.placed)
 
 -- eight bytes that stand in the memory, as a number
 pub eight_there : (mem : Memory) (a w : ℕ) → BytesAt mem a (to_le_bytes w64 w) → load_bytes mem a 8 ≡ wrap w
@@ -200,7 +201,7 @@ offset_goes {site} {offset} {s} allocated rd o some lt is_state = on (is_splitta
     on true fits h stands = immediate_goes allocated rd o (low64 (lower_of o) == 0) refl some lt fits is_state h stands
     on false other h stands =
         subst (λ n. Sets site.context.flags n s rd (wrap (low64 o))) (sym (inline_size site.context.flags rd 8 loads.Ld bytes refl))
-        (inline_goes allocated rd 8 (wrap (low64 o)) loads.Ld bytes some lt (lit< tt) refl (λ mem a there. eight_there mem a (low64 o) there) (lit< tt) is_state h stands)
+        (inline_goes allocated rd 8 (wrap (low64 o)) loads.Ld bytes refl some lt (lit< tt) refl (λ mem a there. eight_there mem a (low64 o) there) (lit< tt) is_state h stands)
 
 -- ---- an address that counts from a register
 

@@ -1,6 +1,6 @@
 -- What a call that breaks no rule gives: how far the stack pointer falls, and that its results on the stack can be loaded.
 use Rattle.std.proofs.Common.{◌≡◌, ◌≢◌, ℕ, ◌^◌, ◌<◌, Bool, true, false, List, [], ◌∷◌, Option, Some, None, arith, refl, ap, sym, subst, ◌∙◌}
-use Rattle.std.specs.Prelude.{nat_le, not, ◌&&◌, ◌==◌, IsSome}
+use Rattle.std.specs.Prelude.{nat_le, not, ◌&&◌, ◌==◌, IfSome, IsSome}
 use Rattle.std.specs.List.{list_any}
 use Rattle.std.proofs.lemmas.Bool.{or_parts}
 use Rattle.std.proofs.lemmas.Bool.Decides.{nat_tests}
@@ -19,19 +19,19 @@ use Rattle.rv_base.specs.declared.regs.Reg.TheVariants.{Real, Virtual as AVirtua
 use Rattle.rv_base.specs.declared.regs.RegClass.{RegClass}
 use Rattle.rv_base.specs.declared.regs.RegClass.TheVariants.{Int, Float, Vector}
 use Rattle.rv_base.specs.Regs.{class_of, number_of}
-use Rattle.rv_ops.specs.Memory.{load_of}
 use Rattle.rv_ops.specs.declared.memory.LoadOP.{LoadOP}
 use Rattle.rv_encode.specs.Registers.{IsIntRegister}
 use Rattle.rv_inst.specs.Context.{Context}
 use Rattle.rv_inst.specs.Operands.{use_registers, def_registers, location_registers}
-use Rattle.rv_inst.specs.Returns.{StackLoad, typed_loads, location_loads, result_loads, loads_unless}
+use Rattle.rv_inst.specs.Returns.{StackLoad, typed_loads, location_loads, result_loads, loads_unless, result_load}
 use Rattle.rv_inst.specs.Rules.{is_int_class, same_class, differ_in_class, is_virtual, is_reserved, is_other_class, is_stack, is_int_type, class_for, is_outside, location_differs, is_on_stack, is_loaded_from, is_unloadable, is_into_stack, either_into, results_clash, inst_rule}
 use Rattle.rv_inst.specs.declared.inst.Inst.{Inst}
 use Rattle.rv_inst.specs.declared.inst.Inst.TheVariants.{Call, CallInd}
 use Rattle.rv_code.specs.Usable.{IsUsable, IsFine, IsFineTry, IsFineResult, AreFineResults}
 use Rattle.rv_code.proofs.Operands.{Keeps, keeps, is_usable, none_of_both, listed_try, call_usable}
 use Rattle.rv_code.proofs.ReturnRules.{of_both}
-use Rattle.rv_code.proofs.StackRuns.{IsLoadable, AreLoadable}
+use Rattle.rv_code.proofs.AccessRows.{IsIntegerLoad}
+use Rattle.rv_code.proofs.StackRuns.{IsStackLoad, AreLoadable}
 
 below : (n : ℕ) → nat_le (2 ^ 31) n ≡ false → n < 2 ^ 31
 below n h = grind (arith, nat_tests)
@@ -42,7 +42,7 @@ below n h = grind (arith, nat_tests)
 record IsResult (r : Reg) (type : IrType) : Type 0 where
   usable : IsUsable r
   apart : number_of r ≢ 2
-  typed : IsSome (load_of type)
+  typed : IsSome (result_load type)
 
 -- its register has the class Int
 int_class : (class : RegClass) → not (same_class class Int) ≡ false → not (is_int_class class) ≡ false
@@ -59,14 +59,14 @@ not_stack (Real p) u e same = from (is_int_class p.class) (ap is_int_class u.0) 
     from false int other = absurd (cc)
 not_stack (AVirtual class index) u e same = absurd u.0
 
-integer : (r : Reg) (type : IrType) → IsSome (load_of type) → is_virtual r ≡ false → is_reserved r ≡ false → not (same_class (class_of r) Int) ≡ false → is_stack r ≡ false → IsResult r type
-integer r type typed real free class apart = let usable = is_usable r real (int_class (class_of r) class) free in record { usable = usable; apart = not_stack r usable apart; typed = typed }
+in_integer : (r : Reg) (type : IrType) → IsSome (result_load type) → is_virtual r ≡ false → is_reserved r ≡ false → not (same_class (class_of r) Int) ≡ false → is_stack r ≡ false → IsResult r type
+in_integer r type typed real free class apart = let usable = is_usable r real (int_class (class_of r) class) free in record { usable = usable; apart = not_stack r usable apart; typed = typed }
 
 stacked : (r : Reg) (type : IrType) → is_virtual r ≡ false → is_reserved r ≡ false → is_outside (class_for type) (class_of r) ≡ false → not (is_int_type type) ≡ false → is_stack r ≡ false → IsResult r type
-stacked r I8 real free class type apart = integer r I8 refl real free class apart
-stacked r I16 real free class type apart = integer r I16 refl real free class apart
-stacked r I32 real free class type apart = integer r I32 refl real free class apart
-stacked r I64 real free class type apart = integer r I64 refl real free class apart
+stacked r I8 real free class type apart = in_integer r I8 refl real free class apart
+stacked r I16 real free class type apart = in_integer r I16 refl real free class apart
+stacked r I32 real free class type apart = in_integer r I32 refl real free class apart
+stacked r I64 real free class type apart = in_integer r I64 refl real free class apart
 stacked r _ real free class type apart = absurd (cc)
 
 -- by where it is
@@ -74,13 +74,21 @@ located_fine : (r : Reg) (location : RetLocation) → is_virtual r ≡ false →
 located_fine r (InReg s) real free class type apart = tt
 located_fine r (OnStack offset t) real free class type apart = let h = stacked r t real free class type apart in (h.usable.0, h.typed)
 
-typed_loadable : (register offset : ℕ) (op : Option LoadOP) → register < 30 → register ≢ 2 → AreLoadable (typed_loads register offset op)
-typed_loadable register offset None usable apart = tt
-typed_loadable register offset (Some op) usable apart = (record { usable = usable; apart = apart }, tt)
+-- which is a load of integers
+result_integer : (type : IrType) → IfSome (result_load type) IsIntegerLoad
+result_integer I8 = refl
+result_integer I16 = refl
+result_integer I32 = refl
+result_integer I64 = refl
+result_integer _ = tt
+
+typed_loadable : (register offset : ℕ) (op : Option LoadOP) → IfSome op IsIntegerLoad → register < 30 → register ≢ 2 → AreLoadable (typed_loads register offset op)
+typed_loadable register offset None integer usable apart = tt
+typed_loadable register offset (Some op) integer usable apart = (record { register = record { usable = usable; apart = apart }; integer = integer }, tt)
 
 located_loadable : (r : Reg) (location : RetLocation) → is_virtual r ≡ false → is_reserved r ≡ false → location_differs r location ≡ false → (is_on_stack location && not (is_loaded_from location)) ≡ false → (is_on_stack location && is_stack r) ≡ false → AreLoadable (location_loads r location)
 located_loadable r (InReg s) real free class type apart = tt
-located_loadable r (OnStack offset t) real free class type apart = let h = stacked r t real free class type apart in typed_loadable (number_of r) offset (load_of t) h.usable.1 h.apart
+located_loadable r (OnStack offset t) real free class type apart = let h = stacked r t real free class type apart in typed_loadable (number_of r) offset (result_load t) (result_integer t) h.usable.1 h.apart
 
 -- ---- all of them
 
@@ -131,7 +139,7 @@ all_loadable : (defs : List CallRetPair) → AreKept defs → AreLoadable (resul
 all_loadable [] k = tt
 all_loadable (d ∷ defs) k =
     let h = first_kept d defs k in
-    of_both (λ (l : StackLoad). IsLoadable l.register) (location_loads d.vreg.reg d.location) (result_loads defs) (located_loadable d.vreg.reg d.location h.real h.free h.placed h.typed h.apart) (all_loadable defs h.others)
+    of_both IsStackLoad (location_loads d.vreg.reg d.location) (result_loads defs) (located_loadable d.vreg.reg d.location h.real h.free h.placed h.typed h.apart) (all_loadable defs h.others)
 
 -- ---- a call
 

@@ -45,14 +45,14 @@ action_acts : (flags : IsaFlags) (a : Action) (s : State) → IsInRange a → Is
 action_acts flags (Rrr op rd a b) s h is = rrr_acts flags op rd a b s is
 action_acts flags (Rri op rd rs imm) s h is = rri_acts flags op rd rs imm s h.1 is
 action_acts flags (Lui rd imm) s h is = lui_acts flags rd imm s is
-action_acts flags (Load op rd base offset) s h is = load_acts flags op rd base offset s is
-action_acts flags (Store op base src offset) s h is = store_acts flags op base src offset s is
+action_acts flags (Load op rd base offset) s h is = load_acts flags op rd base offset s h.1 is
+action_acts flags (Store op base src offset) s h is = store_acts flags op base src offset s h is
 
 pub effect_values : (a : Action) (v : Values) → IsInRange a → AreValues v → AreValues (effect a v)
 effect_values (Rrr op rd a b) v h hv = are_values_set v rd (alu_rrr op (reg v a) (reg v b)) hv h (rrr_fits op (reg v a) (reg v b) (hv.fits a) (hv.fits b))
 effect_values (Rri op rd rs imm) v h hv = are_values_set v rd (alu_rri op (reg v rs) imm) hv h.0 (rri_fits op (reg v rs) imm (hv.fits rs) h.2)
 effect_values (Lui rd imm) v h hv = are_values_set v rd (wrap (low64 imm * 2 ^ 12)) hv h (omega arith)
-effect_values (Load op rd base offset) v h hv = are_values_set v rd (load_result (load_op op) v.mem (address v base offset)) hv h (load_fits (load_op op) v.mem (address v base offset) hv.bytes)
+effect_values (Load op rd base offset) v h hv = are_values_set v rd (load_result (load_op op) v.mem (address v base offset)) hv h.0 (load_fits (load_op op) v.mem (address v base offset) hv.bytes)
 effect_values (Store op base src offset) v h hv = put_values v (address v base offset) (store_bytes (store_op op) (reg v src)) hv (stored_bytes op (reg v src))
 
 -- it leaves the code as it was

@@ -9,7 +9,8 @@ use Rattle.std.proofs.lemmas.Bool.Decides.{nat_tests}
 use Rattle.std.proofs.Math.Nat.{add_comm, mul_comm}
 use Rattle.rv_base.specs.declared.flags.IsaFlags.{IsaFlags}
 use Rattle.rv_machine.specs.declared.decoding.Decoded.{Decoded}
-use Rattle.rv_machine.specs.declared.ops.MOp.TheVariants.{Base, Alu}
+use Rattle.rv_machine.specs.declared.ops.FloatFormat.TheVariants.{D}
+use Rattle.rv_machine.specs.declared.ops.MOp.TheVariants.{Base, Alu, FloatLoad, FloatStore}
 use Rattle.rv_machine.specs.declared.ops.BaseOp.TheVariants.{Lui, Jalr, Ebreak}
 use Rattle.rv_machine.specs.declared.ops.AluOp.{AluOp}
 use Rattle.rv_machine.specs.declared.ops.AluOp.TheVariants.{Int, Mul, Bit}
@@ -18,7 +19,7 @@ use Rattle.rv_machine.specs.declared.ops.MulOp.TheVariants as mul
 use Rattle.rv_machine.specs.declared.ops.BitOp.TheVariants as bit
 use Rattle.rv_machine.specs.State.{State, Values, AreValues, reg, set_reg, store, wrap, low64, at}
 use Rattle.rv_machine.specs.Arithmetic.{extend_word}
-use Rattle.rv_machine.specs.Effects.{act, alu_result}
+use Rattle.rv_machine.specs.Effects.{act, act_on, alu_result}
 use Rattle.rv_ops.specs.declared.alu.AluOPRRR.{AluOPRRR}
 use Rattle.rv_ops.specs.declared.alu.AluOPRRR.TheVariants as rrr
 use Rattle.rv_ops.specs.declared.alu.AluOPRRI.{AluOPRRI}
@@ -30,10 +31,11 @@ use Rattle.rv_ops.specs.declared.memory.StoreOP.{StoreOP}
 use Rattle.rv_ops.specs.declared.memory.StoreOP.TheVariants as stores
 use Rattle.rv_ops.specs.Memory.{load_size, store_size}
 use Rattle.rv_inst.specs.Meaning.{alu_rrr}
-use Rattle.rv_encode.specs.Operations.{decoded, decoded_rrr, decoded_rri, load_op, store_op, decoded_load, decoded_store}
+use Rattle.rv_encode.specs.Operations.{decoded, decoded_rrr, decoded_rri, load_op, load_row, store_op, store_row, decoded_load, decoded_store}
 use Rattle.rv_machine.specs.Layout.{bare_form, compressed}
 use Rattle.rv_machine.specs.Memory.{load_result, store_bytes}
-use Rattle.rv_inst.specs.Forms.{form_where, chosen, is_either, is_short, other_source, add_form, either_form, first_form, zext_w_form, zca_rrr, form_rrr, short_rrr, sp, ra, shift_amount, is_equal, is_six_bits, is_scaled, is_move, move_form, is_addi16sp, is_addi4spn, is_li, is_addi, addi_form, ori_form, addiw_form, slli_form, right_shift_form, andi_form, not_form, extend_form, zca_rri, form_rri, short_rri, form_lui, short_lui, form_jalr, short_jalr, form_ebreak, short_ebreak, load_form, word_load_form, narrow_load_form, zca_load, form_load, short_load, store_form, word_store_form, narrow_store_form, zca_store, form_store, short_store}
+use Rattle.rv_inst.specs.Forms.{form_where, chosen, is_either, is_short, other_source, add_form, either_form, first_form, zext_w_form, zca_rrr, form_rrr, short_rrr, sp, ra, shift_amount, is_equal, is_six_bits, is_scaled, is_move, move_form, is_addi16sp, is_addi4spn, is_li, is_addi, addi_form, ori_form, addiw_form, slli_form, right_shift_form, andi_form, not_form, extend_form, zca_rri, form_rri, short_rri, form_lui, short_lui, form_jalr, short_jalr, form_ebreak, short_ebreak, load_form, word_load_form, narrow_load_form, fld_form, zca_load, form_load, short_load, store_form, word_store_form, narrow_store_form, fsd_form, zca_store, form_store, short_store}
+use Rattle.rv_code.proofs.AccessRows.{IsIntegerLoad, IsIntegerStore, integer_load, integer_store}
 use Rattle.rv_code.proofs.OperationActs.{rrr_acts, rrr_len, rri_acts}
 
 -- ---- in general
@@ -312,65 +314,101 @@ short_ebreak_long flags = on_chosen (λ d. IsLength d.len) (form_ebreak flags) (
 
 -- ---- loads and stores
 
+-- what holds of a load in two bytes and in four holds of the one that stands for it
+word_load_either : (P : Decoded → Type 0) (op : LoadOP) (rd base : ℕ) (offset : ℤ) → P (load_form (load_op op) rd base offset) → IfSome (word_load_form op rd base offset) P
+word_load_either P op rd base offset h =
+    let form = load_form (load_op op) rd base offset in
+    let near = form_where (is_scaled (load_size op) 31 offset) form in
+    tested P (base == sp) (form_where (not (rd == 0) && is_scaled (load_size op) 63 offset) form) (if is_short rd && is_short base then near else None)
+    (λ stack. guarded P (not (rd == 0) && is_scaled (load_size op) 63 offset) form (λ holds. h))
+    (under P (is_short rd && is_short base) near (guarded P (is_scaled (load_size op) 31 offset) form (λ holds. h)))
+
+narrow_load_either : (P : Decoded → Type 0) (flags : IsaFlags) (most : ℕ) (op : LoadOP) (rd base : ℕ) (offset : ℤ) → P (load_form (load_op op) rd base offset) → IfSome (narrow_load_form flags most op rd base offset) P
+narrow_load_either P flags most op rd base offset h = guarded P (flags.has_zcb && is_short rd && is_short base && is_scaled (load_size op) most offset) (load_form (load_op op) rd base offset) (λ holds. h)
+
+fld_either : (P : Decoded → Type 0) (flags : IsaFlags) (rd base : ℕ) (offset : ℤ) → P (compressed (FloatLoad D) rd base 0 offset) → IfSome (fld_form flags rd base offset) P
+fld_either P flags rd base offset h =
+    let form = compressed (FloatLoad D) rd base 0 offset in
+    let near = form_where (flags.has_zcd && is_scaled 8 31 offset) form in
+    tested P (base == sp) (form_where (flags.has_zcd && is_scaled 8 63 offset) form) (if is_short rd && is_short base then near else None)
+    (λ stack. guarded P (flags.has_zcd && is_scaled 8 63 offset) form (λ holds. h))
+    (under P (is_short rd && is_short base) near (guarded P (flags.has_zcd && is_scaled 8 31 offset) form (λ holds. h)))
+
+zca_load_either : (P : Decoded → Type 0) (flags : IsaFlags) (op : LoadOP) (rd base : ℕ) (offset : ℤ) → P (compressed (load_row op) rd base 0 offset) → IfSome (zca_load flags op rd base offset) P
+zca_load_either P flags loads.Lb rd base offset h = tt
+zca_load_either P flags loads.Lh rd base offset h = narrow_load_either P flags 1 loads.Lh rd base offset h
+zca_load_either P flags loads.Lw rd base offset h = word_load_either P loads.Lw rd base offset h
+zca_load_either P flags loads.Lbu rd base offset h = narrow_load_either P flags 3 loads.Lbu rd base offset h
+zca_load_either P flags loads.Lhu rd base offset h = narrow_load_either P flags 1 loads.Lhu rd base offset h
+zca_load_either P flags loads.Lwu rd base offset h = tt
+zca_load_either P flags loads.Ld rd base offset h = word_load_either P loads.Ld rd base offset h
+zca_load_either P flags loads.Flw rd base offset h = tt
+zca_load_either P flags loads.Fld rd base offset h = fld_either P flags rd base offset h
+
+pub short_load_either : (P : Decoded → Type 0) (flags : IsaFlags) (op : LoadOP) (rd base : ℕ) (offset : ℤ) → P (compressed (load_row op) rd base 0 offset) → P (decoded_load op rd base offset) → P (short_load flags op rd base offset)
+short_load_either P flags op rd base offset half word =
+    on_chosen P (form_load flags op rd base offset) (decoded_load op rd base offset)
+    (under P flags.has_zca (zca_load flags op rd base offset) (zca_load_either P flags op rd base offset half))
+    word
+
+pub short_load_long : (flags : IsaFlags) (op : LoadOP) (rd base : ℕ) (offset : ℤ) → IsLength (short_load flags op rd base offset).len
+short_load_long flags op rd base offset = short_load_either (λ d. IsLength d.len) flags op rd base offset (inl refl) (inr refl)
+
 abbrev pub load_work : LoadOP → ℕ → ℕ → ℤ → State → ℕ → State
 load_work op rd base offset s next = at next (set_reg s.values rd (load_result (load_op op) s.values.mem (wrap (reg s.values base + low64 offset))))
 
-load_form_does : (op : LoadOP) (rd base : ℕ) (offset : ℤ) → Does (load_work op rd base offset) (load_form (load_op op) rd base offset)
-load_form_does op rd base offset = record { long = inl refl; acts = λ s v. refl }
+-- of an integer register
+pub short_load_does : (flags : IsaFlags) (op : LoadOP) (rd base : ℕ) (offset : ℤ) → IsIntegerLoad op → Does (load_work op rd base offset) (short_load flags op rd base offset)
+short_load_does flags op rd base offset integer =
+    let row = integer_load op integer in
+    short_load_either (Does (load_work op rd base offset)) flags op rd base offset
+    (record { long = inl refl; acts = λ s v. ap (λ o. act_on o (compressed (load_row op) rd base 0 offset) s) row })
+    (record { long = inr refl; acts = λ s v. ap (λ o. act_on o (decoded_load op rd base offset) s) row })
 
-word_load_does : (op : LoadOP) (rd base : ℕ) (offset : ℤ) → IfSome (word_load_form op rd base offset) (Does (load_work op rd base offset))
-word_load_does op rd base offset =
-    let work : Decoded → Type 0 = Does (load_work op rd base offset) in
-    let form = load_form (load_op op) rd base offset in
-    let near = form_where (is_scaled (load_size op) 31 offset) form in
-    tested work (base == sp) (form_where (not (rd == 0) && is_scaled (load_size op) 63 offset) form) (if is_short rd && is_short base then near else None)
-    (λ h. guarded work (not (rd == 0) && is_scaled (load_size op) 63 offset) form (λ g. load_form_does op rd base offset))
-    (under work (is_short rd && is_short base) near (guarded work (is_scaled (load_size op) 31 offset) form (λ g. load_form_does op rd base offset)))
+-- so of a store
+word_store_either : (P : Decoded → Type 0) (op : StoreOP) (base src : ℕ) (offset : ℤ) → P (store_form (store_op op) base src offset) → IfSome (word_store_form op base src offset) P
+word_store_either P op base src offset h =
+    let form = store_form (store_op op) base src offset in
+    let near = form_where (is_scaled (store_size op) 31 offset) form in
+    tested P (base == sp) (form_where (is_scaled (store_size op) 63 offset) form) (if is_short src && is_short base then near else None)
+    (λ stack. guarded P (is_scaled (store_size op) 63 offset) form (λ holds. h))
+    (under P (is_short src && is_short base) near (guarded P (is_scaled (store_size op) 31 offset) form (λ holds. h)))
 
-narrow_load_does : (flags : IsaFlags) (most : ℕ) (op : LoadOP) (rd base : ℕ) (offset : ℤ) → IfSome (narrow_load_form flags most op rd base offset) (Does (load_work op rd base offset))
-narrow_load_does flags most op rd base offset = guarded (Does (load_work op rd base offset)) (flags.has_zcb && is_short rd && is_short base && is_scaled (load_size op) most offset) (load_form (load_op op) rd base offset) (λ g. load_form_does op rd base offset)
+narrow_store_either : (P : Decoded → Type 0) (flags : IsaFlags) (most : ℕ) (op : StoreOP) (base src : ℕ) (offset : ℤ) → P (store_form (store_op op) base src offset) → IfSome (narrow_store_form flags most op base src offset) P
+narrow_store_either P flags most op base src offset h = guarded P (flags.has_zcb && is_short src && is_short base && is_scaled (store_size op) most offset) (store_form (store_op op) base src offset) (λ holds. h)
 
-load_does : (flags : IsaFlags) (op : LoadOP) (rd base : ℕ) (offset : ℤ) → IfSome (zca_load flags op rd base offset) (Does (load_work op rd base offset))
-load_does flags loads.Lb rd base offset = tt
-load_does flags loads.Lh rd base offset = narrow_load_does flags 1 loads.Lh rd base offset
-load_does flags loads.Lw rd base offset = word_load_does loads.Lw rd base offset
-load_does flags loads.Lbu rd base offset = narrow_load_does flags 3 loads.Lbu rd base offset
-load_does flags loads.Lhu rd base offset = narrow_load_does flags 1 loads.Lhu rd base offset
-load_does flags loads.Lwu rd base offset = tt
-load_does flags loads.Ld rd base offset = word_load_does loads.Ld rd base offset
+fsd_either : (P : Decoded → Type 0) (flags : IsaFlags) (base src : ℕ) (offset : ℤ) → P (compressed (FloatStore D) 0 base src offset) → IfSome (fsd_form flags base src offset) P
+fsd_either P flags base src offset h =
+    let form = compressed (FloatStore D) 0 base src offset in
+    let near = form_where (flags.has_zcd && is_scaled 8 31 offset) form in
+    tested P (base == sp) (form_where (flags.has_zcd && is_scaled 8 63 offset) form) (if is_short src && is_short base then near else None)
+    (λ stack. guarded P (flags.has_zcd && is_scaled 8 63 offset) form (λ holds. h))
+    (under P (is_short src && is_short base) near (guarded P (flags.has_zcd && is_scaled 8 31 offset) form (λ holds. h)))
 
-pub short_load_does : (flags : IsaFlags) (op : LoadOP) (rd base : ℕ) (offset : ℤ) → Does (load_work op rd base offset) (short_load flags op rd base offset)
-short_load_does flags op rd base offset =
-    on_chosen (Does (load_work op rd base offset)) (form_load flags op rd base offset) (decoded_load op rd base offset)
-    (under (Does (load_work op rd base offset)) flags.has_zca (zca_load flags op rd base offset) (load_does flags op rd base offset))
-    (record { long = inr refl; acts = λ s v. refl })
+zca_store_either : (P : Decoded → Type 0) (flags : IsaFlags) (op : StoreOP) (base src : ℕ) (offset : ℤ) → P (compressed (store_row op) 0 base src offset) → IfSome (zca_store flags op base src offset) P
+zca_store_either P flags stores.Sb base src offset h = narrow_store_either P flags 3 stores.Sb base src offset h
+zca_store_either P flags stores.Sh base src offset h = narrow_store_either P flags 1 stores.Sh base src offset h
+zca_store_either P flags stores.Sw base src offset h = word_store_either P stores.Sw base src offset h
+zca_store_either P flags stores.Sd base src offset h = word_store_either P stores.Sd base src offset h
+zca_store_either P flags stores.Fsw base src offset h = tt
+zca_store_either P flags stores.Fsd base src offset h = fsd_either P flags base src offset h
+
+pub short_store_either : (P : Decoded → Type 0) (flags : IsaFlags) (op : StoreOP) (base src : ℕ) (offset : ℤ) → P (compressed (store_row op) 0 base src offset) → P (decoded_store op base src offset) → P (short_store flags op base src offset)
+short_store_either P flags op base src offset half word =
+    on_chosen P (form_store flags op base src offset) (decoded_store op base src offset)
+    (under P flags.has_zca (zca_store flags op base src offset) (zca_store_either P flags op base src offset half))
+    word
+
+pub short_store_long : (flags : IsaFlags) (op : StoreOP) (base src : ℕ) (offset : ℤ) → IsLength (short_store flags op base src offset).len
+short_store_long flags op base src offset = short_store_either (λ d. IsLength d.len) flags op base src offset (inl refl) (inr refl)
 
 abbrev pub store_work : StoreOP → ℕ → ℕ → ℤ → State → ℕ → State
 store_work op base src offset s next = at next (record { regs = s.values.regs; mem = store s.values.mem (wrap (reg s.values base + low64 offset)) (store_bytes (store_op op) (reg s.values src)) })
 
-store_form_does : (op : StoreOP) (base src : ℕ) (offset : ℤ) → Does (store_work op base src offset) (store_form (store_op op) base src offset)
-store_form_does op base src offset = record { long = inl refl; acts = λ s v. refl }
-
-word_store_does : (op : StoreOP) (base src : ℕ) (offset : ℤ) → IfSome (word_store_form op base src offset) (Does (store_work op base src offset))
-word_store_does op base src offset =
-    let work : Decoded → Type 0 = Does (store_work op base src offset) in
-    let form = store_form (store_op op) base src offset in
-    let near = form_where (is_scaled (store_size op) 31 offset) form in
-    tested work (base == sp) (form_where (is_scaled (store_size op) 63 offset) form) (if is_short src && is_short base then near else None)
-    (λ h. guarded work (is_scaled (store_size op) 63 offset) form (λ g. store_form_does op base src offset))
-    (under work (is_short src && is_short base) near (guarded work (is_scaled (store_size op) 31 offset) form (λ g. store_form_does op base src offset)))
-
-narrow_store_does : (flags : IsaFlags) (most : ℕ) (op : StoreOP) (base src : ℕ) (offset : ℤ) → IfSome (narrow_store_form flags most op base src offset) (Does (store_work op base src offset))
-narrow_store_does flags most op base src offset = guarded (Does (store_work op base src offset)) (flags.has_zcb && is_short src && is_short base && is_scaled (store_size op) most offset) (store_form (store_op op) base src offset) (λ g. store_form_does op base src offset)
-
-store_does : (flags : IsaFlags) (op : StoreOP) (base src : ℕ) (offset : ℤ) → IfSome (zca_store flags op base src offset) (Does (store_work op base src offset))
-store_does flags stores.Sb base src offset = narrow_store_does flags 3 stores.Sb base src offset
-store_does flags stores.Sh base src offset = narrow_store_does flags 1 stores.Sh base src offset
-store_does flags stores.Sw base src offset = word_store_does stores.Sw base src offset
-store_does flags stores.Sd base src offset = word_store_does stores.Sd base src offset
-
-pub short_store_does : (flags : IsaFlags) (op : StoreOP) (base src : ℕ) (offset : ℤ) → Does (store_work op base src offset) (short_store flags op base src offset)
-short_store_does flags op base src offset =
-    on_chosen (Does (store_work op base src offset)) (form_store flags op base src offset) (decoded_store op base src offset)
-    (under (Does (store_work op base src offset)) flags.has_zca (zca_store flags op base src offset) (store_does flags op base src offset))
-    (record { long = inr refl; acts = λ s v. refl })
+-- of an integer register
+pub short_store_does : (flags : IsaFlags) (op : StoreOP) (base src : ℕ) (offset : ℤ) → IsIntegerStore op → Does (store_work op base src offset) (short_store flags op base src offset)
+short_store_does flags op base src offset integer =
+    let row = integer_store op integer in
+    short_store_either (Does (store_work op base src offset)) flags op base src offset
+    (record { long = inl refl; acts = λ s v. ap (λ o. act_on o (compressed (store_row op) 0 base src offset) s) row })
+    (record { long = inr refl; acts = λ s v. ap (λ o. act_on o (decoded_store op base src offset) s) row })

@@ -23,6 +23,7 @@ use Rattle.rv_code.specs.Usable.{IsUsable}
 use Rattle.rv_code.specs.Sites.{Site, BytesAt}
 use Rattle.rv_code.specs.InstParts.{slots_alone, inline_slots}
 use Rattle.rv_code.specs.InstRuns.{Enters, ComesOut, RunsIn}
+use Rattle.rv_code.proofs.AccessRows.{IsIntegerLoad}
 use Rattle.rv_code.proofs.AddressRuns.{eight_there, inline_goes, inline_size}
 use Rattle.rv_code.proofs.Exits.{starts_at}
 use Rattle.rv_code.proofs.InstMemory.{sets_out}
@@ -52,18 +53,18 @@ word_fits n =
     subst (λ m. m < 2 ^ 64) same (int_fits int.Addiw (n % 2 ^ 32) 0 0 (omega arith) (lit< tt) (lit< tt))
 
 -- what the load reads is what it leaves in the register
-inline_out : {site : Site} {start after : ℕ} {s : State} {v : Values} (n size x : ℕ) (op : LoadOP) (bytes : List ℕ) → 0 < n → n < 30 → x < 2 ^ 64 → 0 < size → size < 16 → length bytes ≡ size → ((mem : Memory) (a : ℕ) → BytesAt mem a bytes → load_result (load_op op) mem a ≡ x) → Enters site start after (slots_alone (inline_slots site.context.flags n op size bytes)) s v → ComesOut site start after Next [] (set_reg v n x) s
-inline_out {site} n size x op bytes some usable fits filled little long reads e =
+inline_out : {site : Site} {start after : ℕ} {s : State} {v : Values} (n size x : ℕ) (op : LoadOP) (bytes : List ℕ) → IsIntegerLoad op → 0 < n → n < 30 → x < 2 ^ 64 → 0 < size → size < 16 → length bytes ≡ size → ((mem : Memory) (a : ℕ) → BytesAt mem a bytes → load_result (load_op op) mem a ≡ x) → Enters site start after (slots_alone (inline_slots site.context.flags n op size bytes)) s v → ComesOut site start after Next [] (set_reg v n x) s
+inline_out {site} n size x op bytes integer some usable fits filled little long reads e =
     let slots = inline_slots site.context.flags n op size bytes in
     sets_out slots (8 + jump_size site.context.flags + size) n x usable fits e (sym (inline_size site.context.flags n size op bytes long))
-    (inline_goes e.stands.0 n size x op bytes some (omega arith) little long reads filled e.is_state (starts_at slots e) e.stands.1)
+    (inline_goes e.stands.0 n size x op bytes integer some (omega arith) little long reads filled e.is_state (starts_at slots e) e.stands.1)
 
 pub constant_runs : (site : Site) (setting : EmitVState) (rd : Writable Reg) (type : IrType) (imm : ℕ) → IsUsable rd.reg → 0 < number_of rd.reg → is_word_type type ≡ true → RunsIn site setting (LoadInlineConst rd type imm)
 constant_runs site setting rd I32 imm h some word = record {
-  run = λ start after s v e clear. inline_out (number_of rd.reg) 4 (extend_word imm) loads.Lw (to_le_bytes w32 (imm % 2 ^ 32)) some h.1 (word_fits imm) (lit< tt) (lit< tt) refl
+  run = λ start after s v e clear. inline_out (number_of rd.reg) 4 (extend_word imm) loads.Lw (to_le_bytes w32 (imm % 2 ^ 32)) refl some h.1 (word_fits imm) (lit< tt) (lit< tt) refl
       (λ mem a there. ap (λ m. low64 (cast_signed w32 m)) (four_there mem a (imm % 2 ^ 32) (omega arith) there)) e;
 }
 constant_runs site setting rd I64 imm h some word = record {
-  run = λ start after s v e clear. inline_out (number_of rd.reg) 8 (wrap imm) loads.Ld (to_le_bytes w64 imm) some h.1 (omega arith) (lit< tt) (lit< tt) refl (λ mem a there. eight_there mem a imm there) e;
+  run = λ start after s v e clear. inline_out (number_of rd.reg) 8 (wrap imm) loads.Ld (to_le_bytes w64 imm) refl some h.1 (omega arith) (lit< tt) (lit< tt) refl (λ mem a there. eight_there mem a imm there) e;
 }
 constant_runs site setting rd _ imm h some word = absurd (cc)

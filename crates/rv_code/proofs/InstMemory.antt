@@ -29,9 +29,10 @@ use Rattle.rv_code.specs.Usable.{IsUsable}
 use Rattle.rv_code.specs.Sites.{Site, IsPlacedAt, CodeHas, StandsIn}
 use Rattle.rv_code.specs.Immediates.{lower_of_distance}
 use Rattle.rv_code.specs.Slots.{Label, Slot, Op, Aim, Names, Part, size_of, between}
-use Rattle.rv_code.specs.InstParts.{slots_alone, access_slots, address_slots, label_load_slots, load_slots, store_slots}
+use Rattle.rv_code.specs.InstParts.{slots_alone, access_slots, address_slots, label_base, label_load_slots, load_slots, store_slots}
 use Rattle.rv_code.specs.InstRuns.{Enters, ComesOut, RunsIn, environment}
 use Rattle.rv_code.specs.Chains.{Goes, IsAt}
+use Rattle.rv_code.proofs.AccessRows.{IsIntegerLoad, IsIntegerStore}
 use Rattle.rv_code.proofs.AddressRules.{IsUsableAt, IsRealAt, IsApartAt}
 use Rattle.rv_code.proofs.AddressRuns.{size_append, stands_split, Sets, sets_one, sets_both, shorter, set_at, label_address, AreShort, upper_sum, upper_goes, lower_sums, address_goes, address_even, address_same, address_fits}
 use Rattle.rv_code.proofs.Chains.{goes_both, goes_at_least}
@@ -40,7 +41,7 @@ use Rattle.rv_code.proofs.SameMemory.{placed_after, put_same, put_values, stored
 use Rattle.rv_code.proofs.OperationActs.{plus_none}
 use Rattle.rv_code.proofs.Exits.{same_but, starts_at, comes_out}
 use Rattle.rv_code.proofs.Registers.{are_values_set, same_set, but_set, spare_set, reads_back, reads_other}
-use Rattle.rv_code.proofs.ShortOps.{load_acts, store_acts, load_sized, store_sized}
+use Rattle.rv_code.proofs.ShortOps.{load_acts, load_acts_wide, store_acts, store_acts_wide, load_sized, store_sized}
 
 -- ---- the end of a chain
 
@@ -52,7 +53,7 @@ chain_out {s = s} slots size u w e long goes same are_values written placed =
     comes_out (at (wrap (s.pc + size)) w) goes (omega arith) (record { same = same; is_state = record { pc = omega arith; values = written }; are_values = are_values; placed = placed })
 
 -- where parts are entered, the code is short
-bounds : {site : Site} {start after : ℕ} {parts : List Part} {s : State} {v : Values} → Enters site start after parts s v → AreShort site
+pub bounds : {site : Site} {start after : ℕ} {parts : List Part} {s : State} {v : Values} → Enters site start after parts s v → AreShort site
 bounds e = record { short = e.short; labels = e.labels }
 
 -- a register is written
@@ -62,7 +63,7 @@ sets_out {s = s} {v = v} slots size n x usable fits e long goes =
 
 -- ---- the name of a constant has no bytes, nor has the record of a trap
 
-once_named : {site : Site} {start after : ℕ} {s : State} {v : Values} (k : VCodeConstant) (slots : List Slot) → Enters site start after (slots_alone (Names k ∷ slots)) s v → Enters site start after (slots_alone slots) s v
+pub once_named : {site : Site} {start after : ℕ} {s : State} {v : Values} (k : VCodeConstant) (slots : List Slot) → Enters site start after (slots_alone (Names k ∷ slots)) s v → Enters site start after (slots_alone slots) s v
 once_named k slots e = record {
   even = e.even;
   within = e.within;
@@ -76,7 +77,7 @@ once_named k slots e = record {
   same = e.same;
 }
 
-after_access : (site : Site) (allocated offset : ℕ) (trap : Option TrapCode) (slots : List Slot) → StandsIn site allocated offset (access_slots trap ++ slots) → StandsIn site allocated offset slots
+pub after_access : (site : Site) (allocated offset : ℕ) (trap : Option TrapCode) (slots : List Slot) → StandsIn site allocated offset (access_slots trap ++ slots) → StandsIn site allocated offset slots
 after_access site allocated offset None slots stands = stands
 after_access site allocated offset (Some code) slots stands = stands.1
 
@@ -84,25 +85,25 @@ access_none : (trap : Option TrapCode) → size_of (access_slots trap) ≡ 0
 access_none None = refl
 access_none (Some code) = refl
 
-access_size : (trap : Option TrapCode) (slots : List Slot) → size_of (access_slots trap ++ slots) ≡ size_of slots
+pub access_size : (trap : Option TrapCode) (slots : List Slot) → size_of (access_slots trap ++ slots) ≡ size_of slots
 access_size None slots = refl
 access_size (Some code) slots = omega arith
 
 -- ---- an access to an address that is computed in x31
 
 -- an operation that stands after the code of an address, and the machine there
-record IsReady (site : Site) (slots : List Slot) (start k a : ℕ) (d : Decoded) (s : State) : Type 0 where
+pub record IsReady (site : Site) (slots : List Slot) (start k a : ℕ) (d : Decoded) (s : State) : Type 0 where
   pub goes : Sets site.context.flags k s 31 a
   pub here : IsAt site (start + k) 4 (at (wrap (s.pc + k)) (set_reg s.values 31 a))
   pub has : CodeHas site (start + k) (d ∷ [])
   pub long : k + 4 ≡ size_of slots
   pub back : wrap (reg (set_reg s.values 31 a) 31 + low64 (pos 0)) ≡ a
 
-abbrev access_after : IsaFlags → Location → Option TrapCode → Decoded → List Slot
+abbrev pub access_after : IsaFlags → Location → Option TrapCode → Decoded → List Slot
 access_after flags loc trap d = address_slots flags 31 loc ++ access_slots trap ++ Op d ∷ []
 
 -- the address is computed
-ready : {site : Site} {start after : ℕ} {s : State} {v : Values} (loc : Location) (trap : Option TrapCode) (d : Decoded) → d.len ≡ 4 → IsUsableAt loc → Enters site start after (slots_alone (access_after site.context.flags loc trap d)) s v → IsReady site (access_after site.context.flags loc trap d) start (size_of (address_slots site.context.flags 31 loc)) (address_at (environment site start after) s.values loc) d s
+pub ready : {site : Site} {start after : ℕ} {s : State} {v : Values} (loc : Location) (trap : Option TrapCode) (d : Decoded) → d.len ≡ 4 → IsUsableAt loc → Enters site start after (slots_alone (access_after site.context.flags loc trap d)) s v → IsReady site (access_after site.context.flags loc trap d) start (size_of (address_slots site.context.flags 31 loc)) (address_at (environment site start after) s.values loc) d s
 ready {site} {start} {after} {s} loc trap d four based e =
     let slots = address_slots site.context.flags 31 loc in
     let k = size_of slots in
@@ -134,19 +135,19 @@ loaded {site} {start} {after} {s = s} {v = v} op loc based e =
     sym (load_same (load_op op) v.mem s.values.mem (address_at env v loc) e.same.mem ∙ ap (load_result (load_op op) s.values.mem) (address_same env v s.values loc based e.same))
 
 -- by the offset from the register
-load_near_out : {site : Site} {start after : ℕ} {s : State} {v : Values} (rd r : ℕ) (op : LoadOP) (o : ℤ) (trap : Option TrapCode) → rd < 30 → Enters site start after (slots_alone (access_slots trap ++ Op (short_load site.context.flags op rd r o) ∷ [])) s v → ComesOut site start after Next [] (set_reg v rd (load_result (load_op op) s.values.mem (wrap (reg s.values r + low64 o)))) s
-load_near_out {site} {start} {s = s} rd r op o trap usable e =
+load_near_out : {site : Site} {start after : ℕ} {s : State} {v : Values} (rd r : ℕ) (op : LoadOP) (o : ℤ) (trap : Option TrapCode) → IsIntegerLoad op → rd < 30 → Enters site start after (slots_alone (access_slots trap ++ Op (short_load site.context.flags op rd r o) ∷ [])) s v → ComesOut site start after Next [] (set_reg v rd (load_result (load_op op) s.values.mem (wrap (reg s.values r + low64 o)))) s
+load_near_out {site} {start} {s = s} rd r op o trap integer usable e =
     let d = short_load site.context.flags op rd r o in
     let some = (load_sized site.context.flags op rd r o).some in
     let slots = access_slots trap ++ Op d ∷ [] in
     let x = load_result (load_op op) s.values.mem (wrap (reg s.values r + low64 o)) in
     let long = access_size trap (Op d ∷ []) in
     sets_out slots d.len rd x usable (load_fits (load_op op) s.values.mem (wrap (reg s.values r + low64 o)) e.is_state.values.bytes) e (omega arith)
-    (sets_one d rd x (starts_at slots e) (omega arith) (after_access site e.stands.0 start trap (Op d ∷ []) e.stands.1).0 (load_acts site.context.flags op rd r o s e.is_state))
+    (sets_one d rd x (starts_at slots e) (omega arith) (after_access site e.stands.0 start trap (Op d ∷ []) e.stands.1).0 (load_acts site.context.flags op rd r o s integer e.is_state))
 
 -- by x31
-load_far_out : {site : Site} {start after : ℕ} {s : State} {v : Values} (rd : ℕ) (op : LoadOP) (loc : Location) (trap : Option TrapCode) → rd < 30 → IsUsableAt loc → Enters site start after (slots_alone (access_after site.context.flags loc trap (decoded_load op rd 31 (pos 0)))) s v → ComesOut site start after Next [] (set_reg v rd (load_result (load_op op) s.values.mem (address_at (environment site start after) s.values loc))) s
-load_far_out {site} {start} {after} {s} {v} rd op loc trap usable based e =
+load_far_out : {site : Site} {start after : ℕ} {s : State} {v : Values} (rd : ℕ) (op : LoadOP) (loc : Location) (trap : Option TrapCode) → IsIntegerLoad op → rd < 30 → IsUsableAt loc → Enters site start after (slots_alone (access_after site.context.flags loc trap (decoded_load op rd 31 (pos 0)))) s v → ComesOut site start after Next [] (set_reg v rd (load_result (load_op op) s.values.mem (address_at (environment site start after) s.values loc))) s
+load_far_out {site} {start} {after} {s} {v} rd op loc trap integer usable based e =
     let d = decoded_load op rd 31 (pos 0) in
     let k = size_of (address_slots site.context.flags 31 loc) in
     let a = address_at (environment site start after) s.values loc in
@@ -156,14 +157,14 @@ load_far_out {site} {start} {after} {s} {v} rd op loc trap usable based e =
     let over : wrap (wrap (s.pc + k) + 4) ≡ wrap (s.pc + (k + 4)) = omega arith in
     let fits : x < 2 ^ 64 = load_fits (load_op op) s.values.mem a e.is_state.values.bytes in
     let written : AreValues w = are_values_set s.values 31 a e.is_state.values (omega arith) (address_fits site start after s.values loc) in
-    let acts = sets_one d rd x y.here (omega arith) y.has (λ i. Some (at (wrap (wrap (s.pc + k) + 4)) (set_reg w rd (load_result (load_op op) s.values.mem (y.back i))))) in
+    let acts = sets_one d rd x y.here (omega arith) y.has (load_acts_wide op rd 31 (pos 0) (at (wrap (s.pc + k)) w) integer ∙ (λ i. Some (at (wrap (wrap (s.pc + k) + 4)) (set_reg w rd (load_result (load_op op) s.values.mem (y.back i)))))) in
     chain_out (access_after site.context.flags loc trap d) (k + 4) (set_reg v rd x) (set_reg w rd x) e y.long (subst (λ n. Goes site.context.flags 0 s (at n (set_reg w rd x))) over (goes_both {n = 0} y.goes acts))
     (but_set v w rd x e.are_values written (omega arith) (spare_set v s.values 31 a (omega arith) (same_but [] e.same))) (are_values_set v rd x e.are_values (omega arith) fits) (are_values_set w rd x written (omega arith) fits) e.placed
 
 -- by the register itself, which holds the address's upper part first
-load_label_out : {site : Site} {start after : ℕ} {s : State} {v : Values} (rd : ℕ) (op : LoadOP) (l : MachLabel) (trap : Option TrapCode) → rd < 30 → 0 < rd → Enters site start after (slots_alone (load_slots site.context.flags rd op trap (AtLabel l))) s v → ComesOut site start after Next [] (set_reg v rd (load_result (load_op op) s.values.mem (label_address site l))) s
-load_label_out {site} {start} {s = s} rd op l trap usable some e =
-    let slots = load_slots site.context.flags rd op trap (AtLabel l) in
+load_label_out : {site : Site} {start after : ℕ} {s : State} {v : Values} (rd : ℕ) (op : LoadOP) (l : MachLabel) (trap : Option TrapCode) → IsIntegerLoad op → rd < 30 → 0 < rd → Enters site start after (slots_alone (label_load_slots rd rd op trap l)) s v → ComesOut site start after Next [] (set_reg v rd (load_result (load_op op) s.values.mem (label_address site l))) s
+load_label_out {site} {start} {s = s} rd op l trap integer usable some e =
+    let slots = label_load_slots rd rd op trap l in
     let lower = Aim PCRelLo12I (Label l) (λ d. decoded_load op rd rd (lower_of_distance d) ∷ []) ∷ [] in
     let long : 8 ≡ size_of slots = (let rest = access_size trap lower in omega arith) in
     let h = shorter 8 (starts_at slots e) (omega arith) in
@@ -176,22 +177,28 @@ load_label_out {site} {start} {s = s} rd op l trap usable some e =
     let sum = lower_sums rd l a.to b.to some (omega arith) (bounds e) e.is_state h a.reaches.0 b.reaches.0 in
     sets_out slots 8 rd x usable (load_fits (load_op op) s.values.mem (label_address site l) e.is_state.values.bytes) e long
     (sets_both 4 4 rd y x (upper_goes rd l h (omega arith) a)
-    (sets_one (decoded_load op rd rd (lower_of_distance (between (start + 4) b.to))) rd x h1 (omega arith) b.has (λ i. Some (at (wrap (wrap (s.pc + 4) + 4)) (set_reg w rd (load_result (load_op op) s.values.mem (sum i)))))))
+    (sets_one (decoded_load op rd rd (lower_of_distance (between (start + 4) b.to))) rd x h1 (omega arith) b.has (load_acts_wide op rd rd (lower_of_distance (between (start + 4) b.to)) (at (wrap (s.pc + 4)) w) integer ∙ (λ i. Some (at (wrap (wrap (s.pc + 4) + 4)) (set_reg w rd (load_result (load_op op) s.values.mem (sum i))))))))
 
-load_out : {site : Site} {start after : ℕ} {s : State} {v : Values} (rd : ℕ) (op : LoadOP) (loc : Location) (trap : Option TrapCode) → rd < 30 → IsUsableAt loc → IsRealAt rd loc → Enters site start after (slots_alone (load_slots site.context.flags rd op trap loc)) s v → ComesOut site start after Next [] (set_reg v rd (load_result (load_op op) s.values.mem (address_at (environment site start after) s.values loc))) s
-load_out {site} {start} {after} {s} {v} rd op (Based r o) trap usable based real = on (is_near o)
+-- an integer register is its own base
+by_itself : {site : Site} {start after rd : ℕ} {s : State} {v : Values} (op : LoadOP) (l : MachLabel) (trap : Option TrapCode) → IsIntegerLoad op → Enters site start after (slots_alone (label_load_slots (label_base op rd) rd op trap l)) s v → Enters site start after (slots_alone (label_load_slots rd rd op trap l)) s v
+by_itself {site} {start} {after} {rd} {s} {v} op l trap integer e = subst (λ (c : Bool). Enters site start after (slots_alone (label_load_slots (if c then 31 else rd) rd op trap l)) s v) integer e
+
+load_out : {site : Site} {start after : ℕ} {s : State} {v : Values} (rd : ℕ) (op : LoadOP) (loc : Location) (trap : Option TrapCode) → IsIntegerLoad op → rd < 30 → IsUsableAt loc → IsRealAt rd loc → Enters site start after (slots_alone (load_slots site.context.flags rd op trap loc)) s v → ComesOut site start after Next [] (set_reg v rd (load_result (load_op op) s.values.mem (address_at (environment site start after) s.values loc))) s
+load_out {site} {start} {after} {s} {v} rd op (Based r o) trap integer usable based real = on (is_near o)
   where
     on : (c : Bool) → Enters site start after (slots_alone (if c then access_slots trap ++ Op (short_load site.context.flags op rd r o) ∷ [] else access_after site.context.flags (Based r o) trap (decoded_load op rd 31 (pos 0)))) s v → ComesOut site start after Next [] (set_reg v rd (load_result (load_op op) s.values.mem (wrap (reg s.values r + low64 o)))) s
-    on true e = load_near_out rd r op o trap usable e
-    on false e = load_far_out rd op (Based r o) trap usable based e
-load_out rd op (AtLabel l) trap usable based real = λ e. load_label_out rd op l trap usable real e
-load_out rd op (AtConstant k) trap usable based real = λ e. load_label_out rd op (constant_label k) trap usable real (once_named k (label_load_slots rd op trap (constant_label k)) e)
+    on true e = load_near_out rd r op o trap integer usable e
+    on false e = load_far_out rd op (Based r o) trap integer usable based e
+load_out rd op (AtLabel l) trap integer usable based real = λ e. load_label_out rd op l trap integer usable real (by_itself op l trap integer e)
+load_out rd op (AtConstant k) trap integer usable based real = λ e. load_label_out rd op (constant_label k) trap integer usable real (by_itself op (constant_label k) trap integer (once_named k (label_load_slots (label_base op rd) rd op trap (constant_label k)) e))
 
-pub load_runs : (site : Site) (setting : EmitVState) (rd : Writable Reg) (op : LoadOP) (flags : MemFlagsData) (from : AMode) → IsUsable rd.reg → IsUsableAt (location_of site.context.frame from) → IsRealAt (number_of rd.reg) (location_of site.context.frame from) → RunsIn site setting (Load rd op flags from)
-load_runs site setting rd op flags from h based real = record {
+pub load_runs : (site : Site) (setting : EmitVState) (rd : Writable Reg) (op : LoadOP) (flags : MemFlagsData) (from : AMode) → IsIntegerLoad op → IsUsable rd.reg → IsUsableAt (location_of site.context.frame from) → IsRealAt (number_of rd.reg) (location_of site.context.frame from) → RunsIn site setting (Load rd op flags from)
+load_runs site setting rd op flags from integer h based real = record {
   run = λ start after s v e clear.
       let loc = location_of site.context.frame from in
-      subst (λ x. ComesOut site start after Next [] (set_reg v (number_of rd.reg) x) s) (loaded op loc based e) (load_out (number_of rd.reg) op loc flags.trap h.1 based real e);
+      let x = load_result (load_op op) v.mem (address_at (environment site start after) v loc) in
+      subst (λ (c : Bool). ComesOut site start after Next [] (if c then v else set_reg v (number_of rd.reg) x) s) (sym integer)
+      (subst (λ y. ComesOut site start after Next [] (set_reg v (number_of rd.reg) y) s) (loaded op loc based e) (load_out (number_of rd.reg) op loc flags.trap integer h.1 based real e));
 }
 
 -- ---- stores
@@ -204,8 +211,8 @@ store_ends {site} {s = s} {v = v} slots size op a x w e long clear goes same wri
     chain_out slots size (put_bytes v a bytes) (put_bytes w a bytes) e long goes (put_same v w a bytes same) (put_values v a bytes e.are_values (stored_bytes op x)) (put_values w a bytes written (stored_bytes op x))
     (placed_after site w.mem a bytes (subst (IsPlacedAt site) (sym kept) e.placed) (subst (λ n. AreOutside site.base (length site.bytes) (addresses_from a n)) (sym (stored_length op x)) clear))
 
-store_near_out : {site : Site} {start after : ℕ} {s : State} {v : Values} (op : StoreOP) (r src : ℕ) (o : ℤ) (trap : Option TrapCode) → Enters site start after (slots_alone (access_slots trap ++ Op (short_store site.context.flags op r src o) ∷ [])) s v → AreOutside site.base (length site.bytes) (addresses_from (wrap (reg s.values r + low64 o)) (store_size op)) → ComesOut site start after Next [] (put_bytes v (wrap (reg s.values r + low64 o)) (store_bytes (store_op op) (reg s.values src))) s
-store_near_out {site} {start} {s = s} op r src o trap e clear =
+store_near_out : {site : Site} {start after : ℕ} {s : State} {v : Values} (op : StoreOP) (r src : ℕ) (o : ℤ) (trap : Option TrapCode) → IsIntegerStore op → Enters site start after (slots_alone (access_slots trap ++ Op (short_store site.context.flags op r src o) ∷ [])) s v → AreOutside site.base (length site.bytes) (addresses_from (wrap (reg s.values r + low64 o)) (store_size op)) → ComesOut site start after Next [] (put_bytes v (wrap (reg s.values r + low64 o)) (store_bytes (store_op op) (reg s.values src))) s
+store_near_out {site} {start} {s = s} op r src o trap integer e clear =
     let d = short_store site.context.flags op r src o in
     let some = (store_sized site.context.flags op r src o).some in
     let slots = access_slots trap ++ Op d ∷ [] in
@@ -213,12 +220,12 @@ store_near_out {site} {start} {s = s} op r src o trap e clear =
     let long = access_size trap (Op d ∷ []) in
     let t = at (wrap (s.pc + d.len)) (put_bytes s.values a (store_bytes (store_op op) (reg s.values src))) in
     store_ends slots d.len op a (reg s.values src) s.values e (omega arith) clear
-    (goes_at_least (omega arith) (step_at d [] t (starts_at slots e) (omega arith) (after_access site e.stands.0 start trap (Op d ∷ []) e.stands.1).0 (store_acts site.context.flags op r src o s e.is_state)))
+    (goes_at_least (omega arith) (step_at d [] t (starts_at slots e) (omega arith) (after_access site e.stands.0 start trap (Op d ∷ []) e.stands.1).0 (store_acts site.context.flags op r src o s integer e.is_state)))
     (same_but [] e.same) e.is_state.values refl
 
-store_far_out : {site : Site} {start after : ℕ} {s : State} {v : Values} (op : StoreOP) (src : ℕ) (loc : Location) (trap : Option TrapCode) → src < 30 → IsUsableAt loc → Enters site start after (slots_alone (access_after site.context.flags loc trap (decoded_store op 31 src (pos 0)))) s v → AreOutside site.base (length site.bytes) (addresses_from (address_at (environment site start after) s.values loc) (store_size op)) →
+store_far_out : {site : Site} {start after : ℕ} {s : State} {v : Values} (op : StoreOP) (src : ℕ) (loc : Location) (trap : Option TrapCode) → IsIntegerStore op → src < 30 → IsUsableAt loc → Enters site start after (slots_alone (access_after site.context.flags loc trap (decoded_store op 31 src (pos 0)))) s v → AreOutside site.base (length site.bytes) (addresses_from (address_at (environment site start after) s.values loc) (store_size op)) →
     ComesOut site start after Next [] (put_bytes v (address_at (environment site start after) s.values loc) (store_bytes (store_op op) (reg s.values src))) s
-store_far_out {site} {start} {after} {s} {v} op src loc trap usable based e clear =
+store_far_out {site} {start} {after} {s} {v} op src loc trap integer usable based e clear =
     let d = decoded_store op 31 src (pos 0) in
     let k = size_of (address_slots site.context.flags 31 loc) in
     let a = address_at (environment site start after) s.values loc in
@@ -228,30 +235,31 @@ store_far_out {site} {start} {after} {s} {v} op src loc trap usable based e clea
     let source : reg w src ≡ x = reads_other s.values 31 src a (λ same. absurd (omega arith)) in
     let over : wrap (wrap (s.pc + k) + 4) ≡ wrap (s.pc + (k + 4)) = omega arith in
     let t = at (wrap (wrap (s.pc + k) + 4)) (put_bytes w a (store_bytes (store_op op) x)) in
-    let acts = step_at d [] t y.here (omega arith) y.has (λ i. Some (at (wrap (wrap (s.pc + k) + 4)) (put_bytes w (y.back i) (store_bytes (store_op op) (source i))))) in
+    let acts = step_at d [] t y.here (omega arith) y.has (store_acts_wide op 31 src (pos 0) (at (wrap (s.pc + k)) w) integer ∙ (λ i. Some (at (wrap (wrap (s.pc + k) + 4)) (put_bytes w (y.back i) (store_bytes (store_op op) (source i)))))) in
     store_ends (access_after site.context.flags loc trap d) (k + 4) op a x w e y.long clear (subst (λ n. Goes site.context.flags 0 s (at n t.values)) over (goes_both {n = 0} y.goes (goes_at_least (omega arith) acts)))
     (spare_set v s.values 31 a (omega arith) (same_but [] e.same)) (are_values_set s.values 31 a e.is_state.values (omega arith) (address_fits site start after s.values loc)) refl
 
-store_out : {site : Site} {start after : ℕ} {s : State} {v : Values} (op : StoreOP) (src : ℕ) (loc : Location) (trap : Option TrapCode) → src < 30 → IsUsableAt loc → Enters site start after (slots_alone (store_slots site.context.flags op src trap loc)) s v → AreOutside site.base (length site.bytes) (addresses_from (address_at (environment site start after) s.values loc) (store_size op)) →
+store_out : {site : Site} {start after : ℕ} {s : State} {v : Values} (op : StoreOP) (src : ℕ) (loc : Location) (trap : Option TrapCode) → IsIntegerStore op → src < 30 → IsUsableAt loc → Enters site start after (slots_alone (store_slots site.context.flags op src trap loc)) s v → AreOutside site.base (length site.bytes) (addresses_from (address_at (environment site start after) s.values loc) (store_size op)) →
     ComesOut site start after Next [] (put_bytes v (address_at (environment site start after) s.values loc) (store_bytes (store_op op) (reg s.values src))) s
-store_out {site} {start} {after} {s} {v} op src (Based r o) trap usable based = on (is_near o)
+store_out {site} {start} {after} {s} {v} op src (Based r o) trap integer usable based = on (is_near o)
   where
     on : (c : Bool) → Enters site start after (slots_alone (if c then access_slots trap ++ Op (short_store site.context.flags op r src o) ∷ [] else access_after site.context.flags (Based r o) trap (decoded_store op 31 src (pos 0)))) s v → AreOutside site.base (length site.bytes) (addresses_from (wrap (reg s.values r + low64 o)) (store_size op)) →
         ComesOut site start after Next [] (put_bytes v (wrap (reg s.values r + low64 o)) (store_bytes (store_op op) (reg s.values src))) s
-    on true e clear = store_near_out op r src o trap e clear
-    on false e clear = store_far_out op src (Based r o) trap usable based e clear
-store_out op src (AtLabel l) trap usable based = λ e clear. store_far_out op src (AtLabel l) trap usable tt e clear
-store_out op src (AtConstant k) trap usable based = λ e clear. store_far_out op src (AtConstant k) trap usable tt e clear
+    on true e clear = store_near_out op r src o trap integer e clear
+    on false e clear = store_far_out op src (Based r o) trap integer usable based e clear
+store_out op src (AtLabel l) trap integer usable based = λ e clear. store_far_out op src (AtLabel l) trap integer usable tt e clear
+store_out op src (AtConstant k) trap integer usable based = λ e clear. store_far_out op src (AtConstant k) trap integer usable tt e clear
 
-pub store_runs : (site : Site) (setting : EmitVState) (to : AMode) (op : StoreOP) (flags : MemFlagsData) (src : Reg) → IsUsable src → IsUsableAt (location_of site.context.frame to) → RunsIn site setting (Store src op flags to)
-store_runs site setting to op flags src h based = record {
+pub store_runs : (site : Site) (setting : EmitVState) (to : AMode) (op : StoreOP) (flags : MemFlagsData) (src : Reg) → IsIntegerStore op → IsUsable src → IsUsableAt (location_of site.context.frame to) → RunsIn site setting (Store src op flags to)
+store_runs site setting to op flags src integer h based = record {
   run = λ start after s v e clear.
       let env = environment site start after in
       let loc = location_of site.context.frame to in
       let where_stored = address_same env v s.values loc based e.same in
-      subst (λ a. ComesOut site start after Next [] (put_bytes v a (store_bytes (store_op op) (reg v (number_of src)))) s) (sym where_stored)
+      subst (λ (c : Bool). ComesOut site start after Next [] (if c then v else put_bytes v (address_at env v loc) (store_bytes (store_op op) (reg v (number_of src)))) s) (sym integer)
+      (subst (λ a. ComesOut site start after Next [] (put_bytes v a (store_bytes (store_op op) (reg v (number_of src)))) s) (sym where_stored)
       (subst (λ x. ComesOut site start after Next [] (put_bytes v (address_at env s.values loc) (store_bytes (store_op op) x)) s) (sym (e.same.regs (number_of src) h.1))
-      (store_out op (number_of src) loc flags.trap h.1 based e (subst (λ a. AreOutside site.base (length site.bytes) (addresses_from a (store_size op))) where_stored clear)));
+      (store_out op (number_of src) loc flags.trap integer h.1 based e (subst (λ a. AreOutside site.base (length site.bytes) (addresses_from a (store_size op))) where_stored clear))));
 }
 
 -- ---- addresses

@@ -1,5 +1,6 @@
 -- Every instruction of the integer core that breaks no rule runs as it means.
 use Rattle.std.proofs.Common.{◌≡◌, ℕ, true, false, [], ◌∷◌, None, subst, arith}
+use Rattle.rv_ops.specs.Memory.{is_float_load, is_float_store}
 use Rattle.rv_inst.specs.declared.inst.CountInfo.{CountInfo}
 use Rattle.rv_inst.specs.declared.inst.Inst.{Inst}
 use Rattle.rv_inst.specs.declared.inst.Inst.TheVariants.{Nop0, Nop4, EBreak, SequencePoint, Args, Rets, DummyUse, EmitIsland, RawData, Lui, Auipc, LoadInlineConst, AluRRR, AluRRImm12, Mov, MovFromPReg, Extend, Select, Load, Store, LoadAddr, LabelAddress, Ret, TrapIf, Jal, CondBr, BrTable, Udf, Jalr, Popcnt, Cltz, Brev8, StackProbeLoop, LoadExtNameGot, LoadExtNameNear, LoadExtNameFar, Call, CallInd, ReturnCall, ReturnCallInd, Unwind}
@@ -13,6 +14,7 @@ use Rattle.rv_code.proofs.ShortOps.{ebreak_sized, ebreak_breaks}
 use Rattle.rv_code.specs.Slots.{Op}
 use Rattle.rv_code.specs.Sites.{Site, GapIn}
 use Rattle.rv_code.specs.InstRuns.{RunsIn}
+use Rattle.rv_code.proofs.AccessRows.{not_true}
 use Rattle.rv_code.proofs.Operands.{Keeps, keeps, are_usable, not_zero, or_left, move_usable, preg_usable, constant_kept, trap_if_usable, call_usable}
 use Rattle.rv_code.proofs.AddressOperands.{load_kept, store_kept, load_addr_kept, label_address_kept}
 use Rattle.rv_code.proofs.InstMemory.{load_runs, store_runs, load_addr_runs, label_address_runs}
@@ -66,8 +68,8 @@ kept_runs site setting (Mov rd rm type) core k r = let both = move_usable rd rm 
 kept_runs site setting (MovFromPReg rd rm) core k r = let both = preg_usable rd rm k in mov_from_preg_runs site setting rd rm both.0 both.1
 kept_runs site setting (Extend rd rn signed from_bits to_bits) core k r = extend_runs site setting rd rn signed from_bits to_bits k
 kept_runs site setting (Select info) core k r = select_runs site setting info k
-kept_runs site setting (Load rd op flags from) core k r = let a = load_kept site.context.frame rd op flags from k in load_runs site setting rd op flags from a.usable a.based a.real
-kept_runs site setting (Store src op flags to) core k r = let a = store_kept site.context.frame to op flags src k in store_runs site setting to op flags src a.0 a.1
+kept_runs site setting (Load rd op flags from) core k r = let integer = not_true (is_float_load op) core in let a = load_kept site.context.frame rd op flags from integer k in load_runs site setting rd op flags from integer a.usable a.based a.real
+kept_runs site setting (Store src op flags to) core k r = let integer = not_true (is_float_store op) core in let a = store_kept site.context.frame to op flags src integer k in store_runs site setting to op flags src integer a.0 a.1
 kept_runs site setting (LoadAddr rd mem) core k r = let a = load_addr_kept site.context.frame rd mem k in load_addr_runs site setting rd mem a.usable a.real a.based a.apart
 kept_runs site setting (LabelAddress dst label) core k r = let a = label_address_kept dst label k in label_address_runs site setting dst label a.0 a.1
 kept_runs site setting Ret core k r = ret_runs site setting

@@ -53,9 +53,10 @@ mod ImmediateValues
 mod SameMemory
 pub mod AddressRuns
 mod InstMemory
-mod AddressOperands
+pub mod AddressOperands
 pub mod FineOperands
-mod FormActs
+pub mod AccessRows
+pub mod FormActs
 pub mod MemorySlots
 pub mod NumberRuns
 pub mod NumberSlots
@@ -75,3 +76,8 @@ pub mod MadeOfPieces
 pub mod UnitRuns
 pub mod UnitRules
 pub mod UnitWordRuns
+pub mod ExactRows
+pub mod FloatAccesses
+pub mod ReadyAccesses
+pub mod FloatAccessRuns
+pub mod MovedRegisters

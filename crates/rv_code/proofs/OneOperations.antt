@@ -26,6 +26,8 @@ use Rattle.rv_code.specs.InstParts.{slots_alone, access_slots, address_slots, lo
 use Rattle.rv_code.specs.Pieces.{Action, Rri, Piece, Do, op_of, slots_of}
 use Rattle.rv_code.specs.Slots.{Slot, Op, Part}
 use Rattle.rv_code.specs.Sites.{Site, IsPlacedAt, CodeHas, PartsStand}
+use Rattle.rv_ops.specs.Memory.{is_float_load, is_float_store}
+use Rattle.rv_code.proofs.AccessRows.{IsIntegerLoad, IsIntegerStore, not_true}
 use Rattle.rv_code.proofs.FormActs.{Does, short_rrr_does, short_rri_does, short_lui_does, short_jalr_does, short_ebreak_is, short_load_does, short_store_does}
 
 -- what has a step is an integer operation
@@ -39,15 +41,15 @@ pub record IsAlone (core : Bool) (parts : List Part) (d : Decoded) : Type 0 wher
   pub only : parts ≡ slots_alone (access_slots trap ++ Op d ∷ [])
   pub integer : core ≡ true → is_integer_op d.op ≡ true
 
-after_trap : {core : Bool} {d : Decoded} (trap : Option TrapCode) (x : Decoded) → is_integer_op x.op ≡ true → Some x ≡ Some d → IsAlone core (slots_alone (access_slots trap ++ Op x ∷ [])) d
+after_trap : {core : Bool} {d : Decoded} (trap : Option TrapCode) (x : Decoded) → (core ≡ true → is_integer_op x.op ≡ true) → Some x ≡ Some d → IsAlone core (slots_alone (access_slots trap ++ Op x ∷ [])) d
 after_trap {core} {d} trap x integer e = record {
   trap = trap;
   only = ap (λ (y : Decoded). slots_alone (access_slots trap ++ Op y ∷ [])) (same_Some x d e);
-  integer = λ core. subst (λ (y : Decoded). is_integer_op y.op ≡ true) (same_Some x d e) integer;
+  integer = λ core. subst (λ (y : Decoded). is_integer_op y.op ≡ true) (same_Some x d e) (integer core);
 }
 
 alone : {core : Bool} {d : Decoded} (x : Decoded) → is_integer_op x.op ≡ true → Some x ≡ Some d → IsAlone core (slots_alone (Op x ∷ [])) d
-alone x integer e = after_trap None x integer e
+alone x integer e = after_trap None x (λ core. integer) e
 
 -- of a unit
 of_unit : {d : Decoded} (trap : Option TrapCode) (x : Decoded) → Some x ≡ Some d → IsAlone false (slots_alone (access_slots trap ++ Op x ∷ [])) d
@@ -61,22 +63,22 @@ only_where : {core : Bool} {d : Decoded} (flags : IsaFlags) (c : Bool) (a : Acti
 only_where flags true a others integer e = alone (op_of flags a) integer e
 only_where flags false a others integer e = absurd (cc)
 
-near : {core : Bool} {d : Decoded} (c : Bool) (trap : Option TrapCode) (x : Decoded) (far : List Slot) → is_integer_op x.op ≡ true → (if c then Some x else None) ≡ Some d → IsAlone core (slots_alone (if c then access_slots trap ++ Op x ∷ [] else far)) d
+near : {core : Bool} {d : Decoded} (c : Bool) (trap : Option TrapCode) (x : Decoded) (far : List Slot) → (core ≡ true → is_integer_op x.op ≡ true) → (if c then Some x else None) ≡ Some d → IsAlone core (slots_alone (if c then access_slots trap ++ Op x ∷ [] else far)) d
 near true trap x far integer e = after_trap trap x integer e
 near false trap x far integer e = absurd (cc)
 
-loads : {core : Bool} {d : Decoded} (flags : IsaFlags) (op : LoadOP) (rd : ℕ) (trap : Option TrapCode) (location : Location) → load_operation flags op rd location ≡ Some d → IsAlone core (slots_alone (load_slots flags rd op trap location)) d
-loads flags op rd trap (Based r o) e = near (is_near o) trap _ _ (does_integer (short_load_does flags op rd r o)) e
-loads flags op rd trap (AtLabel l) e = absurd (cc)
-loads flags op rd trap (AtConstant k) e = absurd (cc)
+loads : {core : Bool} {d : Decoded} (flags : IsaFlags) (op : LoadOP) (rd : ℕ) (trap : Option TrapCode) (location : Location) → (core ≡ true → IsIntegerLoad op) → load_operation flags op rd location ≡ Some d → IsAlone core (slots_alone (load_slots flags rd op trap location)) d
+loads flags op rd trap (Based r o) integer e = near (is_near o) trap _ _ (λ core. does_integer (short_load_does flags op rd r o (integer core))) e
+loads flags op rd trap (AtLabel l) integer e = absurd (cc)
+loads flags op rd trap (AtConstant k) integer e = absurd (cc)
 
-stores : {core : Bool} {d : Decoded} (flags : IsaFlags) (op : StoreOP) (src : ℕ) (trap : Option TrapCode) (location : Location) → store_operation flags op src location ≡ Some d → IsAlone core (slots_alone (store_slots flags op src trap location)) d
-stores flags op src trap (Based r o) e = near (is_near o) trap _ _ (does_integer (short_store_does flags op r src o)) e
-stores flags op src trap (AtLabel l) e = absurd (cc)
-stores flags op src trap (AtConstant k) e = absurd (cc)
+stores : {core : Bool} {d : Decoded} (flags : IsaFlags) (op : StoreOP) (src : ℕ) (trap : Option TrapCode) (location : Location) → (core ≡ true → IsIntegerStore op) → store_operation flags op src location ≡ Some d → IsAlone core (slots_alone (store_slots flags op src trap location)) d
+stores flags op src trap (Based r o) integer e = near (is_near o) trap _ _ (λ core. does_integer (short_store_does flags op r src o (integer core))) e
+stores flags op src trap (AtLabel l) integer e = absurd (cc)
+stores flags op src trap (AtConstant k) integer e = absurd (cc)
 
 addresses : {core : Bool} {d : Decoded} (flags : IsaFlags) (rd : ℕ) (location : Location) → address_operation flags rd location ≡ Some d → IsAlone core (slots_alone (address_slots flags rd location)) d
-addresses flags rd (Based r o) e = near (is_near o) None _ _ (does_integer (short_rri_does flags Addi rd r o)) e
+addresses flags rd (Based r o) e = near (is_near o) None _ _ (λ core. does_integer (short_rri_does flags Addi rd r o)) e
 addresses flags rd (AtLabel l) e = absurd (cc)
 addresses flags rd (AtConstant k) e = absurd (cc)
 
@@ -99,8 +101,8 @@ one_slot context setting (Mov rd rm type) d e = unless context.flags (nat_eq (nu
 one_slot context setting (MovFromPReg rd rm) d e = unless context.flags (nat_eq (number_of rd.reg) rm.number) (Rri Addi (number_of rd.reg) rm.number (pos 0)) (does_integer (short_rri_does context.flags Addi (number_of rd.reg) rm.number (pos 0))) e
 one_slot context setting (Extend rd rn signed from_bits to_bits) d e = only_where context.flags (is_byte signed from_bits) (Rri Andi (number_of rd.reg) (number_of rn) (pos 255)) _ (does_integer (short_rri_does context.flags Andi (number_of rd.reg) (number_of rn) (pos 255))) e
 one_slot context setting (Select info) d e = absurd (cc)
-one_slot context setting (Load rd op flags from) d e = loads context.flags op (number_of rd.reg) flags.trap (location_of context.frame from) e
-one_slot context setting (Store src op flags to) d e = stores context.flags op (number_of src) flags.trap (location_of context.frame to) e
+one_slot context setting (Load rd op flags from) d e = loads context.flags op (number_of rd.reg) flags.trap (location_of context.frame from) (not_true (is_float_load op)) e
+one_slot context setting (Store src op flags to) d e = stores context.flags op (number_of src) flags.trap (location_of context.frame to) (not_true (is_float_store op)) e
 one_slot context setting (LoadAddr rd mem) d e = addresses context.flags (number_of rd.reg) (location_of context.frame mem) e
 one_slot context setting (LabelAddress dst label) d e = absurd (cc)
 one_slot context setting Ret d e = alone _ (does_integer (short_jalr_does context.flags 0 1 (pos 0))) e

@@ -122,7 +122,7 @@ zeroes {site} {s = s} After a has address fits out k after =
     let w = put_bytes s.values a (0 ∷ []) in
     let t = at (wrap (s.pc + d.len)) w in
     let there : wrap (reg s.values 30 + low64 (pos 0)) ≡ a = (let none : low64 (pos 0) ≡ 0 = refl in omega arith) in
-    let acts : act d s ≡ Some t = store_acts flags Sb 30 0 (pos 0) s k.is_state ∙ ap (λ n. Some (at (wrap (s.pc + d.len)) (put_bytes s.values n (0 ∷ [])))) there in
+    let acts : act d s ≡ Some t = store_acts flags Sb 30 0 (pos 0) s refl k.is_state ∙ ap (λ n. Some (at (wrap (s.pc + d.len)) (put_bytes s.values n (0 ∷ [])))) there in
     record {
       state = t;
       goes = goes_at_least (lit≤ tt) (step_at d [] t k.here (omega arith) has acts);

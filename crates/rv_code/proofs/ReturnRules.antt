@@ -1,5 +1,5 @@
 -- What a frame that a tail call can take away gives.
-use Rattle.std.proofs.Common.{◌≡◌, ◌≢◌, ℕ, ◌+◌, ◌^◌, ◌<◌, ◌≤◌, Bool, true, false, ℤ, pos, ◌-ℤ◌, List, [], ◌∷◌, ◌++◌, arith, lit<, Some}
+use Rattle.std.proofs.Common.{◌≡◌, ◌≢◌, ℕ, ◌+◌, ◌^◌, ◌<◌, ◌≤◌, Bool, true, false, ℤ, pos, ◌-ℤ◌, List, [], ◌∷◌, ◌++◌, arith, lit<, refl, Some}
 use Rattle.std.specs.Prelude.{if◌then◌else◌, ◌||◌, ◌&&◌, ◌==◌, not, nat_lt, nat_le}
 use Rattle.std.specs.List.{AllByRecursion, list_any}
 use Rattle.std.proofs.lemmas.Bool.{or_parts}
@@ -15,7 +15,7 @@ use Rattle.rv_inst.specs.Frames.{is_unsaved, is_unrestored, is_t0, is_bad_frame,
 use Rattle.rv_inst.specs.Returns.{StackLoad, saves_from, setup_loads, restores}
 use Rattle.rv_inst.specs.Rules.{is_int_class, is_vector_class}
 use Rattle.rv_inst.specs.declared.tail_calls.TailCall.{TailCall}
-use Rattle.rv_code.proofs.StackRuns.{IsLoadable, AreLoadable, AreOthers}
+use Rattle.rv_code.proofs.StackRuns.{IsLoadable, IsStackLoad, AreLoadable, AreOthers}
 
 -- ---- one register
 
@@ -53,7 +53,7 @@ saves_loadable offset [] saved restored = tt
 saves_loadable offset (r ∷ saves) saved restored =
     let s = or_parts (is_unsaved r.reg) _ saved in
     let t = or_parts (is_unrestored r.reg) _ restored in
-    (class_loadable r.reg.class r.reg.number s.0 t.0, saves_loadable (offset -ℤ pos 8) saves s.1 t.1)
+    (record { register = class_loadable r.reg.class r.reg.number s.0 t.0; integer = refl }, saves_loadable (offset -ℤ pos 8) saves s.1 t.1)
 
 saves_other : (offset : ℤ) (saves : List (Writable PReg)) → list_any (λ (r : Writable PReg). is_t0 r.reg) saves ≡ false → list_any (λ (r : Writable PReg). is_unrestored r.reg) saves ≡ false → AreOthers 5 (saves_from offset saves)
 saves_other offset [] apart restored = tt
@@ -67,7 +67,7 @@ setup_loadable frame = by (frame.setup_area_size == 0)
   where
     by : (none : Bool) → AreLoadable (if none then [] else record { register = 1; op = Ld; offset = pos (sp_to_fp_of frame + 8) } ∷ record { register = 8; op = Ld; offset = pos (sp_to_fp_of frame) } ∷ [])
     by true = tt
-    by false = (record { usable = lit< tt; apart = λ e. absurd (omega arith) }, (record { usable = lit< tt; apart = λ e. absurd (omega arith) }, tt))
+    by false = (record { register = record { usable = lit< tt; apart = λ e. absurd (omega arith) }; integer = refl }, (record { register = record { usable = lit< tt; apart = λ e. absurd (omega arith) }; integer = refl }, tt))
 
 setup_other : (frame : FrameLayout) → AreOthers 5 (setup_loads frame)
 setup_other frame = by (frame.setup_area_size == 0)
@@ -93,7 +93,7 @@ is_restorable frame tail e =
     let parts = or_parts (nat_le (2 ^ 31) (sp_to_args_end frame)) _ bad.0 in
     let left = or_parts (list_any (λ (r : Writable PReg). is_unrestored r.reg) saves) _ bad.1 in
     record {
-      registers = of_both (λ (l : StackLoad). IsLoadable l.register) (saves_from (pos (sp_to_fp_of frame) -ℤ pos 8) saves) (setup_loads frame) (saves_loadable (pos (sp_to_fp_of frame) -ℤ pos 8) saves parts.1 left.0) (setup_loadable frame);
+      registers = of_both IsStackLoad (saves_from (pos (sp_to_fp_of frame) -ℤ pos 8) saves) (setup_loads frame) (saves_loadable (pos (sp_to_fp_of frame) -ℤ pos 8) saves parts.1 left.0) (setup_loadable frame);
       small = small_frame (sp_to_args_end frame) parts.0;
     }
 

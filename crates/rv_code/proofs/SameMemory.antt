@@ -46,7 +46,7 @@ inserted_fits mem k b a fits h = subst (λ n. n < 256) (sym (byte_inserted mem k
 -- ---- stores
 
 -- the same bytes, stored at the same address of memories that are the same
-store_same : (m w : Memory) (at : ℕ) (bytes : List ℕ) → ((a : ℕ) → byte m a ≡ byte w a) → (a : ℕ) → byte (store m at bytes) a ≡ byte (store w at bytes) a
+pub store_same : (m w : Memory) (at : ℕ) (bytes : List ℕ) → ((a : ℕ) → byte m a ≡ byte w a) → (a : ℕ) → byte (store m at bytes) a ≡ byte (store w at bytes) a
 store_same m w at [] same = same
 store_same m w at (b ∷ bs) same = store_same (map.insert m at b) (map.insert w at b) (wrap (at + 1)) bs (λ a. inserted_same m w at b a (same a))
 
@@ -84,16 +84,20 @@ stored_bytes stores.Sb x = (omega arith, tt)
 stored_bytes stores.Sh x = (omega arith, (omega arith, tt))
 stored_bytes stores.Sw x = (omega arith, (omega arith, (omega arith, (omega arith, tt))))
 stored_bytes stores.Sd x = (omega arith, (omega arith, (omega arith, (omega arith, (omega arith, (omega arith, (omega arith, (omega arith, tt))))))))
+stored_bytes stores.Fsw x = (omega arith, (omega arith, (omega arith, (omega arith, tt))))
+stored_bytes stores.Fsd x = (omega arith, (omega arith, (omega arith, (omega arith, (omega arith, (omega arith, (omega arith, (omega arith, tt))))))))
 
 pub stored_length : (op : StoreOP) (x : ℕ) → length (store_bytes (store_op op) x) ≡ store_size op
 stored_length stores.Sb x = refl
 stored_length stores.Sh x = refl
 stored_length stores.Sw x = refl
 stored_length stores.Sd x = refl
+stored_length stores.Fsw x = refl
+stored_length stores.Fsd x = refl
 
 -- ---- loads
 
-loaded_same : (m w : Memory) (at n : ℕ) → ((a : ℕ) → byte m a ≡ byte w a) → load_bytes m at n ≡ load_bytes w at n
+pub loaded_same : (m w : Memory) (at n : ℕ) → ((a : ℕ) → byte m a ≡ byte w a) → load_bytes m at n ≡ load_bytes w at n
 loaded_same m w at zero same = refl
 loaded_same m w at (suc n) same = λ i. loaded_same m w at n same i + same (wrap (at + n)) i * 2 ^ (8 * n)
 
@@ -107,7 +111,7 @@ load_same load.Lwu m w at same = loaded_same m w at 4 same
 load_same load.Ld m w at same = loaded_same m w at 8 same
 
 -- eight bytes, or fewer, are below 2 ^ 64
-eight_fit : (mem : Memory) (at : ℕ) → ((a : ℕ) → byte mem a < 256) → load_bytes mem at 8 < 2 ^ 64
+pub eight_fit : (mem : Memory) (at : ℕ) → ((a : ℕ) → byte mem a < 256) → load_bytes mem at 8 < 2 ^ 64
 eight_fit mem at h =
     let b0 = h (wrap (at + 0)) in
     let b1 = h (wrap (at + 1)) in

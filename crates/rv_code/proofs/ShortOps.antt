@@ -13,15 +13,16 @@ use Rattle.rv_inst.specs.Forms.{jump_kind, short_rrr, short_rri, short_lui, shor
 use Rattle.rv_inst.specs.LabelUse.{marks_of}
 use Rattle.rv_inst.specs.Meaning.{alu_rrr, alu_rri, put_bytes}
 use Rattle.rv_machine.specs.Memory.{load_result, store_bytes}
-use Rattle.rv_encode.specs.Operations.{load_op, store_op}
+use Rattle.rv_encode.specs.Operations.{decoded_load, decoded_store, load_op, store_op}
 use Rattle.rv_inst.specs.declared.label_use.LabelUse.TheVariants.{Jal20, RVCJump}
 use Rattle.rv_machine.specs.declared.decoding.Decoded.{Decoded}
 use Rattle.rv_machine.specs.declared.ops.MOp.TheVariants.{Base}
 use Rattle.rv_machine.specs.declared.ops.BaseOp.TheVariants.{Jal, Ebreak}
-use Rattle.rv_machine.specs.Effects.{act}
+use Rattle.rv_machine.specs.Effects.{act, act_on}
 use Rattle.rv_machine.specs.Layout.{compressed}
 use Rattle.rv_machine.specs.State.{State, IsState, reg, set_reg, wrap, low64, at}
-use Rattle.rv_code.proofs.FormActs.{IsLength, short_rrr_does, short_rri_does, short_lui_does, short_jalr_does, short_ebreak_is, short_ebreak_long, short_load_does, short_store_does}
+use Rattle.rv_code.proofs.AccessRows.{IsIntegerLoad, IsIntegerStore, integer_load, integer_store}
+use Rattle.rv_code.proofs.FormActs.{IsLength, short_rrr_does, short_rri_does, short_lui_does, short_jalr_does, short_ebreak_is, short_ebreak_long, short_load_does, short_load_long, short_store_does, short_store_long}
 use Rattle.rv_code.proofs.OperationActs.{rri_same}
 use Rattle.rv_code.specs.Operations.{decoded_jump, short_jump, jump_size}
 
@@ -53,10 +54,10 @@ pub ebreak_sized : (flags : IsaFlags) → HasSize (short_ebreak flags)
 ebreak_sized flags = sized (short_ebreak flags) (short_ebreak_long flags)
 
 pub load_sized : (flags : IsaFlags) (op : LoadOP) (rd base : ℕ) (offset : ℤ) → HasSize (short_load flags op rd base offset)
-load_sized flags op rd base offset = sized (short_load flags op rd base offset) (short_load_does flags op rd base offset).long
+load_sized flags op rd base offset = sized (short_load flags op rd base offset) (short_load_long flags op rd base offset)
 
 pub store_sized : (flags : IsaFlags) (op : StoreOP) (base src : ℕ) (offset : ℤ) → HasSize (short_store flags op base src offset)
-store_sized flags op base src offset = sized (short_store flags op base src offset) (short_store_does flags op base src offset).long
+store_sized flags op base src offset = sized (short_store flags op base src offset) (short_store_long flags op base src offset)
 
 pub rrr_acts : (flags : IsaFlags) (op : AluOPRRR) (rd rs1 rs2 : ℕ) (s : State) → IsState s → act (short_rrr flags op rd rs1 rs2) s ≡ Some (at (wrap (s.pc + (short_rrr flags op rd rs1 rs2).len)) (set_reg s.values rd (alu_rrr op (reg s.values rs1) (reg s.values rs2))))
 rrr_acts flags op rd rs1 rs2 s h = (short_rrr_does flags op rd rs1 rs2).acts s h.values
@@ -73,11 +74,18 @@ jalr_acts flags rd base offset s h = (short_jalr_does flags rd base offset).acts
 pub ebreak_breaks : (flags : IsaFlags) → (short_ebreak flags).op ≡ Base Ebreak
 ebreak_breaks flags = short_ebreak_is flags
 
-pub load_acts : (flags : IsaFlags) (op : LoadOP) (rd base : ℕ) (offset : ℤ) (s : State) → IsState s → act (short_load flags op rd base offset) s ≡ Some (at (wrap (s.pc + (short_load flags op rd base offset).len)) (set_reg s.values rd (load_result (load_op op) s.values.mem (wrap (reg s.values base + low64 offset)))))
-load_acts flags op rd base offset s h = (short_load_does flags op rd base offset).acts s h.values
+pub load_acts : (flags : IsaFlags) (op : LoadOP) (rd base : ℕ) (offset : ℤ) (s : State) → IsIntegerLoad op → IsState s → act (short_load flags op rd base offset) s ≡ Some (at (wrap (s.pc + (short_load flags op rd base offset).len)) (set_reg s.values rd (load_result (load_op op) s.values.mem (wrap (reg s.values base + low64 offset)))))
+load_acts flags op rd base offset s integer h = (short_load_does flags op rd base offset integer).acts s h.values
 
-pub store_acts : (flags : IsaFlags) (op : StoreOP) (base src : ℕ) (offset : ℤ) (s : State) → IsState s → act (short_store flags op base src offset) s ≡ Some (at (wrap (s.pc + (short_store flags op base src offset).len)) (put_bytes s.values (wrap (reg s.values base + low64 offset)) (store_bytes (store_op op) (reg s.values src))))
-store_acts flags op base src offset s h = (short_store_does flags op base src offset).acts s h.values
+-- of four bytes
+pub load_acts_wide : (op : LoadOP) (rd base : ℕ) (offset : ℤ) (s : State) → IsIntegerLoad op → act (decoded_load op rd base offset) s ≡ Some (at (wrap (s.pc + 4)) (set_reg s.values rd (load_result (load_op op) s.values.mem (wrap (reg s.values base + low64 offset)))))
+load_acts_wide op rd base offset s integer = ap (λ o. act_on o (decoded_load op rd base offset) s) (integer_load op integer)
+
+pub store_acts_wide : (op : StoreOP) (base src : ℕ) (offset : ℤ) (s : State) → IsIntegerStore op → act (decoded_store op base src offset) s ≡ Some (at (wrap (s.pc + 4)) (put_bytes s.values (wrap (reg s.values base + low64 offset)) (store_bytes (store_op op) (reg s.values src))))
+store_acts_wide op base src offset s integer = ap (λ o. act_on o (decoded_store op base src offset) s) (integer_store op integer)
+
+pub store_acts : (flags : IsaFlags) (op : StoreOP) (base src : ℕ) (offset : ℤ) (s : State) → IsIntegerStore op → IsState s → act (short_store flags op base src offset) s ≡ Some (at (wrap (s.pc + (short_store flags op base src offset).len)) (put_bytes s.values (wrap (reg s.values base + low64 offset)) (store_bytes (store_op op) (reg s.values src))))
+store_acts flags op base src offset s integer h = (short_store_does flags op base src offset integer).acts s h.values
 
 -- ---- the shortest size
 

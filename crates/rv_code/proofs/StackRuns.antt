@@ -18,13 +18,14 @@ use Rattle.rv_inst.specs.SameValues.{SameBut}
 use Rattle.rv_code.specs.InstParts.{number_slots, address_slots, load_slots, stack_load_slots, far_step_slots, stack_step_slots}
 use Rattle.rv_code.specs.Sites.{Site, CodeHas, StandsIn}
 use Rattle.rv_code.specs.Slots.{Slot, Op, size_of}
+use Rattle.rv_code.proofs.AccessRows.{IsIntegerLoad}
 use Rattle.rv_code.proofs.AddressRuns.{size_append, stands_split, shorter, based_goes, address_even}
 use Rattle.rv_code.proofs.Courses.{InCourse, Comes, comes_on, comes_here, course_before, writes, sets_comes, rrr_writes, rri_writes}
 use Rattle.rv_code.proofs.SameMemory.{load_same, load_fits}
 use Rattle.rv_code.proofs.NumberRuns.{number_comes}
 use Rattle.rv_code.proofs.OperationActs.{plus_none, set_own}
 use Rattle.rv_code.proofs.Registers.{are_values_set, but_set, spare_set, reads_back, reads_other}
-use Rattle.rv_code.proofs.ShortOps.{load_acts, load_sized}
+use Rattle.rv_code.proofs.ShortOps.{load_acts, load_acts_wide, load_sized}
 
 -- ---- which registers are loaded
 
@@ -33,8 +34,13 @@ pub record IsLoadable (n : ℕ) : Type 0 where
   pub usable : n < 30
   pub apart : n ≢ 2
 
+-- by a load of integers
+pub record IsStackLoad (l : StackLoad) : Type 0 where
+  pub register : IsLoadable l.register
+  pub integer : IsIntegerLoad l.op
+
 abbrev pub AreLoadable : List StackLoad → Type 0
-AreLoadable loads = AllByRecursion (λ (l : StackLoad). IsLoadable l.register) loads
+AreLoadable loads = AllByRecursion IsStackLoad loads
 
 -- none of them is this one
 abbrev pub AreOthers : ℕ → List StackLoad → Type 0
@@ -49,7 +55,7 @@ loaded_other sp n (l ∷ loads) v others =
 
 pub stack_apart : (loads : List StackLoad) → AreLoadable loads → AreOthers 2 loads
 stack_apart [] h = tt
-stack_apart (l ∷ loads) h = (h.0.apart, stack_apart loads h.1)
+stack_apart (l ∷ loads) h = (h.0.register.apart, stack_apart loads h.1)
 
 -- ---- values
 
@@ -81,34 +87,34 @@ read_at op r o v = load_result (load_op op) v.mem (wrap (reg v r + low64 o))
 read_same : {u w : Values} (op : LoadOP) (r : ℕ) (o : ℤ) → r < 30 → SameBut [] u w → read_at op r o w ≡ read_at op r o u
 read_same {u} {w} op r o usable same = sym (load_same (load_op op) u.mem w.mem (wrap (reg u r + low64 o)) same.mem ∙ (λ i. load_result (load_op op) w.mem (wrap (same.regs r usable refl i + low64 o))))
 
-near_comes : {site : Site} {offset size : ℕ} {u : Values} {s : State} (rd r : ℕ) (op : LoadOP) (o : ℤ) → rd < 30 → r < 30 → CodeHas site offset (short_load site.context.flags op rd r o ∷ []) → InCourse site offset ((short_load site.context.flags op rd r o).len + size) (IsAs u) s → Comes site (offset + (short_load site.context.flags op rd r o).len) size (IsAs (set_reg u rd (read_at op r o u))) s
-near_comes {site} {u = u} {s} rd r op o usable based has k =
+near_comes : {site : Site} {offset size : ℕ} {u : Values} {s : State} (rd r : ℕ) (op : LoadOP) (o : ℤ) → IsIntegerLoad op → rd < 30 → r < 30 → CodeHas site offset (short_load site.context.flags op rd r o ∷ []) → InCourse site offset ((short_load site.context.flags op rd r o).len + size) (IsAs u) s → Comes site (offset + (short_load site.context.flags op rd r o).len) size (IsAs (set_reg u rd (read_at op r o u))) s
+near_comes {site} {u = u} {s} rd r op o integer usable based has k =
     let flags = site.context.flags in
     let d = short_load flags op rd r o in
     let x = read_at op r o u in
     let fits = load_fits (load_op op) u.mem (wrap (reg u r + low64 o)) k.values.are_values.bytes in
     writes (IsAs (set_reg u rd x)) d rd x (load_sized flags op rd r o) has
-    (load_acts flags op rd r o s k.is_state ∙ ap (λ y. Some (at (wrap (s.pc + d.len)) (set_reg s.values rd y))) (read_same op r o based k.values.same))
+    (load_acts flags op rd r o s integer k.is_state ∙ ap (λ y. Some (at (wrap (s.pc + d.len)) (set_reg s.values rd y))) (read_same op r o based k.values.same))
     (omega arith) fits k (as_set u s.values rd x (omega arith) fits k.is_state.values k.values)
 
 -- its address is in x31
-last_comes : {site : Site} {offset size a : ℕ} {u : Values} {s : State} (rd : ℕ) (op : LoadOP) → rd < 30 → a < 2 ^ 64 → CodeHas site offset (decoded_load op rd 31 (pos 0) ∷ []) → InCourse site offset (4 + size) (HasSpare a u) s → Comes site (offset + 4) size (IsAs (set_reg u rd (load_result (load_op op) u.mem a))) s
-last_comes {site} {a = a} {u} {s} rd op usable small has k =
+last_comes : {site : Site} {offset size a : ℕ} {u : Values} {s : State} (rd : ℕ) (op : LoadOP) → IsIntegerLoad op → rd < 30 → a < 2 ^ 64 → CodeHas site offset (decoded_load op rd 31 (pos 0) ∷ []) → InCourse site offset (4 + size) (HasSpare a u) s → Comes site (offset + 4) size (IsAs (set_reg u rd (load_result (load_op op) u.mem a))) s
+last_comes {site} {a = a} {u} {s} rd op integer usable small has k =
     let d = decoded_load op rd 31 (pos 0) in
     let x = load_result (load_op op) u.mem a in
     let fits = load_fits (load_op op) u.mem a k.values.as_these.are_values.bytes in
     let there : wrap (reg s.values 31 + low64 (pos 0)) ≡ a = ap (λ n. wrap (n + low64 (pos 0))) k.values.spare ∙ plus_none a small in
     let read : load_result (load_op op) s.values.mem (wrap (reg s.values 31 + low64 (pos 0))) ≡ x = ap (load_result (load_op op) s.values.mem) there ∙ sym (load_same (load_op op) u.mem s.values.mem a k.values.as_these.same.mem) in
     writes (IsAs (set_reg u rd x)) d rd x (record { even = refl; some = lit< tt; few = lit≤ tt }) has
-    (λ i. Some (at (wrap (s.pc + 4)) (set_reg s.values rd (read i))))
+    (load_acts_wide op rd 31 (pos 0) s integer ∙ (λ i. Some (at (wrap (s.pc + 4)) (set_reg s.values rd (read i)))))
     (omega arith) fits k (as_set u s.values rd x (omega arith) fits k.is_state.values k.values.as_these)
 
 -- a load at an address that is computed in x31
 abbrev far_load : IsaFlags → ℕ → LoadOP → ℕ → ℤ → List Slot
 far_load flags rd op r o = address_slots flags 31 (Based r o) ++ Op (decoded_load op rd 31 (pos 0)) ∷ []
 
-far_comes : {site : Site} {offset size : ℕ} {u : Values} {s : State} (allocated rd r : ℕ) (op : LoadOP) (o : ℤ) → rd < 30 → r < 30 → StandsIn site allocated offset (far_load site.context.flags rd op r o) → InCourse site offset (size_of (far_load site.context.flags rd op r o) + size) (IsAs u) s → Comes site (offset + size_of (far_load site.context.flags rd op r o)) size (IsAs (set_reg u rd (read_at op r o u))) s
-far_comes {site} {offset} {size} {u} {s} allocated rd r op o usable based stands k =
+far_comes : {site : Site} {offset size : ℕ} {u : Values} {s : State} (allocated rd r : ℕ) (op : LoadOP) (o : ℤ) → IsIntegerLoad op → rd < 30 → r < 30 → StandsIn site allocated offset (far_load site.context.flags rd op r o) → InCourse site offset (size_of (far_load site.context.flags rd op r o) + size) (IsAs u) s → Comes site (offset + size_of (far_load site.context.flags rd op r o)) size (IsAs (set_reg u rd (read_at op r o u))) s
+far_comes {site} {offset} {size} {u} {s} allocated rd r op o integer usable based stands k =
     let flags = site.context.flags in
     let slots = address_slots flags 31 (Based r o) in
     let d = decoded_load op rd 31 (pos 0) in
@@ -123,12 +129,12 @@ far_comes {site} {offset} {size} {u} {s} allocated rd r op o usable based stands
     subst (λ m. Comes site m size (IsAs (set_reg u rd (read_at op r o u))) s) over
     (comes_on
     (sets_comes (HasSpare (wrap (reg s.values r + low64 o)) u) n 31 (wrap (reg s.values r + low64 o)) (address_even flags 31 (Based r o)) (lit< tt) (omega arith) goes k0 (spare_holds u s.values (wrap (reg s.values r + low64 o)) k.is_state.values k.values))
-    (λ t k1. last_comes rd op usable (omega arith) both.1.0 (subst (λ b. InCourse site (offset + n) (4 + size) (HasSpare b u) t) there k1)))
+    (λ t k1. last_comes rd op integer usable (omega arith) both.1.0 (subst (λ b. InCourse site (offset + n) (4 + size) (HasSpare b u) t) there k1)))
 
 -- a load that can't trap sets its register, and beside it x31 at most
-pub load_comes : {site : Site} {offset size : ℕ} {u : Values} {s : State} (allocated rd r : ℕ) (op : LoadOP) (o : ℤ) → rd < 30 → r < 30 → StandsIn site allocated offset (load_slots site.context.flags rd op None (Based r o)) → InCourse site offset (size_of (load_slots site.context.flags rd op None (Based r o)) + size) (IsAs u) s →
+pub load_comes : {site : Site} {offset size : ℕ} {u : Values} {s : State} (allocated rd r : ℕ) (op : LoadOP) (o : ℤ) → IsIntegerLoad op → rd < 30 → r < 30 → StandsIn site allocated offset (load_slots site.context.flags rd op None (Based r o)) → InCourse site offset (size_of (load_slots site.context.flags rd op None (Based r o)) + size) (IsAs u) s →
     Comes site (offset + size_of (load_slots site.context.flags rd op None (Based r o))) size (IsAs (set_reg u rd (read_at op r o u))) s
-load_comes {site} {offset} {size} {u} {s} allocated rd r op o usable based = on (is_near o)
+load_comes {site} {offset} {size} {u} {s} allocated rd r op o integer usable based = on (is_near o)
   where
     slots : Bool → List Slot
     slots near = if near then Op (short_load site.context.flags op rd r o) ∷ [] else address_slots site.context.flags 31 (Based r o) ++ [] ++ Op (decoded_load op rd 31 (pos 0)) ∷ []
@@ -141,8 +147,8 @@ load_comes {site} {offset} {size} {u} {s} allocated rd r op o usable based = on 
     on true = λ stands k.
         let n = (short_load site.context.flags op rd r o).len in
         subst (λ m. Comes site m size (IsAs (set_reg u rd (read_at op r o u))) s) (omega arith)
-        (near_comes rd r op o usable based stands.0 (course_before (n + size) k (omega arith)))
-    on false = subst (λ xs. Goal (xs ++ Op (decoded_load op rd 31 (pos 0)) ∷ [])) (sym (append-nil (address_slots site.context.flags 31 (Based r o)))) (far_comes allocated rd r op o usable based)
+        (near_comes rd r op o integer usable based stands.0 (course_before (n + size) k (omega arith)))
+    on false = subst (λ xs. Goal (xs ++ Op (decoded_load op rd 31 (pos 0)) ∷ [])) (sym (append-nil (address_slots site.context.flags 31 (Based r o)))) (far_comes allocated rd r op o integer usable based)
 
 -- ---- loads one after the other
 
@@ -158,10 +164,10 @@ loads_come {site} {size} allocated sp (l ∷ loads) offset u s h from stands k =
     let over : offset + size_of first + size_of rest ≡ offset + size_of (first ++ rest) = omega arith in
     let both = stands_split site allocated offset first rest stands in
     let x = load_result (load_op l.op) u.mem (wrap (sp + low64 l.offset)) in
-    let one = load_comes allocated l.register 2 l.op l.offset h.0.usable (lit< tt) both.0 (course_before (size_of first + (size_of rest + size)) k (omega arith)) in
+    let one = load_comes allocated l.register 2 l.op l.offset h.0.integer h.0.register.usable (lit< tt) both.0 (course_before (size_of first + (size_of rest + size)) k (omega arith)) in
     subst (λ n. Comes site n size (IsAs (stack_loaded sp (l ∷ loads) u)) s) over
     (comes_on (subst (λ b. Comes site (offset + size_of first) (size_of rest + size) (IsAs (set_reg u l.register (load_result (load_op l.op) u.mem (wrap (b + low64 l.offset))))) s) from one)
-    (λ t k1. loads_come allocated sp loads (offset + size_of first) (set_reg u l.register x) t h.1 (reads_other u l.register 2 x (λ e. h.0.apart (sym e)) ∙ from) both.1 k1))
+    (λ t k1. loads_come allocated sp loads (offset + size_of first) (set_reg u l.register x) t h.1 (reads_other u l.register 2 x (λ e. h.0.register.apart (sym e)) ∙ from) both.1 k1))
 
 -- ---- the stack pointer
 

@@ -113,7 +113,7 @@ far_runs site setting rd name offset h some = record {
       let stands = e.stands.1 in
       let whole : wrap x ≡ x = omega arith in
       sets_out slots (8 + jump_size site.context.flags + 8) n x usable (omega arith) e (omega arith)
-      (over_goes e.stands.0 n 8 x Ld (to_le_bytes w64 x) some (omega arith) (lit< tt) refl (λ mem a there. eight_there mem a x there ∙ whole) (lit< tt) e.is_state
+      (over_goes e.stands.0 n 8 x Ld (to_le_bytes w64 x) refl some (omega arith) (lit< tt) refl (λ mem a there. eight_there mem a x there ∙ whole) (lit< tt) e.is_state
       (shorter (8 + jump_size site.context.flags + 8) (starts_at slots e) (omega arith)) (stands.0, (stands.1.0, (stands.1.1.0, tt))) (stands.1.1.1.0 s.values.mem e.placed));
 }
 

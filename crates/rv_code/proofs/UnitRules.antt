@@ -17,7 +17,7 @@ use Rattle.rv_code.specs.UnitRuns.{IsUsableIn, AreUsableIn}
 use Rattle.rv_code.specs.Usable.{AreReal, AreOfClass, IsFineUnit}
 use Rattle.rv_code.proofs.Operands.{not_false, or_left, or_right}
 
-is_real : (r : Reg) → is_virtual r ≡ false → IsRealRegister r
+pub is_real : (r : Reg) → is_virtual r ≡ false → IsRealRegister r
 is_real (Real p) e = refl
 is_real (AVirtual class index) e = absurd (cc)
 

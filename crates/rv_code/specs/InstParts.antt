@@ -21,6 +21,7 @@ use Rattle.rv_ops.specs.declared.memory.LoadOP.{LoadOP}
 use Rattle.rv_ops.specs.declared.memory.LoadOP.TheVariants as loads
 use Rattle.rv_ops.specs.declared.memory.StoreOP.{StoreOP}
 use Rattle.rv_ops.specs.declared.compare.IntegerCompare.{IntegerCompare}
+use Rattle.rv_ops.specs.Memory.{is_float_load}
 use Rattle.rv_inst.specs.Context.{Context}
 use Rattle.rv_inst.specs.Returns.{StackLoad, restores, frame_above, result_loads, loads_unless}
 use Rattle.rv_inst.specs.Records.{site_event}
@@ -115,15 +116,20 @@ abbrev pub access_slots : Option TrapCode → List Slot
 access_slots None = []
 access_slots (Some code) = Notes (event.Trap code) ∷ []
 
--- a load from a label: the lower part of its distance is in the load's word
-abbrev pub label_load_slots : ℕ → LoadOP → Option TrapCode → MachLabel → List Slot
-label_load_slots rd op trap l = upper_at rd l ∷ access_slots trap ++ Aim PCRelLo12I (Label l) (λ d. decoded_load op rd rd (lower_of_distance d) ∷ []) ∷ []
+-- the register in which a load from a label has the upper part of its distance: its own, or x31 where that is a floating-point register
+abbrev pub label_base : LoadOP → ℕ → ℕ
+label_base op rd = if is_float_load op then 31 else rd
 
--- any load: an address that is far from its register is computed in x31, and that of a label or a constant in rd
+-- a load from a label: the lower part of its distance is in the load's word
+abbrev pub label_load_slots : ℕ → ℕ → LoadOP → Option TrapCode → MachLabel → List Slot
+label_load_slots base rd op trap l = upper_at base l ∷ access_slots trap ++ Aim PCRelLo12I (Label l) (λ d. decoded_load op rd base (lower_of_distance d) ∷ []) ∷ []
+
+-- any load: an address that is far from its register is computed in x31, and that of a label or a constant in rd, or in x31 of a
+-- floating-point register
 abbrev pub load_slots : IsaFlags → ℕ → LoadOP → Option TrapCode → Location → List Slot
 load_slots flags rd op trap (Based r o) = if is_near o then access_slots trap ++ Op (short_load flags op rd r o) ∷ [] else address_slots flags 31 (Based r o) ++ access_slots trap ++ Op (decoded_load op rd 31 (pos 0)) ∷ []
-load_slots flags rd op trap (AtLabel l) = label_load_slots rd op trap l
-load_slots flags rd op trap (AtConstant k) = Names k ∷ label_load_slots rd op trap (constant_label k)
+load_slots flags rd op trap (AtLabel l) = label_load_slots (label_base op rd) rd op trap l
+load_slots flags rd op trap (AtConstant k) = Names k ∷ label_load_slots (label_base op rd) rd op trap (constant_label k)
 
 -- a store: an address that is far from its register, or that of a label or a constant, is computed in x31
 abbrev pub far_store_slots : IsaFlags → StoreOP → ℕ → Option TrapCode → Location → List Slot

@@ -15,5 +15,6 @@ pub mod InstRuns
 pub mod Chains
 pub mod Immediates
 pub mod OwnCounts
+pub mod FloatAccesses
 pub mod FullValues
 pub mod UnitRuns

@@ -9,6 +9,7 @@ use Rattle.rv_ops.specs.declared.alu.AluOPRRI.{AluOPRRI}
 use Rattle.rv_ops.specs.declared.memory.LoadOP.{LoadOP}
 use Rattle.rv_ops.specs.declared.memory.StoreOP.{StoreOP}
 use Rattle.rv_ops.specs.Compare.{branch_of, is_reversed}
+use Rattle.rv_ops.specs.Memory.{is_float_load, is_float_store}
 use Rattle.rv_ops.specs.Operations.{immediate_of, shift_limit}
 use Rattle.rv_machine.specs.declared.decoding.Decoded.{Decoded}
 use Rattle.rv_machine.specs.declared.ops.MOp.TheVariants.{Base}
@@ -111,8 +112,8 @@ abbrev pub IsInRange : Action → Type 0
 IsInRange (Rrr op rd a b) = rd < 32
 IsInRange (Rri op rd rs imm) = (rd < 32) × (is_beyond (shift_limit (immediate_of op)) imm ≡ false) × (low64 imm < 2 ^ 64)
 IsInRange (Lui rd imm) = rd < 32
-IsInRange (Load op rd base offset) = rd < 32
-IsInRange (Store op base src offset) = Unit {0}
+IsInRange (Load op rd base offset) = (rd < 32) × (is_float_load op ≡ false)
+IsInRange (Store op base src offset) = is_float_store op ≡ false
 
 abbrev pub AreInRange : List Piece → Type 0
 AreInRange [] = Unit {0}

@@ -1,5 +1,5 @@
 -- What the words of an instruction ask of its registers, labels and numbers.
-use Rattle.std.specs.Prelude.{◌≡◌, ◌≢◌, ◌⊎◌, ◌<◌, ◌≤◌, true, List, [], ◌∷◌, length, Option, Some, None, IsSome}
+use Rattle.std.specs.Prelude.{◌≡◌, ◌≢◌, ◌⊎◌, ◌<◌, ◌≤◌, true, false, List, [], ◌∷◌, length, Option, Some, None, IsSome}
 use Rattle.std.proofs.Common.{refl}
 use Rattle.rv_base.specs.declared.amode.AMode.{AMode}
 use Rattle.rv_base.specs.declared.call.CallRetPair.{CallRetPair}
@@ -18,7 +18,8 @@ use Rattle.rv_base.specs.declared.value_regs.ValueRegs.{ValueRegs}
 use Rattle.rv_base.specs.ValueRegs.{count_of}
 use Rattle.rv_base.specs.declared.label.MachLabel.{MachLabel}
 use Rattle.mach_labels.specs.Table.{first_inner}
-use Rattle.rv_ops.specs.Memory.{load_of}
+use Rattle.rv_ops.specs.Memory.{is_float_load}
+use Rattle.rv_ops.specs.declared.memory.LoadOP.{LoadOP}
 use Rattle.rv_ops.specs.declared.compare.IntegerCompare.{IntegerCompare}
 use Rattle.rv_encode.specs.Registers.{IsIntRegister, IsRealRegister}
 use Rattle.rv_inst.specs.UnitWords.{UnitWord, registers_in, unit_of}
@@ -26,6 +27,7 @@ use Rattle.rv_inst.specs.declared.units.PlacedReg.{PlacedReg}
 use Rattle.rv_inst.specs.declared.inst.Inst.{Inst}
 use Rattle.rv_inst.specs.declared.inst.Inst.TheVariants.{Nop0, Nop4, EBreak, SequencePoint, Args, Rets, DummyUse, EmitIsland, RawData, Lui, Auipc, LoadInlineConst, AluRRR, AluRRImm12, Mov, MovFromPReg, Extend, Select, Load, Store, LoadAddr, LabelAddress, Ret, TrapIf, Jal, CondBr, BrTable, Udf, Jalr, Popcnt, Cltz, Brev8, StackProbeLoop, LoadExtNameGot, LoadExtNameNear, LoadExtNameFar, Call, CallInd, ReturnCall, ReturnCallInd, Unwind}
 use Rattle.rv_inst.specs.Operands.{all_of, written_in}
+use Rattle.rv_inst.specs.Returns.{result_load}
 use Rattle.rv_inst.specs.Rules.{is_int_type}
 use Rattle.rv_inst.specs.declared.inst.CondBrTarget.{CondBrTarget}
 use Rattle.rv_inst.specs.declared.inst.CondBrTarget.TheVariants.{Label, Fallthrough}
@@ -54,7 +56,7 @@ IsFineTry (Some t) = IsListed t.continuation
 -- a result on the stack is loaded, by its type, into an integer register
 abbrev pub IsFineResult : Reg → RetLocation → Type 0
 IsFineResult r (InReg s) = Unit {0}
-IsFineResult r (OnStack offset type) = IsIntRegister r × IsSome (load_of type)
+IsFineResult r (OnStack offset type) = IsIntRegister r × IsSome (result_load type)
 
 abbrev pub AreFineResults : List CallRetPair → Type 0
 AreFineResults [] = Unit {0}
@@ -73,6 +75,10 @@ IsFineAddress constants (SlotOffset o) = IsNear o
 IsFineAddress constants (IncomingArg o) = IsNear o
 IsFineAddress constants (Const k) = k.number < length constants
 IsFineAddress constants (ToLabel l) = IsListed l
+
+-- a register of the machine is loaded, an integer register by a load of integers
+abbrev pub IsFineLoad : LoadOP → Reg → Type 0
+IsFineLoad op r = IsRealRegister r × (is_float_load op ≡ false → IsIntRegister r)
 
 -- a register isn't the one that an address counts from
 abbrev pub IsApart : Reg → Option Reg → Type 0
@@ -131,8 +137,8 @@ IsFine constants (Mov rd rm type) = IsIntRegister rd.reg × IsIntRegister rm
 IsFine constants (MovFromPReg rd rm) = IsIntRegister rd.reg × IsIntRegister (Real rm)
 IsFine constants (Extend rd rn signed from_bits to_bits) = IsIntRegister rd.reg × IsIntRegister rn × (1 ≤ from_bits) × (from_bits ≤ 64)
 IsFine constants (Select info) = IsFineChoice info.dst info.condition info.x info.y
-IsFine constants (Load rd op flags from) = IsIntRegister rd.reg × IsFineAddress constants from
-IsFine constants (Store src op flags to) = IsIntRegister src × IsFineAddress constants to
+IsFine constants (Load rd op flags from) = IsFineLoad op rd.reg × IsFineAddress constants from
+IsFine constants (Store src op flags to) = IsRealRegister src × IsFineAddress constants to
 IsFine constants (LoadAddr rd mem) = IsIntRegister rd.reg × IsFineAddress constants mem × IsApart rd.reg (base_of mem)
 IsFine constants (LabelAddress dst label) = IsIntRegister dst.reg × IsListed label
 IsFine constants Ret = Unit {0}

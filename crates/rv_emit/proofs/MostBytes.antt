@@ -11,7 +11,7 @@ use Rattle.rv_base.specs.declared.call.RetLocation.{RetLocation}
 use Rattle.rv_base.specs.declared.call.RetLocation.TheVariants.{Reg as InReg, Stack as OnStack}
 use Rattle.rv_base.specs.declared.call.TryCallInfo.{TryCallInfo}
 use Rattle.rv_base.specs.declared.regs.Reg.{Reg}
-use Rattle.rv_ops.specs.Memory.{load_of, load_size}
+use Rattle.rv_ops.specs.Memory.{load_size}
 use Rattle.rv_inst.specs.Operands.{ways_of, ways_by, inst_ways, address_targets}
 use Rattle.rv_inst.specs.declared.targets.Targets.TheVariants.{Nowhere, Branches}
 use Rattle.rv_base.specs.declared.flags.IsaFlags.{IsaFlags}
@@ -31,7 +31,7 @@ use Rattle.rv_inst.specs.Addresses.{Location, Based, AtLabel, AtConstant, locati
 use Rattle.rv_inst.specs.Context.{Context}
 use Rattle.rv_inst.specs.Forms.{short_rri, short_jalr, short_load, short_store}
 use Rattle.rv_inst.specs.MostBytes.{most_bytes, return_limit, call_limit, sequence_limit}
-use Rattle.rv_inst.specs.Returns.{StackLoad, saves_from, setup_loads, restores, frame_above, typed_loads, location_loads, result_loads, loads_unless}
+use Rattle.rv_inst.specs.Returns.{StackLoad, saves_from, setup_loads, restores, frame_above, typed_loads, location_loads, result_loads, loads_unless, result_load}
 use Rattle.rv_inst.specs.Rules.{is_word_type, is_on_stack, is_stacked, inst_rule}
 use Rattle.rv_inst.specs.Sizes.{space_in, extra_in, words_in, extent_of, island_space, inst_sum, branch_size, return_size, fall, call_extent}
 use Rattle.rv_inst.specs.declared.inst.CondBrTarget.{CondBrTarget}
@@ -128,7 +128,7 @@ loads_few (d ∷ defs) = by d.vreg.reg d.location (loads_few defs)
     by r (InReg s) rest = rest
     by r (OnStack offset type) rest =
         let both = length-append (location_loads r (OnStack offset type)) (result_loads defs) in
-        let one = type_counts (number_of r) offset (load_of type) in
+        let one = type_counts (number_of r) offset (result_load type) in
         omega (arith, both, one, rest)
 
 loads_counted : (defs : List CallRetPair) → length (result_loads defs) ≤ count_by is_stacked defs

@@ -19,13 +19,12 @@ use Rattle.rv_ops.specs.declared.alu.AluOPRRR.TheVariants as rrr
 use Rattle.rv_ops.specs.declared.alu.AluOPRRI.{AluOPRRI}
 use Rattle.rv_ops.specs.declared.alu.AluOPRRI.TheVariants as rri
 use Rattle.rv_ops.specs.declared.memory.LoadOP.{LoadOP}
-use Rattle.rv_ops.specs.declared.memory.LoadOP.TheVariants as loads
 use Rattle.rv_ops.specs.declared.memory.StoreOP.{StoreOP}
-use Rattle.rv_ops.specs.declared.memory.StoreOP.TheVariants as stores
-use Rattle.rv_ops.specs.Memory.{load_size, store_size}
-use Rattle.rv_encode.specs.Operations.{decoded, load_op, store_op, decoded_rrr, decoded_rri, decoded_load, decoded_store}
-use Rattle.rv_inst.specs.Forms.{sp, shift_amount, is_short, is_equal, is_scaled, is_six_bits, form_where, chosen, load_form, store_form, either_form, zext_w_form, word_load_form, word_store_form, form_rrr, form_lui, form_jalr, form_ebreak, form_load, form_store, zca_rrr, zca_rri, zca_load, zca_store, addi_form, andi_form, move_form, is_move, is_addi16sp, is_addi4spn, is_li, is_addi, short_rrr, short_rri, short_lui, short_jalr, short_ebreak, short_load, short_store, IsAddi16spFirst, IsOwnForm}
+use Rattle.rv_ops.specs.Memory.{load_format, store_format}
+use Rattle.rv_encode.specs.Operations.{decoded, load_op, load_of_format, store_op, store_of_format, decoded_rrr, decoded_rri}
+use Rattle.rv_inst.specs.Forms.{sp, shift_amount, is_short, is_equal, is_scaled, is_six_bits, form_where, chosen, either_form, zext_w_form, form_rrr, form_lui, form_jalr, form_ebreak, zca_rrr, zca_rri, addi_form, andi_form, move_form, is_move, is_addi16sp, is_addi4spn, is_li, is_addi, short_rrr, short_rri, short_lui, short_jalr, short_ebreak, short_load, short_store, IsAddi16spFirst, IsOwnForm}
 use Rattle.rv_code.specs.Operations.{decoded_jump, short_jump}
+use Rattle.rv_code.proofs.FormActs.{short_load_either, short_store_either}
 use Rattle.rv_emit.specs.Encoded.{WhereHalf}
 use Rattle.rv_emit.specs.declared.compressed.Encoded.{Encoded}
 use Rattle.rv_emit.specs.declared.compressed.Encoded.TheVariants.{Half, Word}
@@ -92,38 +91,20 @@ jalr_other flags rd base offset = chosen_other (form_jalr flags rd base offset) 
 pub ebreak_other : (flags : IsaFlags) → is_other (short_ebreak flags)
 ebreak_other flags = chosen_other (form_ebreak flags) (bare_form (Base Ebreak)) (where_other flags.has_zca (Base Ebreak) 0 0 0 (pos 0) refl) refl
 
-word_load_other : (op : LoadOP) (rd base : ℕ) (offset : ℤ) → AllOther (word_load_form op rd base offset)
-word_load_other op rd base offset =
-    if_other (base == sp) (form_where (not (rd == 0) && is_scaled (load_size op) 63 offset) (load_form (load_op op) rd base offset)) (if is_short rd && is_short base then form_where (is_scaled (load_size op) 31 offset) (load_form (load_op op) rd base offset) else None)
-    (where_other _ (Load (load_op op)) _ _ _ _ refl)
-    (if_other (is_short rd && is_short base) (form_where (is_scaled (load_size op) 31 offset) (load_form (load_op op) rd base offset)) None (where_other _ (Load (load_op op)) _ _ _ _ refl) tt)
-
-zca_load_other : (flags : IsaFlags) (op : LoadOP) (rd base : ℕ) (offset : ℤ) → AllOther (zca_load flags op rd base offset)
-zca_load_other flags loads.Lb rd base offset = tt
-zca_load_other flags loads.Lh rd base offset = where_other (flags.has_zcb && is_short rd && is_short base && is_scaled (load_size loads.Lh) 1 offset) (Load (load_op loads.Lh)) rd base 0 offset refl
-zca_load_other flags loads.Lw rd base offset = word_load_other loads.Lw rd base offset
-zca_load_other flags loads.Lbu rd base offset = where_other (flags.has_zcb && is_short rd && is_short base && is_scaled (load_size loads.Lbu) 3 offset) (Load (load_op loads.Lbu)) rd base 0 offset refl
-zca_load_other flags loads.Lhu rd base offset = where_other (flags.has_zcb && is_short rd && is_short base && is_scaled (load_size loads.Lhu) 1 offset) (Load (load_op loads.Lhu)) rd base 0 offset refl
-zca_load_other flags loads.Lwu rd base offset = tt
-zca_load_other flags loads.Ld rd base offset = word_load_other loads.Ld rd base offset
+-- a load or a store is none, of whichever file
+load_row_other : (format : Option FloatFormat) (op : LoadOp) → is_addi_op (load_of_format format op) ≡ false
+load_row_other None op = refl
+load_row_other (Some format) op = refl
 
 pub load_other : (flags : IsaFlags) (op : LoadOP) (rd base : ℕ) (offset : ℤ) → is_other (short_load flags op rd base offset)
-load_other flags op rd base offset = chosen_other (form_load flags op rd base offset) (decoded_load op rd base offset) (if_other flags.has_zca (zca_load flags op rd base offset) None (zca_load_other flags op rd base offset) tt) refl
+load_other flags op rd base offset = let other = load_row_other (load_format op) (load_op op) in short_load_either is_other flags op rd base offset other other
 
-word_store_other : (op : StoreOP) (base src : ℕ) (offset : ℤ) → AllOther (word_store_form op base src offset)
-word_store_other op base src offset =
-    if_other (base == sp) (form_where (is_scaled (store_size op) 63 offset) (store_form (store_op op) base src offset)) (if is_short src && is_short base then form_where (is_scaled (store_size op) 31 offset) (store_form (store_op op) base src offset) else None)
-    (where_other _ (Store (store_op op)) _ _ _ _ refl)
-    (if_other (is_short src && is_short base) (form_where (is_scaled (store_size op) 31 offset) (store_form (store_op op) base src offset)) None (where_other _ (Store (store_op op)) _ _ _ _ refl) tt)
-
-zca_store_other : (flags : IsaFlags) (op : StoreOP) (base src : ℕ) (offset : ℤ) → AllOther (zca_store flags op base src offset)
-zca_store_other flags stores.Sb base src offset = where_other (flags.has_zcb && is_short src && is_short base && is_scaled (store_size stores.Sb) 3 offset) (Store (store_op stores.Sb)) 0 base src offset refl
-zca_store_other flags stores.Sh base src offset = where_other (flags.has_zcb && is_short src && is_short base && is_scaled (store_size stores.Sh) 1 offset) (Store (store_op stores.Sh)) 0 base src offset refl
-zca_store_other flags stores.Sw base src offset = word_store_other stores.Sw base src offset
-zca_store_other flags stores.Sd base src offset = word_store_other stores.Sd base src offset
+store_row_other : (format : Option FloatFormat) (op : StoreOp) → is_addi_op (store_of_format format op) ≡ false
+store_row_other None op = refl
+store_row_other (Some format) op = refl
 
 pub store_other : (flags : IsaFlags) (op : StoreOP) (base src : ℕ) (offset : ℤ) → is_other (short_store flags op base src offset)
-store_other flags op base src offset = chosen_other (form_store flags op base src offset) (decoded_store op base src offset) (if_other flags.has_zca (zca_store flags op base src offset) None (zca_store_other flags op base src offset) tt) refl
+store_other flags op base src offset = let other = store_row_other (store_format op) (store_op op) in short_store_either is_other flags op base src offset other other
 
 pub jump_other : (flags : IsaFlags) (distance : ℤ) → is_other (short_jump flags distance)
 jump_other flags distance = by flags.has_zca

@@ -12,12 +12,13 @@ use Rattle.rv_base.specs.declared.flags.IsaFlags.{IsaFlags}
 use Rattle.rv_base.specs.declared.ir_type.IrType.{IrType}
 use Rattle.rv_base.specs.declared.regs.Reg.{Reg}
 use Rattle.rv_base.specs.Regs.{number_of}
-use Rattle.rv_ops.specs.Memory.{load_of}
 use Rattle.rv_ops.specs.declared.memory.LoadOP.{LoadOP}
 use Rattle.mach_buffer.specs.Buffer.{shape_of, bytes_of}
 use Rattle.mach_buffer.specs.Constants.{reserve_of}
 use Rattle.rv_inst.specs.Addresses.{Based}
-use Rattle.rv_inst.specs.Returns.{typed_loads, location_loads, result_loads}
+use Rattle.rv_base.specs.declared.ir_type.IrType.TheVariants.{I8, I16, I32, I64}
+use Rattle.rv_ops.specs.Memory.{load_of}
+use Rattle.rv_inst.specs.Returns.{typed_loads, location_loads, result_loads, result_load}
 use Rattle.rv_inst.specs.Rules.{is_on_stack, is_stacked}
 use Rattle.rv_inst.specs.Sizes.{results_space}
 use Rattle.rv_emit.specs.Emission.{PutsAlone, PutsParts}
@@ -49,7 +50,7 @@ stacked_counted = is_count_by stacked_in is_stacked refl (λ d defs. refl)
 -- a load for each result on the stack
 each_loads : (r : Reg) (location : RetLocation) (m n : ℕ) → IsFineResult r location → m ≡ n → length (location_loads r location) + m ≡ cond (is_on_stack location) (1 + n) n
 each_loads r (InReg s) m n fine rest = omega arith
-each_loads r (OnStack offset type) m n fine rest = let single = typed_one (number_of r) offset (load_of type) fine.1 in omega arith
+each_loads r (OnStack offset type) m n fine rest = let single = typed_one (number_of r) offset (result_load type) fine.1 in omega arith
 
 all_load : (defs : List CallRetPair) → AreFineResults defs → length (result_loads defs) ≡ stacked_in defs
 all_load [] h = refl
@@ -61,7 +62,7 @@ results_counted defs h = all_load defs h ∙ stacked_counted defs
 -- no more for some of the results
 one_few : (r : Reg) (location : RetLocation) (m n : ℕ) → m ≤ n → length (location_loads r location) + m ≤ cond (is_on_stack location) (1 + n) n
 one_few r (InReg s) m n le = omega arith
-one_few r (OnStack offset type) m n le = let few = typed_few (number_of r) offset (load_of type) in omega arith
+one_few r (OnStack offset type) m n le = let few = typed_few (number_of r) offset (result_load type) in omega arith
 
 front_few : (defs : List CallRetPair) (k : ℕ) → length (result_loads (take k defs)) ≤ stacked_in defs
 front_few [] zero = lit≤ tt
@@ -117,8 +118,16 @@ pub in_register : {flags : IsaFlags} (r : Reg) (location : RetLocation) (s : Reg
 in_register {flags} r location s old new is p = subst (λ l. PutsAlone flags (stack_load_slots flags (location_loads r l)) old new) (sym is) p
 
 -- one on the stack is, by its type
-pub on_stack : {flags : IsaFlags} (r : Reg) (location : RetLocation) (offset : ℕ) (type : IrType) (old new : Buffer) → location ≡ OnStack offset type → PutsAlone flags (stack_load_slots flags (typed_loads (number_of r) offset (load_of type))) old new → PutsAlone flags (stack_load_slots flags (location_loads r location)) old new
+pub on_stack : {flags : IsaFlags} (r : Reg) (location : RetLocation) (offset : ℕ) (type : IrType) (old new : Buffer) → location ≡ OnStack offset type → PutsAlone flags (stack_load_slots flags (typed_loads (number_of r) offset (result_load type))) old new → PutsAlone flags (stack_load_slots flags (location_loads r location)) old new
 on_stack {flags} r location offset type old new is p = subst (λ l. PutsAlone flags (stack_load_slots flags (location_loads r l)) old new) (sym is) p
+
+-- a result's load is that of its type
+pub typed_is : (type : IrType) → IsSome (result_load type) → result_load type ≡ load_of type
+typed_is I8 some = refl
+typed_is I16 some = refl
+typed_is I32 some = refl
+typed_is I64 some = refl
+typed_is _ some = absurd (cc)
 
 pub typed_put : {flags : IsaFlags} (register offset : ℕ) (op : LoadOP) (found : Option LoadOP) (old new : Buffer) → found ≡ Some op → PutsAlone flags (load_slots flags register op None (Based 2 (pos offset))) old new → PutsAlone flags (stack_load_slots flags (typed_loads register offset found)) old new
 typed_put {flags} register offset op found old new is p =

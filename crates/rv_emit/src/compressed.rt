@@ -3,7 +3,7 @@
 
 ghost use Rattle.std.specs.Prelude.{◌≡◌};
 ghost use Rattle.rv_base.specs.Regs.{number_of};
-ghost use Rattle.rv_encode.specs.Registers.{IsIntRegister};
+ghost use Rattle.rv_encode.specs.Registers.{IsIntRegister, IsRealRegister};
 ghost use Rattle.rv_inst.specs.Forms.{is_short, IsAddi16spFirst, short_rrr, short_rri, short_lui, short_jalr, short_ebreak, short_load, short_store};
 ghost use Rattle.rv_emit.specs.Encoded.{Holds, WhereHalf};
 
@@ -106,7 +106,7 @@ pub(crate) fn encoded_load(
     base: Reg,
     offset: Imm12,
 ) -> Encoded
-    requires rd { IsIntRegister rd.reg }
+    requires rd { IsRealRegister rd.reg }
     requires base { IsIntRegister base }
     ensures { Holds flags result (short_load flags op (number_of rd.reg) (number_of base) offset.value) }
 {
@@ -125,7 +125,7 @@ pub(crate) fn encoded_store(
     offset: Imm12,
 ) -> Encoded
     requires base { IsIntRegister base }
-    requires src { IsIntRegister src }
+    requires src { IsRealRegister src }
     ensures { Holds flags result (short_store flags op (number_of base) (number_of src) offset.value) }
 {
     match compressed_store(flags, op, base, src, offset) {

@@ -1,21 +1,25 @@
-//! Forms of loads and stores: "Load and Store Instructions" of "C", and "Zcb". A form counts its offset in what it reads or writes.
+//! Forms of loads and stores: "Load and Store Instructions" of "C", "Zcb" and "Zcd". A form counts its offset in what it reads or
+//! writes.
 
 ghost use Rattle.std.specs.Prelude.{◌≡◌, ◌==◌, ◌&&◌, ◌*◌, ◌^◌, ◌-◌, ◌<◌, ◌≤◌, not, true, false, pos, MatchOption, IfSome};
 ghost use Rattle.rv_base.specs.declared.flags.IsaFlags.{IsaFlags as Flags};
 ghost use Rattle.rv_base.specs.Regs.{number_of};
+ghost use Rattle.rv_machine.specs.declared.ops.FloatFormat.TheVariants.{D};
 ghost use Rattle.rv_machine.specs.declared.ops.LoadOp.TheVariants.{Lw, Ld};
+ghost use Rattle.rv_machine.specs.declared.ops.MOp.TheVariants.{FloatLoad, FloatStore};
+ghost use Rattle.rv_machine.specs.Layout.{compressed};
 ghost use Rattle.rv_ops.specs.Memory.{load_size, store_size};
-ghost use Rattle.rv_encode.specs.Registers.{IsIntRegister, IsShortRegister};
+ghost use Rattle.rv_encode.specs.Registers.{IsIntRegister, IsRealRegister, IsShortRegister};
 ghost use Rattle.rv_encode.specs.Operations.{load_op, store_op};
 ghost use Rattle.rv_encode.specs.Compressed.{cl_load, cs_store};
-ghost use Rattle.rv_inst.specs.Forms.{sp, is_short, is_scaled, form_where, load_form, word_load_form, narrow_load_form, form_load, store_form, word_store_form, narrow_store_form, form_store};
+ghost use Rattle.rv_inst.specs.Forms.{sp, is_short, is_scaled, form_where, load_form, word_load_form, narrow_load_form, fld_form, form_load, store_form, word_store_form, narrow_store_form, fsd_form, form_store};
 ghost use Rattle.rv_emit.specs.Encoded.{IsForm, IsScaledBy, narrow_size, narrow_most, narrow_load, narrow_store};
 
 use crate::compressed::{number, reg_is_compressible};
 use rv_base::{IsaFlags, Reg, WritableReg};
 use rv_encode::{
-    encode_ci_sp_load, encode_cl_type, encode_cs_type, encode_css_type, encode_zcbmem_load,
-    encode_zcbmem_store,
+    encode_c_fld, encode_c_fldsp, encode_c_fsd, encode_c_fsdsp, encode_ci_sp_load, encode_cl_type,
+    encode_cs_type, encode_css_type, encode_zcbmem_load, encode_zcbmem_store,
 };
 use rv_imms::{Imm12, Uimm2, Uimm5, Uimm6};
 use rv_ops::{CiOp, ClOp, CsOp, CssOp, LoadOP, StoreOP, ZcbMemOp};
@@ -28,7 +32,7 @@ pub(crate) fn compressed_load(
     base: Reg,
     offset: Imm12,
 ) -> Option<u16>
-    requires rd { IsIntRegister rd.reg }
+    requires rd { IsRealRegister rd.reg }
     requires base { IsIntRegister base }
     ensures { IsForm flags result (form_load flags op (number_of rd.reg) (number_of base) offset.value) }
 {
@@ -43,6 +47,8 @@ pub(crate) fn compressed_load(
         LoadOP::Lhu => narrow_load(flags, ZcbMemOp::CLhu, rd, base, offset),
         LoadOP::Lwu => None,
         LoadOP::Ld => word_load(ClOp::CLd, rd, base, offset),
+        LoadOP::Flw => None,
+        LoadOP::Fld => float_load(flags, rd, base, offset),
     }
 }
 
@@ -55,7 +61,7 @@ pub(crate) fn compressed_store(
     offset: Imm12,
 ) -> Option<u16>
     requires base { IsIntRegister base }
-    requires src { IsIntRegister src }
+    requires src { IsRealRegister src }
     ensures { IsForm flags result (form_store flags op (number_of base) (number_of src) offset.value) }
 {
     if !flags.has_zca {
@@ -66,6 +72,8 @@ pub(crate) fn compressed_store(
         StoreOP::Sh => narrow_store(flags, ZcbMemOp::CSh, base, src, offset),
         StoreOP::Sw => word_store(CsOp::CSw, base, src, offset),
         StoreOP::Sd => word_store(CsOp::CSd, base, src, offset),
+        StoreOP::Fsw => None,
+        StoreOP::Fsd => float_store(flags, base, src, offset),
     }
 }
 
@@ -92,7 +100,7 @@ fn scaled(size: u16, most: u16, offset: Imm12) -> Option<u8>
 
 /// `c.lwsp` and `c.ldsp` from the stack pointer, else `c.lw` and `c.ld`.
 fn word_load(op: ClOp, rd: WritableReg, base: Reg, offset: Imm12) -> Option<u16>
-    requires rd { IsIntRegister rd.reg }
+    requires rd { IsRealRegister rd.reg }
     requires base { IsIntRegister base }
     ensures { (flags : Flags) → flags.has_zca ≡ true → IsForm flags result (word_load_form (cl_load op) (number_of rd.reg) (number_of base) offset.value) }
 {
@@ -106,7 +114,7 @@ fn word_load(op: ClOp, rd: WritableReg, base: Reg, offset: Imm12) -> Option<u16>
 }
 
 fn c_load_sp(op: ClOp, rd: WritableReg, offset: Imm12) -> Option<u16>
-    requires { IsIntRegister rd.reg }
+    requires { IsRealRegister rd.reg }
     ensures { (flags : Flags) → flags.has_zca ≡ true → IsForm flags result (form_where (not (number_of rd.reg == 0) && is_scaled (load_size (cl_load op)) 63 offset.value) (load_form (load_op (cl_load op)) (number_of rd.reg) sp offset.value)) }
 {
     if number(rd.reg) == 0 {
@@ -119,7 +127,7 @@ fn c_load_sp(op: ClOp, rd: WritableReg, offset: Imm12) -> Option<u16>
 }
 
 fn c_lwsp(rd: WritableReg, offset: Imm12) -> Option<u16>
-    requires rd { IsIntRegister rd.reg }
+    requires rd { IsRealRegister rd.reg }
     requires written { 0 < number_of rd.reg }
     ensures { (flags : Flags) → flags.has_zca ≡ true → IsForm flags result (form_where (is_scaled 4 63 offset.value) (load_form Lw (number_of rd.reg) sp offset.value)) }
 {
@@ -130,7 +138,7 @@ fn c_lwsp(rd: WritableReg, offset: Imm12) -> Option<u16>
 }
 
 fn c_ldsp(rd: WritableReg, offset: Imm12) -> Option<u16>
-    requires rd { IsIntRegister rd.reg }
+    requires rd { IsRealRegister rd.reg }
     requires written { 0 < number_of rd.reg }
     ensures { (flags : Flags) → flags.has_zca ≡ true → IsForm flags result (form_where (is_scaled 8 63 offset.value) (load_form Ld (number_of rd.reg) sp offset.value)) }
 {
@@ -158,7 +166,7 @@ fn c_load(op: ClOp, rd: WritableReg, base: Reg, offset: Imm12) -> Option<u16>
 /// `c.swsp` and `c.sdsp` to the stack pointer, else `c.sw` and `c.sd`.
 fn word_store(op: CsOp, base: Reg, src: Reg, offset: Imm12) -> Option<u16>
     requires base { IsIntRegister base }
-    requires src { IsIntRegister src }
+    requires src { IsRealRegister src }
     ensures { (flags : Flags) → flags.has_zca ≡ true → IsForm flags result (word_store_form (cs_store op) (number_of base) (number_of src) offset.value) }
 {
     if number(base) == 2 {
@@ -171,7 +179,7 @@ fn word_store(op: CsOp, base: Reg, src: Reg, offset: Imm12) -> Option<u16>
 }
 
 fn c_store_sp(op: CsOp, src: Reg, offset: Imm12) -> Option<u16>
-    requires { IsIntRegister src }
+    requires { IsRealRegister src }
     ensures { (flags : Flags) → flags.has_zca ≡ true → IsForm flags result (form_where (is_scaled (store_size (cs_store op)) 63 offset.value) (store_form (store_op (cs_store op)) sp (number_of src) offset.value)) }
 {
     let (to_sp, size) = match op {
@@ -199,6 +207,98 @@ fn c_store(op: CsOp, base: Reg, src: Reg, offset: Imm12) -> Option<u16>
     }
 }
 
+// ---- doublewords of floating-point registers, where Zcd is there
+
+/// `c.fldsp` from the stack pointer, else `c.fld`.
+fn float_load(flags: IsaFlags, rd: WritableReg, base: Reg, offset: Imm12) -> Option<u16>
+    requires rd { IsRealRegister rd.reg }
+    requires base { IsIntRegister base }
+    requires zca { flags.has_zca ≡ true }
+    ensures { IsForm flags result (fld_form flags (number_of rd.reg) (number_of base) offset.value) }
+{
+    if number(base) == 2 {
+        c_fldsp(flags, rd, offset)
+    } else if reg_is_compressible(rd.reg) && reg_is_compressible(base) {
+        c_fld(flags, rd, base, offset)
+    } else {
+        None
+    }
+}
+
+fn c_fldsp(flags: IsaFlags, rd: WritableReg, offset: Imm12) -> Option<u16>
+    requires rd { IsRealRegister rd.reg }
+    requires zca { flags.has_zca ≡ true }
+    ensures { IsForm flags result (form_where (flags.has_zcd && is_scaled 8 63 offset.value) (compressed (FloatLoad D) (number_of rd.reg) sp 0 offset.value)) }
+{
+    if !flags.has_zcd {
+        return None;
+    }
+    match scaled(8, 63, offset) {
+        Some(value) => Some(encode_c_fldsp(rd, Uimm6 { value })),
+        None => None,
+    }
+}
+
+fn c_fld(flags: IsaFlags, rd: WritableReg, base: Reg, offset: Imm12) -> Option<u16>
+    requires rd { IsShortRegister rd.reg }
+    requires base { IsShortRegister base }
+    requires zca { flags.has_zca ≡ true }
+    ensures { IsForm flags result (form_where (flags.has_zcd && is_scaled 8 31 offset.value) (compressed (FloatLoad D) (number_of rd.reg) (number_of base) 0 offset.value)) }
+{
+    if !flags.has_zcd {
+        return None;
+    }
+    match scaled(8, 31, offset) {
+        Some(value) => Some(encode_c_fld(rd, base, Uimm5 { value })),
+        None => None,
+    }
+}
+
+/// `c.fsdsp` to the stack pointer, else `c.fsd`.
+fn float_store(flags: IsaFlags, base: Reg, src: Reg, offset: Imm12) -> Option<u16>
+    requires base { IsIntRegister base }
+    requires src { IsRealRegister src }
+    requires zca { flags.has_zca ≡ true }
+    ensures { IsForm flags result (fsd_form flags (number_of base) (number_of src) offset.value) }
+{
+    if number(base) == 2 {
+        c_fsdsp(flags, src, offset)
+    } else if reg_is_compressible(src) && reg_is_compressible(base) {
+        c_fsd(flags, base, src, offset)
+    } else {
+        None
+    }
+}
+
+fn c_fsdsp(flags: IsaFlags, src: Reg, offset: Imm12) -> Option<u16>
+    requires src { IsRealRegister src }
+    requires zca { flags.has_zca ≡ true }
+    ensures { IsForm flags result (form_where (flags.has_zcd && is_scaled 8 63 offset.value) (compressed (FloatStore D) 0 sp (number_of src) offset.value)) }
+{
+    if !flags.has_zcd {
+        return None;
+    }
+    match scaled(8, 63, offset) {
+        Some(value) => Some(encode_c_fsdsp(src, Uimm6 { value })),
+        None => None,
+    }
+}
+
+fn c_fsd(flags: IsaFlags, base: Reg, src: Reg, offset: Imm12) -> Option<u16>
+    requires base { IsShortRegister base }
+    requires src { IsShortRegister src }
+    requires zca { flags.has_zca ≡ true }
+    ensures { IsForm flags result (form_where (flags.has_zcd && is_scaled 8 31 offset.value) (compressed (FloatStore D) 0 (number_of base) (number_of src) offset.value)) }
+{
+    if !flags.has_zcd {
+        return None;
+    }
+    match scaled(8, 31, offset) {
+        Some(value) => Some(encode_c_fsd(src, base, Uimm5 { value })),
+        None => None,
+    }
+}
+
 // ---- bytes and halfwords, where Zcb is there
 
 /// `c.lbu`, `c.lhu` and `c.lh`.
@@ -209,7 +309,7 @@ fn narrow_load(
     base: Reg,
     offset: Imm12,
 ) -> Option<u16>
-    requires rd { IsIntRegister rd.reg }
+    requires rd { IsRealRegister rd.reg }
     requires base { IsIntRegister base }
     requires zca { flags.has_zca ≡ true }
     ensures { IfSome (narrow_load op) (λ load. IsForm flags result (narrow_load_form flags (narrow_most op) load (number_of rd.reg) (number_of base) offset.value)) }
@@ -226,7 +326,7 @@ fn narrow_load(
 /// `c.sb` and `c.sh`.
 fn narrow_store(flags: IsaFlags, op: ZcbMemOp, base: Reg, src: Reg, offset: Imm12) -> Option<u16>
     requires base { IsIntRegister base }
-    requires src { IsIntRegister src }
+    requires src { IsRealRegister src }
     requires zca { flags.has_zca ≡ true }
     ensures { IfSome (narrow_store op) (λ store. IsForm flags result (narrow_store_form flags (narrow_most op) store (number_of base) (number_of src) offset.value)) }
 {

@@ -1,23 +1,23 @@
 //! Loads, stores and addresses.
 
-ghost use Rattle.std.specs.Prelude.{◌≡◌, [], ◌∷◌, ◌++◌, ◌+◌, ◌^◌, ◌<◌, length, pos, OnOk, OnErr, IfOk, true};
+ghost use Rattle.std.specs.Prelude.{◌≡◌, [], ◌∷◌, ◌++◌, ◌+◌, ◌^◌, ◌<◌, length, pos, OnOk, OnErr, IfOk, true, false};
 ghost use Rattle.rv_base.specs.declared.flags.IsaFlags.{IsaFlags};
 ghost use Rattle.rv_base.specs.Frame.{sp_to_args_end};
 ghost use Rattle.rv_base.specs.LabelUse.{code_limit};
 ghost use Rattle.rv_base.specs.Regs.{number_of};
 ghost use Rattle.mach_buffer.specs.Buffer.{shape_of, bytes_of, registered_of, spoiled_of};
 ghost use Rattle.mach_buffer.specs.Shape.{IsUsable};
-ghost use Rattle.rv_machine.specs.Opcodes.{LOAD, OP_IMM};
-ghost use Rattle.rv_ops.specs.Memory.{load_funct3};
+ghost use Rattle.rv_machine.specs.Opcodes.{OP_IMM};
+ghost use Rattle.rv_ops.specs.Memory.{is_float_load, load_funct3, load_opcode};
 ghost use Rattle.rv_encode.specs.Layouts.{IsIType};
 ghost use Rattle.rv_encode.specs.Operations.{decoded_load, decoded_store};
-ghost use Rattle.rv_encode.specs.Registers.{IsIntRegister};
+ghost use Rattle.rv_encode.specs.Registers.{IsIntRegister, IsRealRegister};
 ghost use Rattle.rv_ops.specs.declared.alu.AluOPRRR.TheVariants.{Add};
 ghost use Rattle.rv_inst.specs.Forms.{short_load, short_rrr, short_store};
 ghost use Rattle.rv_inst.specs.Addresses.{Based, AtLabel, location_of};
 ghost use Rattle.rv_emit.specs.Emission.{PutsAlone};
 ghost use Rattle.rv_emit.specs.Emitted.{IsSoundBuffer};
-ghost use Rattle.rv_code.specs.InstParts.{access_slots, address_slots, far_store_slots, immediate_slots, labelled, load_slots, lower_slots, naming_slots, offset_slots, store_slots, upper_at};
+ghost use Rattle.rv_code.specs.InstParts.{access_slots, address_slots, far_store_slots, immediate_slots, label_base, label_load_slots, labelled, load_slots, lower_slots, naming_slots, offset_slots, store_slots, upper_at};
 ghost use Rattle.rv_emit.specs.Places.{location_at, IsFinePlace};
 ghost use Rattle.rv_code.specs.Slots.{Op};
 ghost use Rattle.rv_code.specs.Usable.{IsFineAddress};
@@ -74,7 +74,7 @@ pub(crate) fn resolved_address(
     }
 }
 
-/// A load: of a place far from its register by x31, of a label by `rd`.
+/// A load: of a place far from its register by x31, of a label by `rd`, or by x31 where that is a floating-point register.
 pub(crate) fn put_load(
     sink: &mut MachBuffer<LabelUse>,
     flags: IsaFlags,
@@ -83,7 +83,8 @@ pub(crate) fn put_load(
     trap: Option<TrapCode>,
     place: Place,
 ) -> Result<(), OutOfMemory>
-    requires rd { IsIntRegister rd.reg }
+    requires rd { IsRealRegister rd.reg }
+    requires base { is_float_load op ≡ false → IsIntRegister rd.reg }
     requires fine { IsFinePlace (shape_of sink.old) place }
     requires room { length (bytes_of sink.old) + 28 < code_limit }
     requires sound { IsSoundBuffer sink.old }
@@ -92,7 +93,7 @@ pub(crate) fn put_load(
 {
     match place {
         Place::Based(base, offset) => put_based_load(sink, flags, rd, op, trap, base, offset),
-        Place::AtLabel(label) => put_label_load(sink, rd, op, trap, label),
+        Place::AtLabel(label) => put_label_load(sink, label_base(op, rd), rd, op, trap, label),
     }
 }
 
@@ -105,7 +106,7 @@ fn put_based_load(
     base: Reg,
     offset: i64,
 ) -> Result<(), OutOfMemory>
-    requires rd { IsIntRegister rd.reg }
+    requires rd { IsRealRegister rd.reg }
     requires base { IsIntRegister base }
     requires room { length (bytes_of sink.old) + 28 < code_limit }
     requires sound { IsSoundBuffer sink.old }
@@ -128,7 +129,7 @@ fn put_near_load(
     base: Reg,
     offset: Imm12,
 ) -> Result<(), OutOfMemory>
-    requires rd { IsIntRegister rd.reg }
+    requires rd { IsRealRegister rd.reg }
     requires base { IsIntRegister base }
     requires room { length (bytes_of sink.old) + 4 < code_limit }
     requires sound { IsSoundBuffer sink.old }
@@ -150,7 +151,7 @@ fn put_far_load(
     base: Reg,
     offset: i64,
 ) -> Result<(), OutOfMemory>
-    requires rd { IsIntRegister rd.reg }
+    requires rd { IsRealRegister rd.reg }
     requires base { IsIntRegister base }
     requires room { length (bytes_of sink.old) + 28 < code_limit }
     requires sound { IsSoundBuffer sink.old }
@@ -169,7 +170,7 @@ fn put_spilled_load(
     op: LoadOP,
     trap: Option<TrapCode>,
 ) -> Result<(), OutOfMemory>
-    requires rd { IsIntRegister rd.reg }
+    requires rd { IsRealRegister rd.reg }
     requires room { length (bytes_of sink.old) + 4 < code_limit }
     requires sound { IsSoundBuffer sink.old }
     ensures slots { OnOk result ((flags : IsaFlags) → PutsAlone flags (access_slots trap ++ Op (decoded_load op (number_of rd.reg) 31 (pos 0)) ∷ []) sink.old sink.new) }
@@ -183,30 +184,46 @@ fn put_spilled_load(
 /// A load from a label: the lower part of its distance is in the load's word.
 fn put_label_load(
     sink: &mut MachBuffer<LabelUse>,
+    base: WritableReg,
     rd: WritableReg,
     op: LoadOP,
     trap: Option<TrapCode>,
     label: MachLabel,
 ) -> Result<(), OutOfMemory>
-    requires rd { IsIntRegister rd.reg }
+    requires base { IsIntRegister base.reg }
+    requires rd { IsRealRegister rd.reg }
     requires label { IsUsable (shape_of sink.old) label.number }
     requires room { length (bytes_of sink.old) + 8 < code_limit }
     requires sound { IsSoundBuffer sink.old }
-    ensures slots { OnOk result ((flags : IsaFlags) → PutsAlone flags (load_slots flags (number_of rd.reg) op trap (AtLabel label)) sink.old sink.new) }
+    ensures slots { OnOk result ((flags : IsaFlags) → PutsAlone flags (label_load_slots (number_of base.reg) (number_of rd.reg) op trap label) sink.old sink.new) }
     ensures refused { OnErr result (spoiled_of sink.new ≡ true) }
 {
-    put_upper(sink, rd, label)?;
+    put_upper(sink, base, label)?;
     put_access(sink, trap)?;
-    put_use(sink, load_word(op, rd), label, LabelUse::PCRelLo12I)?;
+    put_use(sink, load_word(op, rd, base.reg), label, LabelUse::PCRelLo12I)?;
     Ok(())
 }
 
-/// The word of a load into its own base, whose offset is still to come.
-pub(crate) fn load_word(op: LoadOP, rd: WritableReg) -> u32
-    requires { IsIntRegister rd.reg }
-    ensures { IsIType result LOAD (number_of rd.reg) (load_funct3 op) (number_of rd.reg) 0 }
+/// The register in which a load from a label has the upper part of its distance.
+fn label_base(op: LoadOP, rd: WritableReg) -> WritableReg
+    requires { is_float_load op ≡ false → IsIntRegister rd.reg }
+    ensures register { IsIntRegister result.reg }
+    ensures number { number_of result.reg ≡ label_base op (number_of rd.reg) }
 {
-    encode_i_type(op.op_code(), rd, op.funct3(), rd.reg, Imm12::ZERO)
+    if op.is_float() {
+        writable_spilltmp_reg()
+    } else {
+        rd
+    }
+}
+
+/// The word of a load whose offset is still to come.
+pub(crate) fn load_word(op: LoadOP, rd: WritableReg, base: Reg) -> u32
+    requires rd { IsRealRegister rd.reg }
+    requires base { IsIntRegister base }
+    ensures { IsIType result (load_opcode op) (number_of rd.reg) (load_funct3 op) (number_of base) 0 }
+{
+    encode_i_type(op.op_code(), rd, op.funct3(), base, Imm12::ZERO)
 }
 
 /// A store: to a place far from its register, or to a label, by x31.
@@ -218,7 +235,7 @@ pub(crate) fn put_store(
     trap: Option<TrapCode>,
     place: Place,
 ) -> Result<(), OutOfMemory>
-    requires src { IsIntRegister src }
+    requires src { IsRealRegister src }
     requires fine { IsFinePlace (shape_of sink.old) place }
     requires room { length (bytes_of sink.old) + 28 < code_limit }
     requires sound { IsSoundBuffer sink.old }
@@ -240,7 +257,7 @@ fn put_based_store(
     base: Reg,
     offset: i64,
 ) -> Result<(), OutOfMemory>
-    requires src { IsIntRegister src }
+    requires src { IsRealRegister src }
     requires base { IsIntRegister base }
     requires room { length (bytes_of sink.old) + 28 < code_limit }
     requires sound { IsSoundBuffer sink.old }
@@ -263,7 +280,7 @@ fn put_near_store(
     base: Reg,
     offset: Imm12,
 ) -> Result<(), OutOfMemory>
-    requires src { IsIntRegister src }
+    requires src { IsRealRegister src }
     requires base { IsIntRegister base }
     requires room { length (bytes_of sink.old) + 4 < code_limit }
     requires sound { IsSoundBuffer sink.old }
@@ -284,7 +301,7 @@ fn put_far_store(
     trap: Option<TrapCode>,
     place: Place,
 ) -> Result<(), OutOfMemory>
-    requires src { IsIntRegister src }
+    requires src { IsRealRegister src }
     requires fine { IsFinePlace (shape_of sink.old) place }
     requires room { length (bytes_of sink.old) + 28 < code_limit }
     requires sound { IsSoundBuffer sink.old }
@@ -303,7 +320,7 @@ fn put_spilled_store(
     src: Reg,
     trap: Option<TrapCode>,
 ) -> Result<(), OutOfMemory>
-    requires src { IsIntRegister src }
+    requires src { IsRealRegister src }
     requires room { length (bytes_of sink.old) + 4 < code_limit }
     requires sound { IsSoundBuffer sink.old }
     ensures slots { OnOk result ((flags : IsaFlags) → PutsAlone flags (access_slots trap ++ Op (decoded_store op 31 (number_of src) (pos 0)) ∷ []) sink.old sink.new) }

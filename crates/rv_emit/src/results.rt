@@ -3,13 +3,12 @@
 ghost use Rattle.std.specs.Prelude.{◌≡◌, ◌∷◌, ◌++◌, [], ◌+◌, ◌*◌, ◌^◌, ◌<◌, length, count_by, OnOk, OnErr, IsSome, true};
 ghost use Rattle.rv_base.specs.LabelUse.{code_limit};
 ghost use Rattle.rv_base.specs.Regs.{number_of};
-ghost use Rattle.rv_ops.specs.Memory.{load_of};
 ghost use Rattle.rv_encode.specs.Registers.{IsIntRegister};
 ghost use Rattle.mach_buffer.specs.Buffer.{shape_of, bytes_of, allocated_of, spoiled_of};
 ghost use Rattle.mach_buffer.specs.Constants.{reserve_of};
 ghost use Rattle.mach_uses.specs.Reach.{CanReach};
 ghost use Rattle.mach_uses.specs.Labels.{inner_count};
-ghost use Rattle.rv_inst.specs.Returns.{location_loads, result_loads, typed_loads};
+ghost use Rattle.rv_inst.specs.Returns.{location_loads, result_load, result_loads, typed_loads};
 ghost use Rattle.rv_inst.specs.Rules.{is_on_stack, is_stacked};
 ghost use Rattle.rv_inst.specs.Sizes.{results_space};
 ghost use Rattle.rv_emit.specs.Emission.{PutsAlone, PutsParts};
@@ -119,10 +118,10 @@ fn put_typed(
     ty: IrType,
 ) -> Result<(), OutOfMemory>
     requires rd { IsIntRegister rd.reg }
-    requires typed { IsSome (load_of ty) }
+    requires typed { IsSome (result_load ty) }
     requires room { length (bytes_of sink.old) + 28 < code_limit }
     requires sound { IsSoundBuffer sink.old }
-    ensures slots { OnOk result (PutsAlone flags (stack_load_slots flags (typed_loads (number_of rd.reg) offset (load_of ty))) sink.old sink.new) }
+    ensures slots { OnOk result (PutsAlone flags (stack_load_slots flags (typed_loads (number_of rd.reg) offset (result_load ty))) sink.old sink.new) }
     ensures refused { OnErr result (spoiled_of sink.new ≡ true) }
 {
     put_stack_load(sink, flags, rd, LoadOP::from_type(ty), i64::from(offset))

@@ -5,7 +5,7 @@ ghost use Rattle.rv_base.specs.declared.flags.IsaFlags.{IsaFlags};
 ghost use Rattle.rv_machine.specs.declared.decoding.Decoded.{Decoded};
 ghost use Rattle.rv_base.specs.LabelUse.{code_limit};
 ghost use Rattle.rv_base.specs.Regs.{number_of};
-ghost use Rattle.rv_encode.specs.Registers.{IsIntRegister};
+ghost use Rattle.rv_encode.specs.Registers.{IsIntRegister, IsRealRegister};
 ghost use Rattle.rv_encode.specs.Layouts.{IsEven};
 ghost use Rattle.rv_inst.specs.Forms.{IsOwnForm, jump_size, short_rrr, short_rri, short_lui, short_jalr, short_ebreak, short_load, short_store};
 ghost use Rattle.mach_buffer.specs.Buffer.{bytes_of, spoiled_of};
@@ -178,7 +178,7 @@ pub(crate) fn put_load_word(
     base: Reg,
     offset: Imm12,
 ) -> Result<(), OutOfMemory>
-    requires rd { IsIntRegister rd.reg }
+    requires rd { IsRealRegister rd.reg }
     requires base { IsIntRegister base }
     requires room { length (bytes_of sink.old) + 4 < code_limit }
     requires sound { IsSoundBuffer sink.old }
@@ -198,7 +198,7 @@ pub(crate) fn put_store_word(
     offset: Imm12,
 ) -> Result<(), OutOfMemory>
     requires base { IsIntRegister base }
-    requires src { IsIntRegister src }
+    requires src { IsRealRegister src }
     requires room { length (bytes_of sink.old) + 4 < code_limit }
     requires sound { IsSoundBuffer sink.old }
     ensures slots { OnOk result (PutsAlone flags (Op (short_store flags op (number_of base) (number_of src) offset.value) ∷ []) sink.old sink.new) }

@@ -39,7 +39,7 @@ pub(crate) fn put_slot_load(
     ensures refused { OnErr result (spoiled_of sink.new ≡ true) }
 {
     let upper = enc_auipc(rd, Imm20::ZERO);
-    let lower = load_word(LoadOP::Ld, rd);
+    let lower = load_word(LoadOP::Ld, rd, rd.reg);
     put_pair(sink, Reloc::RiscvGotHi20, name, 0, upper, lower)?;
     Ok(())
 }

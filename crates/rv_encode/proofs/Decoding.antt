@@ -12,25 +12,22 @@ use Rattle.rv_ops.specs.declared.alu.AluOPRRR.TheVariants as rrr
 use Rattle.rv_ops.specs.declared.alu.AluOPRRI.{AluOPRRI}
 use Rattle.rv_ops.specs.declared.alu.AluOPRRI.TheVariants as rri
 use Rattle.rv_ops.specs.declared.compare.IntegerCompare.{IntegerCompare}
-use Rattle.rv_ops.specs.declared.memory.LoadOP.{LoadOP}
-use Rattle.rv_ops.specs.declared.memory.StoreOP.{StoreOP}
 use Rattle.rv_ops.specs.Alu.{rrr_numbers, rri_numbers, imm12_of}
 use Rattle.rv_ops.specs.Compare.{funct3_of, branch_of, rs1_of, rs2_of}
-use Rattle.rv_ops.specs.Memory.{load_funct3, store_funct3}
 use Rattle.rv_ops.specs.Operations.{is_exchanged}
 use Rattle.rv_machine.specs.declared.decoding.Decoded.{Decoded}
-use Rattle.rv_machine.specs.declared.ops.MOp.TheVariants.{Base, Load, Store}
+use Rattle.rv_machine.specs.declared.ops.MOp.TheVariants.{Base}
 use Rattle.rv_machine.specs.declared.ops.BaseOp.TheVariants as base
 use Rattle.rv_machine.specs.State.{signed}
-use Rattle.rv_machine.specs.Opcodes.{LUI, AUIPC, JAL, JALR, BRANCH, LOAD, STORE, SYSTEM}
-use Rattle.rv_machine.specs.Layout.{word_opcode, i_bits, i_imm, s_imm, b_imm, u_bits, u_imm, j_imm, bare_form}
-use Rattle.rv_machine.specs.Tables.{branch_entry, load_entry, store_entry}
+use Rattle.rv_machine.specs.Opcodes.{LUI, AUIPC, JAL, JALR, BRANCH, SYSTEM}
+use Rattle.rv_machine.specs.Layout.{word_opcode, i_bits, i_imm, b_imm, u_bits, u_imm, j_imm, bare_form}
+use Rattle.rv_machine.specs.Tables.{branch_entry}
 use Rattle.rv_machine.specs.Decode.{decode, int_by_opcode}
 use Rattle.rv_machine.proofs.DecodeLaws.{decode_integer, decode_wide}
-use Rattle.rv_encode.specs.Layouts.{IsRType, IsIType, IsSType, IsBType, IsUType, IsJType}
-use Rattle.rv_encode.specs.Operations.{decoded, decoded_rrr, decoded_rri, decoded_branch, decoded_load, decoded_store}
+use Rattle.rv_encode.specs.Layouts.{IsRType, IsIType, IsBType, IsUType, IsJType}
+use Rattle.rv_encode.specs.Operations.{decoded, decoded_rrr, decoded_rri, decoded_branch}
 use Rattle.rv_encode.proofs.Numbers.{signed-low_bits}
-use Rattle.rv_encode.proofs.Tables.{rrr_fields, rri_fields, branch_table, load_table, store_table}
+use Rattle.rv_encode.proofs.Tables.{rrr_fields, rri_fields, branch_table}
 
 -- a word whose opcode ends in two bits 1 is decoded by it
 pub opcode_decodes : {d : Decoded} (flags : IsaFlags) (w opcode : ℕ) → word_opcode w ≡ opcode → nat_eq (opcode % 4) 3 ≡ true → int_by_opcode opcode w ≡ Some d → decode flags w ≡ Some d
@@ -69,19 +66,6 @@ i_imm_is w imm h = ap (signed (2 ^ 11)) h ∙ signed-low_bits (2 ^ 11) imm.value
 pub jalr_decodes : (flags : IsaFlags) (w rd rs : ℕ) (imm : Imm12) → IsIType w JALR rd 0 rs (low_bits (2 ^ 12) imm.value) → decode flags w ≡ Some (decoded (Base base.Jalr) rd rs 0 imm.value)
 jalr_decodes flags w rd rs imm h =
     opcode_decodes flags w JALR h.opcode_is refl (λ i. if h.funct3_is i == 0 then Some (decoded (Base base.Jalr) (h.rd_is i) (h.rs1_is i) 0 (i_imm_is w imm h.imm_is i)) else None)
-
-pub load_decodes : (flags : IsaFlags) (op : LoadOP) (w rd rs : ℕ) (imm : Imm12) → IsIType w LOAD rd (load_funct3 op) rs (low_bits (2 ^ 12) imm.value) → decode flags w ≡ Some (decoded_load op rd rs imm.value)
-load_decodes flags op w rd rs imm h =
-    opcode_decodes flags w LOAD h.opcode_is refl
-    ((λ i. option_map (λ op. decoded (Load op) (h.rd_is i) (h.rs1_is i) 0 (i_imm_is w imm h.imm_is i)) (load_entry (h.funct3_is i)))
-    ∙ ap (option_map (λ op. decoded (Load op) rd rs 0 imm.value)) (load_table op))
-
-pub store_decodes : (flags : IsaFlags) (op : StoreOP) (w rs1 rs2 : ℕ) (imm : Imm12) → IsSType w STORE (store_funct3 op) rs1 rs2 (low_bits (2 ^ 12) imm.value) → decode flags w ≡ Some (decoded_store op rs1 rs2 imm.value)
-store_decodes flags op w rs1 rs2 imm h =
-    let value : s_imm w ≡ imm.value = ap (signed (2 ^ 11)) h.imm_is ∙ signed-low_bits (2 ^ 11) imm.value (omega (arith, ints)) (omega (arith, ints)) in
-    opcode_decodes flags w STORE h.opcode_is refl
-    ((λ i. option_map (λ op. decoded (Store op) 0 (h.rs1_is i) (h.rs2_is i) (value i)) (store_entry (h.funct3_is i)))
-    ∙ ap (option_map (λ op. decoded (Store op) 0 rs1 rs2 imm.value)) (store_table op))
 
 pub jal_decodes : (flags : IsaFlags) (w rd : ℕ) (d : ℤ) → d <ℤ pos (2 ^ 20) → neg_ℤ (pos (2 ^ 20)) ≤ℤ d → IsJType w JAL rd (low_bits (2 ^ 21) d) → decode flags w ≡ Some (decoded (Base base.Jal) rd 0 0 d)
 jal_decodes flags w rd d up low h =

@@ -8,23 +8,18 @@ use Rattle.rv_ops.specs.declared.alu.AluOPRRI.{AluOPRRI}
 use Rattle.rv_ops.specs.declared.alu.AluOPRRI.TheVariants as rri
 use Rattle.rv_ops.specs.declared.compare.BranchFunct3.{BranchFunct3}
 use Rattle.rv_ops.specs.declared.compare.BranchFunct3.TheVariants as branch
-use Rattle.rv_ops.specs.declared.memory.LoadOP.{LoadOP}
-use Rattle.rv_ops.specs.declared.memory.LoadOP.TheVariants as loads
-use Rattle.rv_ops.specs.declared.memory.StoreOP.{StoreOP}
-use Rattle.rv_ops.specs.declared.memory.StoreOP.TheVariants as stores
 use Rattle.rv_ops.specs.Alu.{rrr_numbers, rri_numbers, imm12_of}
 use Rattle.rv_ops.specs.Compare.{funct3_of}
-use Rattle.rv_ops.specs.Memory.{load_funct3, store_funct3}
 use Rattle.rv_ops.specs.Operations.{rrr_op}
 use Rattle.rv_machine.specs.declared.decoding.Decoded.{Decoded}
 use Rattle.rv_machine.specs.declared.ops.MOp.TheVariants.{Alu}
 use Rattle.rv_machine.specs.State.{signed}
 use Rattle.rv_machine.specs.Opcodes.{OP, OP_IMM, OP_IMM_32}
 use Rattle.rv_machine.specs.Layout.{bits, word_rd, word_funct3, word_rs1, word_rs2, word_funct6, word_funct7, word_funct12, unary_layout}
-use Rattle.rv_machine.specs.Tables.{branch_entry, load_entry, store_entry, imm_entry, imm_32_entry, shift_entry, unary_entry, long_shift_32_entry, shift_32_entry, unary_32_entry, op_entry, op_32_entry, unary_op_32_entry}
+use Rattle.rv_machine.specs.Tables.{branch_entry, imm_entry, imm_32_entry, shift_entry, unary_entry, long_shift_32_entry, shift_32_entry, unary_32_entry, op_entry, op_32_entry, unary_op_32_entry}
 use Rattle.rv_machine.specs.Decode.{or_else, int_by_opcode}
 use Rattle.rv_encode.specs.Layouts.{IsRType, IsIType}
-use Rattle.rv_encode.specs.Operations.{decoded, decoded_rri, branch_op, load_op, store_op}
+use Rattle.rv_encode.specs.Operations.{decoded, decoded_rri, branch_op}
 use Rattle.rv_encode.proofs.Numbers.{signed-low_bits, funct6_above, amount6_below, funct7_above, amount5_below, funct6_over}
 
 -- ---- operations of two registers
@@ -108,13 +103,3 @@ rri_fields _ w rd rs imm up low h = i_at w _ rd _ rs _ h
 pub branch_table : (op : BranchFunct3) → branch_entry (funct3_of op) ≡ Some (branch_op op)
 branch_table branch.Eq = refl
 branch_table _ = refl
-
--- ---- loads and stores
-
-pub load_table : (op : LoadOP) → load_entry (load_funct3 op) ≡ Some (load_op op)
-load_table loads.Lb = refl
-load_table _ = refl
-
-pub store_table : (op : StoreOP) → store_entry (store_funct3 op) ≡ Some (store_op op)
-store_table stores.Sb = refl
-store_table _ = refl

@@ -24,15 +24,18 @@ use Rattle.rv_ops.specs.Compare.{branch_of, rs1_of, rs2_of}
 use Rattle.rv_ops.specs.Operations.{is_exchanged, rrr_op, rri_op, immediate_of, kept_bits}
 use Rattle.rv_machine.specs.declared.decoding.Decoded.{Decoded}
 use Rattle.rv_machine.specs.declared.ops.MOp.{MOp}
-use Rattle.rv_machine.specs.declared.ops.MOp.TheVariants.{Base, Load, Store, Alu, Csr, Float}
+use Rattle.rv_machine.specs.declared.ops.MOp.TheVariants.{Base, Load, Store, Alu, Csr, FloatLoad, FloatStore, Float}
 use Rattle.rv_machine.specs.declared.ops.BaseOp.{BaseOp}
 use Rattle.rv_machine.specs.declared.ops.BaseOp.TheVariants as base
+use Rattle.rv_machine.specs.declared.ops.FloatFormat.{FloatFormat}
 use Rattle.rv_machine.specs.declared.ops.FloatOp.TheVariants as float
 use Rattle.rv_machine.specs.declared.ops.LoadOp.{LoadOp}
 use Rattle.rv_machine.specs.declared.ops.LoadOp.TheVariants as load
+use Rattle.rv_machine.specs.declared.ops.StoreOp.{StoreOp}
 use Rattle.rv_machine.specs.Opcodes.{JALR, LOAD, STORE, OP_IMM, OP_IMM_32, OP, OP_32}
 use Rattle.rv_machine.specs.Tables.{load_entry, store_entry, imm_entry, imm_32_entry, op_entry, op_32_entry}
 pub use Rattle.rv_machine.specs.Layout.{decoded, rounded}
+use Rattle.rv_ops.specs.Memory.{load_format, store_format}
 pub use Rattle.rv_ops.specs.Memory.{store_op}
 
 -- ---- by the fixed fields of a layout
@@ -68,6 +71,7 @@ decoded_rrr op rd rs1 rs2 = if is_exchanged op then decoded (Alu (rrr_op op)) rd
 abbrev pub decoded_rri : AluOPRRI → ℕ → ℕ → ℤ → Decoded
 decoded_rri op rd rs imm = decoded (Alu (rri_op op)) rd rs 0 (kept_bits (immediate_of op) imm)
 
+-- the machine's load of an integer register from the same bytes, zero-extended where a floating-point register is loaded
 abbrev pub load_op : LoadOP → LoadOp
 load_op loads.Lb = load.Lb
 load_op loads.Lh = load.Lh
@@ -76,14 +80,34 @@ load_op loads.Lbu = load.Lbu
 load_op loads.Lhu = load.Lhu
 load_op loads.Lwu = load.Lwu
 load_op loads.Ld = load.Ld
+load_op loads.Flw = load.Lwu
+load_op loads.Fld = load.Ld
+
+-- the load of an integer register, or that of a number of a format
+abbrev pub load_of_format : Option FloatFormat → LoadOp → MOp
+load_of_format None op = Load op
+load_of_format (Some format) op = FloatLoad format
+
+-- the machine's load
+abbrev pub load_row : LoadOP → MOp
+load_row op = load_of_format (load_format op) (load_op op)
+
+-- the store of an integer register, or that of a number of a format
+abbrev pub store_of_format : Option FloatFormat → StoreOp → MOp
+store_of_format None op = Store op
+store_of_format (Some format) op = FloatStore format
+
+-- the machine's store
+abbrev pub store_row : StoreOP → MOp
+store_row op = store_of_format (store_format op) (store_op op)
 
 -- a load into rd, from an offset past a base
 abbrev pub decoded_load : LoadOP → ℕ → ℕ → ℤ → Decoded
-decoded_load op rd base offset = decoded (Load (load_op op)) rd base 0 offset
+decoded_load op rd base offset = decoded (load_row op) rd base 0 offset
 
 -- a store of a register, to an offset past a base
 abbrev pub decoded_store : StoreOP → ℕ → ℕ → ℤ → Decoded
-decoded_store op base src offset = decoded (Store (store_op op)) 0 base src offset
+decoded_store op base src offset = decoded (store_row op) 0 base src offset
 
 abbrev pub branch_op : BranchFunct3 → BaseOp
 branch_op branch.Eq = base.Beq

@@ -3,7 +3,7 @@ use Rattle.std.proofs.Common.{◌≡◌, Bool, true, false, List, [], ◌∷◌,
 use Rattle.std.specs.Prelude.{◌||◌}
 use Rattle.std.specs.List.{list_any}
 use Rattle.rv_inst.specs.Context.{Context}
-use Rattle.rv_inst.specs.Core.{is_integer}
+use Rattle.rv_inst.specs.Core.{is_integer_family}
 use Rattle.rv_inst.specs.Families.{family_of}
 use Rattle.rv_inst.specs.Meaning.{Environment, Next, inst_exit}
 use Rattle.rv_machine.specs.State.{Values}
@@ -43,6 +43,6 @@ pub record IsUnit (inst : Inst) : Type 0 where
   pub temporaries : inst_temporaries inst ≡ []
   pub exit : (env : Environment) (v : Values) → inst_exit env inst v ≡ Next
 
-pub is_unit : (inst : Inst) → is_integer inst ≡ false → IsUnit inst
+pub is_unit : (inst : Inst) → is_integer_family (family_of inst) ≡ false → IsUnit inst
 is_unit Nop0 e = absurd (cc)
 is_unit inst e = record { word = given (unit_word inst) (cc); is = cc; family = cc; registers = cc; faults = cc; code = λ context. cc; temporaries = cc; exit = λ env v. cc }

@@ -1,5 +1,6 @@
 -- The registers, labels and constants that a line names, in the order of its fields, and where its call returns.
-use Rattle.std.specs.Prelude.{ℕ, true, false, List, [], ◌∷◌, ◌++◌, map, Option, Some, None, pos}
+use Rattle.std.specs.Prelude.{ℕ, Bool, true, false, List, [], ◌∷◌, ◌++◌, map, Option, Some, None, pos}
+use Rattle.std.specs.List.{list_any}
 use Rattle.std.proofs.Common.{refl}
 use Rattle.rv_base.specs.declared.amode.AMode.{AMode}
 use Rattle.rv_base.specs.AMode.{registers_of}
@@ -18,13 +19,15 @@ use Rattle.rv_base.specs.declared.flags.IsaFlags.{IsaFlags}
 use Rattle.rv_base.specs.declared.label.MachLabel.{MachLabel}
 use Rattle.rv_base.specs.declared.regs.Reg.{Reg}
 use Rattle.rv_base.specs.declared.regs.Reg.TheVariants.{Real}
+use Rattle.rv_base.specs.declared.regs.RegClass.{RegClass}
+use Rattle.rv_base.specs.declared.regs.RegClass.TheVariants.{Int, Float, Vector}
 use Rattle.rv_base.specs.declared.regs.Writable.{Writable}
-use Rattle.rv_base.specs.Regs.{number_of}
+use Rattle.rv_base.specs.Regs.{class_of, number_of}
 use Rattle.rv_base.specs.declared.unwind.UnwindInst.{UnwindInst}
 use Rattle.rv_base.specs.declared.unwind.UnwindInst.TheVariants.{PushFrameRegs, DefineNewFrame, StackAlloc, SaveReg}
 use Rattle.rv_base.specs.declared.value_regs.ValueRegs.{ValueRegs}
 use Rattle.rv_base.specs.declared.value_regs.ValueRegs.TheVariants.{One, Two}
-use Rattle.rv_ops.specs.Memory.{load_size}
+use Rattle.rv_ops.specs.Memory.{load_size, is_float_load, is_float_store}
 use Rattle.mach_uses.specs.Labels.{name_more}
 use Rattle.rv_inst.specs.Forms.{short_jalr}
 use Rattle.rv_inst.specs.Returns.{StackLoad, result_loads, loads_unless}
@@ -94,6 +97,15 @@ address_targets read (IncomingArg o) = Nowhere
 address_targets read (Const k) = RefersConstant k read
 address_targets read (LabelAt l) = Refers l
 
+-- whether a register is one of f0 to f31
+abbrev pub is_float_class : RegClass → Bool
+is_float_class Int = false
+is_float_class Float = true
+is_float_class Vector = false
+
+abbrev pub is_float : Reg → Bool
+is_float r = is_float_class (class_of r)
+
 -- so many bytes after the start of its line a call returns; then the stack pointer falls by so many, and results are loaded
 pub record Return : Type 0 where
   pub offset : ℕ
@@ -105,12 +117,14 @@ returns_at offset popped loads = Some (record { offset = offset; popped = popped
 
 -- What an instruction names: its registers; the labels, or the constant, by what it does with them; the labels of its table, the default
 -- first; and the numbers of its temporaries, beside x30 and x31, which may hold anything after it. Of a call: its results, where control
--- goes after one that ends its block, where one returns, by the flags, and the tail call that it is.
+-- goes after one that ends its block, where one returns, by the flags, and the tail call that it is. Of an instruction that moves values
+-- of any class: whether it moves one of a floating-point register.
 pub record Operands : Type 0 where
   pub registers : List Reg
   pub targets : Targets
   pub table : List MachLabel
   pub temporaries : List ℕ
+  pub floats : Bool
   pub results : List CallRetPair
   pub try_call : Option TryCallInfo
   pub returns : IsaFlags → Option Return
@@ -118,7 +132,7 @@ pub record Operands : Type 0 where
 
 -- these registers, and nothing else
 abbrev pub only : List Reg → Operands
-only registers = record { registers = registers; targets = Nowhere; table = []; temporaries = []; results = []; try_call = None; returns = λ flags. None; tail_call = None }
+only registers = record { registers = registers; targets = Nowhere; table = []; temporaries = []; floats = false; results = []; try_call = None; returns = λ flags. None; tail_call = None }
 
 -- a call returns after an auipc and a jalr, or after a jalr alone
 abbrev pub operands_of : Inst → Operands
@@ -137,12 +151,12 @@ operands_of (Auipc rd imm) = only (rd.reg ∷ [])
 operands_of (LoadInlineConst rd type imm) = only (rd.reg ∷ [])
 operands_of (AluRRR op rd rs1 rs2) = only (rd.reg ∷ rs1 ∷ rs2 ∷ [])
 operands_of (AluRRImm12 op rd rs imm) = only (rd.reg ∷ rs ∷ [])
-operands_of (Mov rd rm type) = only (rd.reg ∷ rm ∷ [])
+operands_of (Mov rd rm type) = record (only (rd.reg ∷ rm ∷ [])) { floats = is_float rd.reg }
 operands_of (MovFromPReg rd rm) = only (rd.reg ∷ Real rm ∷ [])
 operands_of (Extend rd rn signed from_bits to_bits) = only (rd.reg ∷ rn ∷ [])
-operands_of (Select info) = only (written_in info.dst ++ info.condition.rs1 ∷ info.condition.rs2 ∷ all_of info.x ++ all_of info.y)
-operands_of (Load rd op flags from) = record (only (rd.reg ∷ registers_of from)) { targets = address_targets (load_size op) from }
-operands_of (Store src op flags to) = record (only (src ∷ registers_of to)) { targets = address_targets 0 to }
+operands_of (Select info) = record (only (written_in info.dst ++ info.condition.rs1 ∷ info.condition.rs2 ∷ all_of info.x ++ all_of info.y)) { floats = list_any is_float (written_in info.dst ++ all_of info.x ++ all_of info.y) }
+operands_of (Load rd op flags from) = record (only (rd.reg ∷ registers_of from)) { targets = address_targets (load_size op) from; floats = is_float_load op }
+operands_of (Store src op flags to) = record (only (src ∷ registers_of to)) { targets = address_targets 0 to; floats = is_float_store op }
 operands_of (LoadAddr rd mem) = record (only (rd.reg ∷ registers_of mem)) { targets = address_targets 0 mem }
 operands_of (LabelAddress dst label) = record (only (dst.reg ∷ [])) { targets = Refers label }
 operands_of Ret = only []

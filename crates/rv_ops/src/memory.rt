@@ -1,8 +1,9 @@
 //! Loads and stores of integer registers (the manual's chapters "RV32I" and "RV64I Base Integer Instruction Set", "Load and
-//! Store Instructions").
+//! Store Instructions") and of floating-point registers (the chapters "F" and "D", "Single-Precision" and "Double-Precision Load
+//! and Store Instructions").
 
-use rv_base::IrType;
-use rv_machine::{LOAD, STORE};
+use rv_base::{IrType, RegClass};
+use rv_machine::{LOAD, LOAD_FP, STORE, STORE_FP};
 
 /// A load, by its mnemonic.
 #[derive(Clone, Copy, Debug, PartialEq, Eq)]
@@ -14,12 +15,13 @@ pub enum LoadOP {
     Lhu,
     Lwu,
     Ld,
+    Flw,
+    Fld,
 }
 
 impl LoadOP {
     ghost use Rattle.std.specs.Prelude.{◌≡◌, ◌<◌, ◌^◌, pos, Some, IsSome};
-    ghost use Rattle.rv_machine.specs.Opcodes.{LOAD};
-    ghost use Rattle.rv_ops.specs.Memory.{load_of, load_name, load_size, load_funct3};
+    ghost use Rattle.rv_ops.specs.Memory.{load_of, load_name, load_size, is_float_load, load_class, load_opcode, load_funct3};
 
     /// The mnemonic.
     pub fn op_name(self) -> &'static str
@@ -33,10 +35,13 @@ impl LoadOP {
             LoadOP::Lhu => "lhu",
             LoadOP::Lwu => "lwu",
             LoadOP::Ld => "ld",
+            LoadOP::Flw => "flw",
+            LoadOP::Fld => "fld",
         }
     }
 
-    /// The load of an integer of 8, 16, 32 or 64 bits, signed where it is narrower than a register.
+    /// The load of an integer of 8, 16, 32 or 64 bits, signed where it is narrower than a register, or of a floating-point number of
+    /// 32 or 64 bits.
     pub fn from_type(ty: IrType) -> LoadOP
         requires { IsSome (load_of ty) }
         ensures { load_of ty ≡ Some result }
@@ -45,6 +50,8 @@ impl LoadOP {
             IrType::I8 => LoadOP::Lb,
             IrType::I16 => LoadOP::Lh,
             IrType::I32 => LoadOP::Lw,
+            IrType::F32 => LoadOP::Flw,
+            IrType::F64 => LoadOP::Fld,
             _ => LoadOP::Ld,
         }
     }
@@ -56,16 +63,35 @@ impl LoadOP {
         match self {
             LoadOP::Lb | LoadOP::Lbu => 1,
             LoadOP::Lh | LoadOP::Lhu => 2,
-            LoadOP::Lw | LoadOP::Lwu => 4,
-            LoadOP::Ld => 8,
+            LoadOP::Lw | LoadOP::Lwu | LoadOP::Flw => 4,
+            LoadOP::Ld | LoadOP::Fld => 8,
         }
     }
 
-    /// Bits 6 to 0 of the word: LOAD.
-    pub fn op_code(self) -> u32
-        ensures { result ≡ LOAD }
+    /// Returns whether it loads a floating-point register.
+    pub fn is_float(self) -> bool
+        ensures { result ≡ is_float_load self }
     {
-        LOAD
+        matches!(self, LoadOP::Flw | LoadOP::Fld)
+    }
+
+    /// The file of the register that it loads.
+    pub fn class(self) -> RegClass
+        ensures { result ≡ load_class self }
+    {
+        if self.is_float() {
+            RegClass::Float
+        } else {
+            RegClass::Int
+        }
+    }
+
+    /// Bits 6 to 0 of the word: LOAD, or LOAD-FP.
+    pub fn op_code(self) -> u32
+        ensures value { result ≡ load_opcode self }
+        ensures width { result < 2 ^ 7 }
+    {
+        if self.is_float() { LOAD_FP } else { LOAD }
     }
 
     /// Bits 14 to 12 of the word.
@@ -76,8 +102,8 @@ impl LoadOP {
         match self {
             LoadOP::Lb => 0b000,
             LoadOP::Lh => 0b001,
-            LoadOP::Lw => 0b010,
-            LoadOP::Ld => 0b011,
+            LoadOP::Lw | LoadOP::Flw => 0b010,
+            LoadOP::Ld | LoadOP::Fld => 0b011,
             LoadOP::Lbu => 0b100,
             LoadOP::Lhu => 0b101,
             LoadOP::Lwu => 0b110,
@@ -92,12 +118,13 @@ pub enum StoreOP {
     Sh,
     Sw,
     Sd,
+    Fsw,
+    Fsd,
 }
 
 impl StoreOP {
     ghost use Rattle.std.specs.Prelude.{◌≡◌, ◌<◌, ◌^◌, pos, Some, IsSome};
-    ghost use Rattle.rv_machine.specs.Opcodes.{STORE};
-    ghost use Rattle.rv_ops.specs.Memory.{store_of, store_name, store_size, store_funct3};
+    ghost use Rattle.rv_ops.specs.Memory.{store_of, store_name, store_size, is_float_store, store_class, store_opcode, store_funct3};
 
     /// The mnemonic.
     pub fn op_name(self) -> &'static str
@@ -108,10 +135,12 @@ impl StoreOP {
             StoreOP::Sh => "sh",
             StoreOP::Sw => "sw",
             StoreOP::Sd => "sd",
+            StoreOP::Fsw => "fsw",
+            StoreOP::Fsd => "fsd",
         }
     }
 
-    /// The store of an integer of 8, 16, 32 or 64 bits.
+    /// The store of an integer of 8, 16, 32 or 64 bits, or of a floating-point number of 32 or 64 bits.
     pub fn from_type(ty: IrType) -> StoreOP
         requires { IsSome (store_of ty) }
         ensures { store_of ty ≡ Some result }
@@ -120,6 +149,8 @@ impl StoreOP {
             IrType::I8 => StoreOP::Sb,
             IrType::I16 => StoreOP::Sh,
             IrType::I32 => StoreOP::Sw,
+            IrType::F32 => StoreOP::Fsw,
+            IrType::F64 => StoreOP::Fsd,
             _ => StoreOP::Sd,
         }
     }
@@ -131,16 +162,35 @@ impl StoreOP {
         match self {
             StoreOP::Sb => 1,
             StoreOP::Sh => 2,
-            StoreOP::Sw => 4,
-            StoreOP::Sd => 8,
+            StoreOP::Sw | StoreOP::Fsw => 4,
+            StoreOP::Sd | StoreOP::Fsd => 8,
         }
     }
 
-    /// Bits 6 to 0 of the word: STORE.
-    pub fn op_code(self) -> u32
-        ensures { result ≡ STORE }
+    /// Returns whether it stores a floating-point register.
+    pub fn is_float(self) -> bool
+        ensures { result ≡ is_float_store self }
     {
-        STORE
+        matches!(self, StoreOP::Fsw | StoreOP::Fsd)
+    }
+
+    /// The file of the register that it stores.
+    pub fn class(self) -> RegClass
+        ensures { result ≡ store_class self }
+    {
+        if self.is_float() {
+            RegClass::Float
+        } else {
+            RegClass::Int
+        }
+    }
+
+    /// Bits 6 to 0 of the word: STORE, or STORE-FP.
+    pub fn op_code(self) -> u32
+        ensures value { result ≡ store_opcode self }
+        ensures width { result < 2 ^ 7 }
+    {
+        if self.is_float() { STORE_FP } else { STORE }
     }
 
     /// Bits 14 to 12 of the word.
@@ -151,8 +201,8 @@ impl StoreOP {
         match self {
             StoreOP::Sb => 0b000,
             StoreOP::Sh => 0b001,
-            StoreOP::Sw => 0b010,
-            StoreOP::Sd => 0b011,
+            StoreOP::Sw | StoreOP::Fsw => 0b010,
+            StoreOP::Sd | StoreOP::Fsd => 0b011,
         }
     }
 }

@@ -13,11 +13,11 @@ use Rattle.rv_base.specs.Flags.{no_flags}
 use Rattle.rv_emit.proofs.memory.put_label_load.Goals as goal
 
 pub put_access-requires : goal.put_access-requires
-put_access-requires c = record { sound = alone_sound (upper_at (number_of c.args.rd.reg) c.args.label ∷ []) c.args.sink.now c.put_upper.new.sink (c.in_ok-put_upper.ensures.slots no_flags) }
+put_access-requires c = record { sound = alone_sound (upper_at (number_of c.args.base.reg) c.args.label ∷ []) c.args.sink.now c.put_upper.new.sink (c.in_ok-put_upper.ensures.slots no_flags) }
 
 pub put_use-requires-clause-room : goal.put_use-requires-clause-room
 put_use-requires-clause-room c =
-    let l = alone_long (upper_at (number_of c.args.rd.reg) c.args.label ∷ []) c.args.sink.now c.put_upper.new.sink (c.in_ok-put_upper.ensures.slots no_flags) in
+    let l = alone_long (upper_at (number_of c.args.base.reg) c.args.label ∷ []) c.args.sink.now c.put_upper.new.sink (c.in_ok-put_upper.ensures.slots no_flags) in
     let m = longer (access_slots c.args.trap) c.put_upper.new.sink c.put_access.new.sink (access_short c.args.trap) (c.in_ok-put_access.ensures.slots no_flags) in
     let r = c.requires.room in omega arith
 
@@ -27,13 +27,14 @@ put_use-requires-clause-sound c = alone_sound (access_slots c.args.trap) c.put_u
 pub put_use-requires-clause-usable : goal.put_use-requires-clause-usable
 put_use-requires-clause-usable c =
     alone_usable (access_slots c.args.trap) c.put_upper.new.sink c.put_access.new.sink c.args.label.number (c.in_ok-put_access.ensures.slots no_flags)
-    (alone_usable (upper_at (number_of c.args.rd.reg) c.args.label ∷ []) c.args.sink.now c.put_upper.new.sink c.args.label.number (c.in_ok-put_upper.ensures.slots no_flags) c.requires.label)
+    (alone_usable (upper_at (number_of c.args.base.reg) c.args.label ∷ []) c.args.sink.now c.put_upper.new.sink c.args.label.number (c.in_ok-put_upper.ensures.slots no_flags) c.requires.label)
 
 pub returns-clause-slots : goal.returns-clause-slots
 returns-clause-slots c =
     let rd = number_of c.args.rd.reg in
+    let base = number_of c.args.base.reg in
     let w = c.load_word.result in
-    let aim = Aim PCRelLo12I (Label c.args.label) (λ d. decoded_load c.args.op rd rd (lower_of_distance d) ∷ []) in
-    λ flags. both_alone (upper_at (number_of c.args.rd.reg) c.args.label ∷ []) (access_slots c.args.trap ++ aim ∷ []) c.args.sink.now c.put_upper.new.sink c.put_use.new.sink tt (c.in_ok-put_upper.ensures.slots flags)
+    let aim = Aim PCRelLo12I (Label c.args.label) (λ d. decoded_load c.args.op rd base (lower_of_distance d) ∷ []) in
+    λ flags. both_alone (upper_at (number_of c.args.base.reg) c.args.label ∷ []) (access_slots c.args.trap ++ aim ∷ []) c.args.sink.now c.put_upper.new.sink c.put_use.new.sink tt (c.in_ok-put_upper.ensures.slots flags)
     (both_alone (access_slots c.args.trap) (aim ∷ []) c.put_upper.new.sink c.put_access.new.sink c.put_use.new.sink (access_short c.args.trap).plain (c.in_ok-put_access.ensures.slots flags)
-    (aim_put flags PCRelLo12I _ c.put_access.new.sink c.put_use.new.sink w c.args.label (load_patchable flags c.args.op w rd rd (omega arith) c.load_word.ensures) c.in_ok-put_use.ensures.added c.in_ok-put_use.ensures.sound))
+    (aim_put flags PCRelLo12I _ c.put_access.new.sink c.put_use.new.sink w c.args.label (load_patchable flags c.args.op w rd base (omega arith) c.load_word.ensures) c.in_ok-put_use.ensures.added c.in_ok-put_use.ensures.sound))

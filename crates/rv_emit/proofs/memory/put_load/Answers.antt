@@ -5,7 +5,7 @@ use Rattle.std.proofs.lemmas.Result.{on_ok_weaker}
 use Rattle.rv_base.specs.Regs.{number_of}
 use Rattle.rv_emit.specs.Emission.{PutsAlone}
 use Rattle.rv_emit.specs.Places.{location_at}
-use Rattle.rv_code.specs.InstParts.{load_slots}
+use Rattle.rv_code.specs.InstParts.{label_load_slots, load_slots}
 use Rattle.rv_emit.proofs.memory.put_load.Goals as goal
 
 pub returns-in-Based-clause-slots : goal.returns-in-Based-clause-slots
@@ -15,4 +15,6 @@ returns-in-Based-clause-slots c =
 
 pub returns-in-AtLabel-clause-slots : goal.returns-in-AtLabel-clause-slots
 returns-in-AtLabel-clause-slots c =
-    subst (λ place. OnOk c.put_label_load.result (PutsAlone c.args.flags (load_slots c.args.flags (number_of c.args.rd.reg) c.args.op c.args.trap (location_at place)) c.args.sink.now c.put_label_load.new.sink)) (sym c.in-AtLabel.is) (on_ok_weaker c.put_label_load.result (λ p. p c.args.flags) c.put_label_load.ensures.slots)
+    let rd = number_of c.args.rd.reg in
+    subst (λ place. OnOk c.put_label_load.result (PutsAlone c.args.flags (load_slots c.args.flags rd c.args.op c.args.trap (location_at place)) c.args.sink.now c.put_label_load.new.sink)) (sym c.in-AtLabel.is)
+    (on_ok_weaker c.put_label_load.result (λ p. subst (λ base. PutsAlone c.args.flags (label_load_slots base rd c.args.op c.args.trap c.in-AtLabel.label) c.args.sink.now c.put_label_load.new.sink) c.label_base.ensures.number (p c.args.flags)) c.put_label_load.ensures.slots)
