@@ -1,6 +1,6 @@
 -- A call whose results are of both files: it leaves the code as any call does, and from where it returns it runs on as it means on the
 -- machine with all units.
-use Rattle.std.proofs.Common.{◌≡◌, ℕ, ◌+◌, ◌^◌, ◌<◌, ◌≤◌, Bool, false, pos, List, length, Option, Some, None, refl, subst}
+use Rattle.std.proofs.Common.{◌≡◌, ℕ, ◌+◌, ◌^◌, ◌<◌, ◌≤◌, Bool, false, pos, List, [], length, Option, Some, None, refl, subst}
 use Rattle.std.proofs.lemmas.Option.{same_Some}
 use Rattle.rv_base.specs.LabelUse.{code_limit}
 use Rattle.rv_base.specs.Regs.{number_of}

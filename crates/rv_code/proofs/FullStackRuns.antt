@@ -2,6 +2,7 @@
 -- register is one exact row after them.
 use Rattle.std.proofs.Common.{◌≡◌, ℕ, ◌+◌, ◌%◌, ◌<◌, ◌≤◌, Bool, true, false, ℤ, pos, List, [], ◌∷◌, ◌++◌, length, Option, Some, None, arith, refl, sym, ap, subst, ◌∙◌, lit<}
 use Rattle.std.specs.Prelude.{if◌then◌else◌, is_some}
+use Rattle.std.proofs.lemmas.List.{append-nil}
 use Rattle.rv_base.specs.LabelUse.{code_limit}
 use Rattle.rv_base.specs.declared.flags.IsaFlags.{IsaFlags}
 use Rattle.rv_machine.specs.declared.ops.FloatFormat.{FloatFormat}
@@ -82,8 +83,29 @@ in_course k = record { here = k.here; is_state = k.is_state.state; values = k.in
 pub ends_by : {site : Site} {start after offset size : ℕ} {exit : Exit} {made : FullValues} {b : FullState} (c : FullComes site offset size made b) → ComesOut site start after exit [] made.ints c.state.state → FullEnds site start after exit [] made b
 ends_by c out = record { steps = c.steps; state = c.state; ran = c.ran; last = out; units = c.course.units; is_state = c.course.is_state; answers = c.answers; setting = c.setting }
 
-pub ends_at_once : {site : Site} {start after : ℕ} {exit : Exit} {v : FullValues} {b : FullState} {w : Values} → v.units ≡ b.units → IsFullState b → ComesOut site start after exit [] w b.state → FullEnds site start after exit [] (with_ints w v) b
-ends_at_once {site} {b = b} units full out = record { steps = 0; state = b; ran = fiter_none site.context.flags b; last = out; units = units; is_state = full; answers = refl; setting = refl }
+pub ends_at_once : {site : Site} {start after : ℕ} {exit : Exit} {b : FullState} {w : Values} (v : FullValues) → v.units ≡ b.units → IsFullState b → ComesOut site start after exit [] w b.state → FullEnds site start after exit [] (with_ints w v) b
+ends_at_once {site} {b = b} v units full out = record { steps = 0; state = b; ran = fiter_none site.context.flags b; last = out; units = units; is_state = full; answers = refl; setting = refl }
+
+-- ---- what loads leave
+
+-- an integer register that isn't among them keeps its value
+one_other : (l : StackLoad) (format : Option FloatFormat) (a n : ℕ) (v : FullValues) → IsOtherAs format n l.register → reg (loaded_as format l a v).ints n ≡ reg v.ints n
+one_other l None a n v other = reads_other v.ints l.register n (load_result (load_op l.op) v.ints.mem a) (λ e. other (sym e))
+one_other l (Some format) a n v other = refl
+
+pub full_other : (sp n : ℕ) (loads : List StackLoad) (v : FullValues) → AreOthersAs n loads → reg (full_loaded sp loads v).ints n ≡ reg v.ints n
+full_other sp n [] v others = refl
+full_other sp n (l ∷ loads) v others =
+    let a = wrap (sp + low64 l.offset) in
+    full_other sp n loads (loaded_as (load_format l.op) l a v) others.1 ∙ one_other l (load_format l.op) a n v others.0
+
+stack_other : (format : Option FloatFormat) (n : ℕ) → IsLoadableAs format n → IsOtherAs format 2 n
+stack_other None n h = h.apart
+stack_other (Some format) n h = tt
+
+pub stack_kept : (loads : List StackLoad) → AreStackLoads loads → AreOthersAs 2 loads
+stack_kept [] h = tt
+stack_kept (l ∷ loads) h = (stack_other (load_format l.op) l.register h.0, stack_kept loads h.1)
 
 -- ---- one load
 
@@ -95,7 +117,13 @@ load_even flags rd r op o = by (is_near o)
   where
     by : (near : Bool) → size_of (if near then Op (short_load flags op rd r o) ∷ [] else address_slots flags 31 (Based r o) ++ [] ++ Op (decoded_load op rd 31 (pos 0)) ∷ []) % 2 ≡ 0
     by true = let even = (load_sized flags op rd r o).even in omega arith
-    by false = let even = address_even flags 31 (Based r o) in let long = size_append (address_slots flags 31 (Based r o)) (Op (decoded_load op rd 31 (pos 0)) ∷ []) in omega arith
+    by false =
+        let far = address_slots flags 31 (Based r o) in
+        let own = Op (decoded_load op rd 31 (pos 0)) ∷ [] in
+        let even = address_even flags 31 (Based r o) in
+        let long : size_of (far ++ own) ≡ size_of far + 4 = size_append far own in
+        let whole : size_of (far ++ own) % 2 ≡ 0 = omega arith in
+        subst (λ xs. size_of (xs ++ own) % 2 ≡ 0) (sym (append-nil far)) whole
 
 -- where code is short enough for every distance in it, and labels are bound in it
 module _ {site : Site} (short : length site.bytes < code_limit) (labels : (label at : ℕ) → site.place label ≡ Some at → at ≤ length site.bytes) where
@@ -140,28 +168,7 @@ module _ {site : Site} (short : length site.bytes < code_limit) (labels : (label
   one_comes {v = v} {b} allocated l None is h stands k = integers_come v b k.units k.is_state (load_comes allocated l.register 2 l.op l.offset (ap is_some is) h.usable (lit< tt) stands (in_course k))
   one_comes allocated l (Some format) is h stands k = float_comes allocated l format is h stands k
 
-  -- ---- loads one after the other
-
-  -- an integer register that isn't among them keeps its value
-  one_other : (l : StackLoad) (format : Option FloatFormat) (a n : ℕ) (v : FullValues) → IsOtherAs format n l.register → reg (loaded_as format l a v).ints n ≡ reg v.ints n
-  one_other l None a n v other = reads_other v.ints l.register n (load_result (load_op l.op) v.ints.mem a) (λ e. other (sym e))
-  one_other l (Some format) a n v other = refl
-
-  pub full_other : (sp n : ℕ) (loads : List StackLoad) (v : FullValues) → AreOthersAs n loads → reg (full_loaded sp loads v).ints n ≡ reg v.ints n
-  full_other sp n [] v others = refl
-  full_other sp n (l ∷ loads) v others =
-      let a = wrap (sp + low64 l.offset) in
-      full_other sp n loads (loaded_as (load_format l.op) l a v) others.1 ∙ one_other l (load_format l.op) a n v others.0
-
-  stack_other : (format : Option FloatFormat) (n : ℕ) → IsLoadableAs format n → IsOtherAs format 2 n
-  stack_other None n h = h.apart
-  stack_other (Some format) n h = tt
-
-  pub stack_kept : (loads : List StackLoad) → AreStackLoads loads → AreOthersAs 2 loads
-  stack_kept [] h = tt
-  stack_kept (l ∷ loads) h = (stack_other (load_format l.op) l.register h.0, stack_kept loads h.1)
-
-  -- each counts from the same stack pointer
+  -- loads one after the other, each of which counts from the same stack pointer
   pub full_loads_come : {size : ℕ} (allocated sp : ℕ) (loads : List StackLoad) (offset : ℕ) (v : FullValues) (b : FullState) → AreStackLoads loads → reg v.ints 2 ≡ sp → StandsIn site allocated offset (stack_load_slots site.context.flags loads) → FullCourse site offset (size_of (stack_load_slots site.context.flags loads) + size) v b → FullComes site (offset + size_of (stack_load_slots site.context.flags loads)) size (full_loaded sp loads v) b
   full_loads_come {size} allocated sp [] offset v b h from stands k =
       let there : offset ≡ offset + 0 = omega arith in

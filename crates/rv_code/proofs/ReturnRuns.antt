@@ -232,7 +232,7 @@ pub return_call_runs : (site : Site) (setting : EmitVState) (info : ReturnCallIn
 return_call_runs site setting info core fine = record {
   run = λ start after s v e clear.
       let n = info.new_stack_arg_size in
-      let tail = record { stack_arg_size = n; by_register = false } in
+      let tail : TailCall = record { stack_arg_size = n; by_register = false } in
       let h = is_restorable site.context.frame tail fine in
       symbol_out info.dest (frame_leaves _ n (Notes event.CallSite ∷ call_to 0 31 info.dest ∷ []) h (integer_restores site.context.frame tail h core) e);
 }
@@ -242,7 +242,7 @@ return_call_ind_runs site setting info fifth core fine = record {
   run = λ start after s v e clear.
       let n = info.new_stack_arg_size in
       let frame = site.context.frame in
-      let tail = record { stack_arg_size = n; by_register = true } in
+      let tail : TailCall = record { stack_arg_size = n; by_register = true } in
       let h = is_restorable frame tail fine in
       let others = integers_other 5 (restores frame) (restores_none frame tail core) (t0_other frame n fine) in
       subst (λ m. ComesOut site start after (Leave (reg v m / 2 * 2)) [] (frame_left frame n v) s) (sym fifth)
