@@ -9,8 +9,9 @@ use Rattle.rv_machine.specs.State.{Memory, State, IsState, Values, AreValues, wr
 use Rattle.rv_machine.specs.Steps.{iter}
 use Rattle.rv_inst.specs.Operands.{Return, return_of}
 use Rattle.rv_base.specs.declared.flags.IsaFlags.{IsaFlags}
+use Rattle.rv_base.specs.declared.frame.FrameLayout.{FrameLayout}
 use Rattle.rv_inst.specs.Context.{context_of}
-use Rattle.rv_inst.specs.Core.{is_integer, is_integer_line}
+use Rattle.rv_inst.specs.Core.{is_integer, is_integer_in, is_integer_line}
 use Rattle.rv_inst.specs.declared.inst.Line.{Line}
 use Rattle.rv_inst.specs.declared.inst.Line.TheVariants.{Inst as Put, Bind}
 use Rattle.rv_inst.specs.declared.inst.Inst.{Inst}
@@ -92,7 +93,7 @@ pub record IsThreaded (job : Job) (code : Code) (known : Known) : Type 0 where
 -- ---- one line
 
 -- a line of the integer core runs as it means
-line_comes : (site : Site) (line : Line) (start after : ℕ) (s : State) (v : Values) → is_integer_line line ≡ true → length site.bytes < code_limit → ((label at : ℕ) → site.place label ≡ Some at → at ≤ length site.bytes) → LineIn site line start after → broken_rule site.context line ≡ None → is_stuck site.context.frame line ≡ false → AreOutside site.base (length site.bytes) (writes_of (environment site start after) line v) → IsPlacedAt site s.values.mem → s.pc ≡ wrap (site.base + start) → IsState s → AreValues v → Same v s.values → ComesOut site start after (exit_of (environment site start after) line v) (temporaries_of line) (effect_of (environment site start after) line v) s
+line_comes : (site : Site) (line : Line) (start after : ℕ) (s : State) (v : Values) → is_integer_line site.context.frame line ≡ true → length site.bytes < code_limit → ((label at : ℕ) → site.place label ≡ Some at → at ≤ length site.bytes) → LineIn site line start after → broken_rule site.context line ≡ None → is_stuck site.context.frame line ≡ false → AreOutside site.base (length site.bytes) (writes_of (environment site start after) line v) → IsPlacedAt site s.values.mem → s.pc ≡ wrap (site.base + start) → IsState s → AreValues v → Same v s.values → ComesOut site start after (exit_of (environment site start after) line v) (temporaries_of line) (effect_of (environment site start after) line v) s
 line_comes site (Put inst) start after s v core short labels h rule fit outside placed pc is_state are_values same = (inst_runs site h.setting inst core rule fit).run start after s v (record {
   even = h.even;
   within = h.within;
@@ -199,7 +200,7 @@ agrees job code known t base symbols slots mem i line e = record {
   slots_same = λ number. refl;
 }
 
-comes : (job : Job) (code : Code) (known : Known) → IsThreaded job code known → (base : ℕ) (symbols slots : Addresses) (i : ℕ) (line : Line) (s : State) (v : Values) → i < length job.lines → slice_get job.lines i ≡ Some line → is_integer_line line ≡ true → WritesOutside job code base symbols slots i line v → IsPlaced code base symbols slots s.values.mem → IsState s → AreValues v → s.pc ≡ address_of code base (At i) → Same v s.values → Comes job code base symbols slots (At i) v s
+comes : (job : Job) (code : Code) (known : Known) → IsThreaded job code known → (base : ℕ) (symbols slots : Addresses) (i : ℕ) (line : Line) (s : State) (v : Values) → i < length job.lines → slice_get job.lines i ≡ Some line → is_integer_line job.frame line ≡ true → WritesOutside job code base symbols slots i line v → IsPlaced code base symbols slots s.values.mem → IsState s → AreValues v → s.pc ≡ address_of code base (At i) → Same v s.values → Comes job code base symbols slots (At i) v s
 comes job code known t base symbols slots i line s v lt e core outside placed is_state are_values pc same =
     let mem = s.values.mem in
     let site = site_of job code known base symbols slots mem in
@@ -232,21 +233,21 @@ comes job code known t base symbols slots i line s v lt e core outside placed is
       placed = placed_again code base symbols slots mem (context_of job) known.place known.records r.state.values.mem r.placed t.fields placed;
     }
 
--- what returns is of the integer core
-returns_integer : (flags : IsaFlags) (inst : Inst) (r : Return) → return_of flags inst ≡ Some r → is_integer inst ≡ true
-returns_integer flags (Call info) r e = refl
-returns_integer flags (CallInd info) r e = refl
-returns_integer flags inst r e = absurd (cc)
+-- no tail call returns, so what returns restores no register
+pub returns_in : (flags : IsaFlags) (frame : FrameLayout) (inst : Inst) (r : Return) → return_of flags inst ≡ Some r → is_integer_in frame inst ≡ is_integer inst
+returns_in flags frame (Call info) r e = refl
+returns_in flags frame (CallInd info) r e = refl
+returns_in flags frame inst r e = absurd (cc)
 
 -- from where the call of a line returns it goes on to the next line
-resumes : (job : Job) (code : Code) (known : Known) → IsThreaded job code known → (base : ℕ) (symbols slots : Addresses) (i : ℕ) (inst : Inst) (r : Return) (s : State) (v : Values) → slice_get job.lines i ≡ Some (Put inst) → return_of job.flags inst ≡ Some r → IsPlaced code base symbols slots s.values.mem → IsState s → AreValues v → s.pc ≡ address_of code base (Returned i) → Same v s.values → Comes job code base symbols slots (Returned i) v s
-resumes job code known t base symbols slots i inst r s v e returned placed is_state are_values pc same =
+resumes : (job : Job) (code : Code) (known : Known) → IsThreaded job code known → (base : ℕ) (symbols slots : Addresses) (i : ℕ) (inst : Inst) (r : Return) (s : State) (v : Values) → slice_get job.lines i ≡ Some (Put inst) → is_integer inst ≡ true → return_of job.flags inst ≡ Some r → IsPlaced code base symbols slots s.values.mem → IsState s → AreValues v → s.pc ≡ address_of code base (Returned i) → Same v s.values → Comes job code base symbols slots (Returned i) v s
+resumes job code known t base symbols slots i inst r s v e core returned placed is_state are_values pc same =
     let mem = s.values.mem in
     let site = site_of job code known base symbols slots mem in
     let long = from_long mem base (length code.bytes) in
     let h = t.line base symbols slots mem placed i (Put inst) e in
     let from : return_at code.returns i ≡ start_of code.lines i + r.offset = ap (λ rs. return_at rs i) t.returns ∙ return_found job.flags code.lines i job.lines inst r e returned in
-    let out = (inst_resumes site h.setting inst r (t.ruled i (Put inst) e) returned).run (start_of code.lines i) (end_of code.lines i) s v (record {
+    let out = (inst_resumes site h.setting inst r core (t.ruled i (Put inst) e) returned).run (start_of code.lines i) (end_of code.lines i) s v (record {
       even = h.even;
       within = h.within;
       short = subst (λ n. n < code_limit) (sym long) t.short;
@@ -264,7 +265,7 @@ resumes job code known t base symbols slots i inst r s v e returned placed is_st
       point = ends.point;
       values = reached.state.values;
       state = reached.state;
-      line = record { index = i; line = Put inst; entry = AtReturn; at = refl; listed = e; core = returns_integer job.flags inst r returned; leads = ends.leads; effect = subst (λ w. SameBut [] w reached.state.values) (sym (ap (λ o. resumed_by o v) returned)) reached.same };
+      line = record { index = i; line = Put inst; entry = AtReturn; at = refl; listed = e; core = returns_in job.flags job.frame inst r returned ∙ core; leads = ends.leads; effect = subst (λ w. SameBut [] w reached.state.values) (sym (ap (λ o. resumed_by o v) returned)) reached.same };
       ran = reached.ran;
       moved = reached.moved;
       stands = reached.stands;
@@ -285,5 +286,5 @@ pub threaded_runs : (job : Job) (code : Code) (known : Known) → IsThreaded job
 threaded_runs job code known t = record {
   from = λ base symbols slots i line s v e core outside placed is_state are_values pc same.
       comes job code known t base symbols slots i line s v (slice_get_within job.lines i line e) e core outside placed is_state are_values pc same;
-  back = λ base symbols slots i inst r s v e returned placed is_state are_values pc same. resumes job code known t base symbols slots i inst r s v e returned placed is_state are_values pc same;
+  back = λ base symbols slots i inst r s v e core returned placed is_state are_values pc same. resumes job code known t base symbols slots i inst r s v e core returned placed is_state are_values pc same;
 }

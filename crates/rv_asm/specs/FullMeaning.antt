@@ -117,7 +117,7 @@ abbrev pub meaning_of : Entry → Line → FullMeaning
 meaning_of entry (Put inst) = meaning_by (family_of inst) entry inst
 meaning_of entry (Bind label) = of_integers entry (Bind label)
 
--- each line is of the integer core
-abbrev pub all_core : List Line → Bool
-all_core [] = true
-all_core (line ∷ lines) = is_integer_line line && all_core lines
+-- each line is of the integer core, in a frame
+abbrev pub all_core : FrameLayout → List Line → Bool
+all_core frame [] = true
+all_core frame (line ∷ lines) = is_integer_line frame line && all_core frame lines

@@ -171,7 +171,7 @@ begins (suc i) (Put inst) = false
 -- where a run may begin: at the first line, at one that binds a label, and where a call returns; and, where all lines are of the
 -- integer core, at each line
 abbrev pub IsEntry : Job → Point → Type 0
-IsEntry job (At i) = (line : Line) × (slice_get job.lines i ≡ Some line) × ((begins i line || all_core job.lines) ≡ true)
+IsEntry job (At i) = (line : Line) × (slice_get job.lines i ≡ Some line) × ((begins i line || all_core job.frame job.lines) ≡ true)
 IsEntry job (Returned i) = (inst : Inst) × (r : Return) × (slice_get job.lines i ≡ Some (Put inst)) × (return_of job.flags inst ≡ Some r)
 IsEntry job (Out a) = ⊥
 IsEntry job End = ⊥

@@ -44,7 +44,7 @@ EntryIsFirstLine = (job : Job) (code : Code) (base : ℕ) (symbols slots : Addre
 
 -- from the start of a line of the integer core that line runs, where it writes none of the code
 abbrev pub LinesRun : Type 0
-LinesRun = (job : Job) (code : Code) (base : ℕ) (symbols slots : Addresses) (i : ℕ) (line : Line) (s : State) → RunsAsListed job code → slice_get job.lines i ≡ Some line → is_integer_line line ≡ true → WritesOutside job code base symbols slots i line s.values → StandsAt code base symbols slots (At i) s → LineRan job code base symbols slots i line s
+LinesRun = (job : Job) (code : Code) (base : ℕ) (symbols slots : Addresses) (i : ℕ) (line : Line) (s : State) → RunsAsListed job code → slice_get job.lines i ≡ Some line → is_integer_line job.frame line ≡ true → WritesOutside job code base symbols slots i line s.values → StandsAt code base symbols slots (At i) s → LineRan job code base symbols slots i line s
 
 -- a run of no steps
 abbrev pub NothingRuns : Type 0

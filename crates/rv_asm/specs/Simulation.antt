@@ -91,7 +91,7 @@ pub record OneLine (job : Job) (code : Code) (base : ℕ) (symbols slots : Addre
   pub entry : Entry
   pub at : p ≡ entry_point entry index
   pub listed : slice_get job.lines index ≡ Some line
-  pub core : is_integer_line line ≡ true
+  pub core : is_integer_line job.frame line ≡ true
   pub leads : Leads job.lines code index (exit_from entry (environment_of job code base symbols slots index) line v) q
   pub effect : SameBut (temporaries_from entry line) (effect_from entry (environment_of job code base symbols slots index) line v) w
 
@@ -149,11 +149,11 @@ pub record Comes (job : Job) (code : Code) (base : ℕ) (symbols slots : Address
   pub placed : IsPlaced code base symbols slots state.values.mem
 
 -- The code runs as its job says: from the start of every line of the integer core, wherever the code is placed and its symbols are, and
--- from all values from which the line doesn't write on the code; and from where each call returns, with all values. What other lines
+-- from all values from which the line doesn't write on the code; and from where each call of the core returns, with all values. What other lines
 -- mean is said of the machine with all units.
 pub record RunsAsListed (job : Job) (code : Code) : Type 0 where
-  pub from : (base : ℕ) (symbols slots : Addresses) (i : ℕ) (line : Line) (s : State) (v : Values) → slice_get job.lines i ≡ Some line → is_integer_line line ≡ true → WritesOutside job code base symbols slots i line v → IsPlaced code base symbols slots s.values.mem → IsState s → AreValues v → s.pc ≡ address_of code base (At i) → Same v s.values → Comes job code base symbols slots (At i) v s
-  pub back : (base : ℕ) (symbols slots : Addresses) (i : ℕ) (inst : Inst) (r : Return) (s : State) (v : Values) → slice_get job.lines i ≡ Some (Put inst) → return_of job.flags inst ≡ Some r → IsPlaced code base symbols slots s.values.mem → IsState s → AreValues v → s.pc ≡ address_of code base (Returned i) → Same v s.values → Comes job code base symbols slots (Returned i) v s
+  pub from : (base : ℕ) (symbols slots : Addresses) (i : ℕ) (line : Line) (s : State) (v : Values) → slice_get job.lines i ≡ Some line → is_integer_line job.frame line ≡ true → WritesOutside job code base symbols slots i line v → IsPlaced code base symbols slots s.values.mem → IsState s → AreValues v → s.pc ≡ address_of code base (At i) → Same v s.values → Comes job code base symbols slots (At i) v s
+  pub back : (base : ℕ) (symbols slots : Addresses) (i : ℕ) (inst : Inst) (r : Return) (s : State) (v : Values) → slice_get job.lines i ≡ Some (Put inst) → is_integer inst ≡ true → return_of job.flags inst ≡ Some r → IsPlaced code base symbols slots s.values.mem → IsState s → AreValues v → s.pc ≡ address_of code base (Returned i) → Same v s.values → Comes job code base symbols slots (Returned i) v s
 
 -- Wherever the code is placed, the machine reads at the start of a line of the integer core of one machine word the operation that stands
 -- for it: in two bytes where the instruction has a form of sixteen bits, and then that form's own, else in four.

@@ -155,7 +155,7 @@ pub store_kept : (frame : FrameLayout) (to : AMode) (op : StoreOP) (flags : MemF
 store_kept frame to op flags src integer k = let a = store_access to op flags src k in (usable_int (store_class op) src to (stores_int op integer) a, usable_at frame to a.address)
 
 -- of any register
-number_low : (r : Reg) → is_virtual r ≡ false → number_of r < 32
+pub number_low : (r : Reg) → is_virtual r ≡ false → number_of r < 32
 number_low (Real p) e = p.in_file
 number_low (Virtual class index) e = absurd (cc)
 

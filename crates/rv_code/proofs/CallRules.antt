@@ -1,6 +1,6 @@
 -- What a call that breaks no rule gives: how far the stack pointer falls, and that its results on the stack can be loaded.
 use Rattle.std.proofs.Common.{◌≡◌, ◌≢◌, ℕ, ◌^◌, ◌<◌, Bool, true, false, List, [], ◌∷◌, Option, Some, None, arith, refl, ap, sym, subst, ◌∙◌}
-use Rattle.std.specs.Prelude.{nat_le, not, ◌&&◌, ◌==◌, IfSome, IsSome}
+use Rattle.std.specs.Prelude.{is_some, nat_le, not, ◌&&◌, ◌==◌, IfSome, IsSome}
 use Rattle.std.specs.List.{list_any}
 use Rattle.std.proofs.lemmas.Bool.{or_parts}
 use Rattle.std.proofs.lemmas.Bool.Decides.{nat_tests}
@@ -13,25 +13,27 @@ use Rattle.rv_base.specs.declared.call.TryCallInfo.{TryCallInfo}
 use Rattle.rv_base.specs.declared.constant.Constant.{Constant}
 use Rattle.rv_base.specs.declared.external_name.ExternalName.{ExternalName}
 use Rattle.rv_base.specs.declared.ir_type.IrType.{IrType}
-use Rattle.rv_base.specs.declared.ir_type.IrType.TheVariants.{I8, I16, I32, I64}
+use Rattle.rv_base.specs.declared.ir_type.IrType.TheVariants.{I8, I16, I32, I64, F32, F64}
 use Rattle.rv_base.specs.declared.regs.Reg.{Reg}
 use Rattle.rv_base.specs.declared.regs.Reg.TheVariants.{Real, Virtual as AVirtual}
 use Rattle.rv_base.specs.declared.regs.RegClass.{RegClass}
 use Rattle.rv_base.specs.declared.regs.RegClass.TheVariants.{Int, Float, Vector}
 use Rattle.rv_base.specs.Regs.{class_of, number_of}
 use Rattle.rv_ops.specs.declared.memory.LoadOP.{LoadOP}
-use Rattle.rv_encode.specs.Registers.{IsIntRegister}
+use Rattle.rv_ops.specs.Memory.{load_format}
+use Rattle.rv_encode.specs.Registers.{IsIntRegister, IsRealRegister}
 use Rattle.rv_inst.specs.Context.{Context}
 use Rattle.rv_inst.specs.Operands.{use_registers, def_registers, location_registers}
 use Rattle.rv_inst.specs.Returns.{StackLoad, typed_loads, location_loads, result_loads, loads_unless, result_load}
-use Rattle.rv_inst.specs.Rules.{is_int_class, same_class, differ_in_class, is_virtual, is_reserved, is_other_class, is_stack, is_int_type, class_for, is_outside, location_differs, is_on_stack, is_loaded_from, is_unloadable, is_into_stack, either_into, results_clash, inst_rule}
+use Rattle.rv_inst.specs.Rules.{is_int_class, same_class, differ_in_class, is_virtual, is_reserved, is_other_class, is_stack, class_for, is_outside, location_differs, is_on_stack, is_loaded_from, is_unloadable, is_into_stack, either_into, results_clash, inst_rule}
 use Rattle.rv_inst.specs.declared.inst.Inst.{Inst}
 use Rattle.rv_inst.specs.declared.inst.Inst.TheVariants.{Call, CallInd}
 use Rattle.rv_code.specs.Usable.{IsUsable, IsFine, IsFineTry, IsFineResult, AreFineResults}
 use Rattle.rv_code.proofs.Operands.{Keeps, keeps, is_usable, none_of_both, listed_try, call_usable}
 use Rattle.rv_code.proofs.ReturnRules.{of_both}
-use Rattle.rv_code.proofs.AccessRows.{IsIntegerLoad}
-use Rattle.rv_code.proofs.StackRuns.{IsStackLoad, AreLoadable}
+use Rattle.rv_code.proofs.StackRuns.{IsLoadable, IsLoadableAs, AreStackLoads}
+use Rattle.rv_code.proofs.AddressOperands.{number_low}
+use Rattle.rv_code.proofs.UnitRules.{is_real}
 
 below : (n : ℕ) → nat_le (2 ^ 31) n ≡ false → n < 2 ^ 31
 below n h = grind (arith, nat_tests)
@@ -40,17 +42,17 @@ below n h = grind (arith, nat_tests)
 
 -- what a result on the stack gives
 record IsResult (r : Reg) (type : IrType) : Type 0 where
-  usable : IsUsable r
-  apart : number_of r ≢ 2
+  real : IsRealRegister r
+  loadable : IfSome (result_load type) (λ op. IsLoadableAs (load_format op) (number_of r))
   typed : IsSome (result_load type)
 
--- its register has the class Int
+-- a register of the class Int
 int_class : (class : RegClass) → not (same_class class Int) ≡ false → not (is_int_class class) ≡ false
 int_class Int e = refl
 int_class Float e = absurd (cc)
 int_class Vector e = absurd (cc)
 
--- and isn't the stack pointer
+-- isn't the stack pointer
 not_stack : (r : Reg) → IsUsable r → is_stack r ≡ false → number_of r ≢ 2
 not_stack (Real p) u e same = from (is_int_class p.class) (ap is_int_class u.0) e
   where
@@ -59,36 +61,30 @@ not_stack (Real p) u e same = from (is_int_class p.class) (ap is_int_class u.0) 
     from false int other = absurd (cc)
 not_stack (AVirtual class index) u e same = absurd u.0
 
-in_integer : (r : Reg) (type : IrType) → IsSome (result_load type) → is_virtual r ≡ false → is_reserved r ≡ false → not (same_class (class_of r) Int) ≡ false → is_stack r ≡ false → IsResult r type
-in_integer r type typed real free class apart = let usable = is_usable r real (int_class (class_of r) class) free in record { usable = usable; apart = not_stack r usable apart; typed = typed }
+in_integer : (r : Reg) → is_virtual r ≡ false → is_reserved r ≡ false → not (same_class (class_of r) Int) ≡ false → is_stack r ≡ false → IsLoadable (number_of r)
+in_integer r real free class apart = let usable = is_usable r real (int_class (class_of r) class) free in record { usable = usable.1; apart = not_stack r usable apart }
 
-stacked : (r : Reg) (type : IrType) → is_virtual r ≡ false → is_reserved r ≡ false → is_outside (class_for type) (class_of r) ≡ false → not (is_int_type type) ≡ false → is_stack r ≡ false → IsResult r type
-stacked r I8 real free class type apart = in_integer r I8 refl real free class apart
-stacked r I16 real free class type apart = in_integer r I16 refl real free class apart
-stacked r I32 real free class type apart = in_integer r I32 refl real free class apart
-stacked r I64 real free class type apart = in_integer r I64 refl real free class apart
+stacked : (r : Reg) (type : IrType) → is_virtual r ≡ false → is_reserved r ≡ false → is_outside (class_for type) (class_of r) ≡ false → not (is_some (result_load type)) ≡ false → is_stack r ≡ false → IsResult r type
+stacked r I8 real free class type apart = record { real = is_real r real; loadable = in_integer r real free class apart; typed = refl }
+stacked r I16 real free class type apart = record { real = is_real r real; loadable = in_integer r real free class apart; typed = refl }
+stacked r I32 real free class type apart = record { real = is_real r real; loadable = in_integer r real free class apart; typed = refl }
+stacked r I64 real free class type apart = record { real = is_real r real; loadable = in_integer r real free class apart; typed = refl }
+stacked r F32 real free class type apart = record { real = is_real r real; loadable = number_low r real; typed = refl }
+stacked r F64 real free class type apart = record { real = is_real r real; loadable = number_low r real; typed = refl }
 stacked r _ real free class type apart = absurd (cc)
 
 -- by where it is
 located_fine : (r : Reg) (location : RetLocation) → is_virtual r ≡ false → is_reserved r ≡ false → location_differs r location ≡ false → (is_on_stack location && not (is_loaded_from location)) ≡ false → (is_on_stack location && is_stack r) ≡ false → IsFineResult r location
 located_fine r (InReg s) real free class type apart = tt
-located_fine r (OnStack offset t) real free class type apart = let h = stacked r t real free class type apart in (h.usable.0, h.typed)
+located_fine r (OnStack offset t) real free class type apart = let h = stacked r t real free class type apart in (h.real, h.typed)
 
--- which is a load of integers
-result_integer : (type : IrType) → IfSome (result_load type) IsIntegerLoad
-result_integer I8 = refl
-result_integer I16 = refl
-result_integer I32 = refl
-result_integer I64 = refl
-result_integer _ = tt
+typed_loadable : (register offset : ℕ) (op : Option LoadOP) → IfSome op (λ op. IsLoadableAs (load_format op) register) → AreStackLoads (typed_loads register offset op)
+typed_loadable register offset None h = tt
+typed_loadable register offset (Some op) h = (h, tt)
 
-typed_loadable : (register offset : ℕ) (op : Option LoadOP) → IfSome op IsIntegerLoad → register < 30 → register ≢ 2 → AreLoadable (typed_loads register offset op)
-typed_loadable register offset None integer usable apart = tt
-typed_loadable register offset (Some op) integer usable apart = (record { register = record { usable = usable; apart = apart }; integer = integer }, tt)
-
-located_loadable : (r : Reg) (location : RetLocation) → is_virtual r ≡ false → is_reserved r ≡ false → location_differs r location ≡ false → (is_on_stack location && not (is_loaded_from location)) ≡ false → (is_on_stack location && is_stack r) ≡ false → AreLoadable (location_loads r location)
+located_loadable : (r : Reg) (location : RetLocation) → is_virtual r ≡ false → is_reserved r ≡ false → location_differs r location ≡ false → (is_on_stack location && not (is_loaded_from location)) ≡ false → (is_on_stack location && is_stack r) ≡ false → AreStackLoads (location_loads r location)
 located_loadable r (InReg s) real free class type apart = tt
-located_loadable r (OnStack offset t) real free class type apart = let h = stacked r t real free class type apart in typed_loadable (number_of r) offset (result_load t) (result_integer t) h.usable.1 h.apart
+located_loadable r (OnStack offset t) real free class type apart = typed_loadable (number_of r) offset (result_load t) (stacked r t real free class type apart).loadable
 
 -- ---- all of them
 
@@ -135,11 +131,11 @@ all_fine : (defs : List CallRetPair) → AreKept defs → AreFineResults defs
 all_fine [] k = tt
 all_fine (d ∷ defs) k = let h = first_kept d defs k in (located_fine d.vreg.reg d.location h.real h.free h.placed h.typed h.apart, all_fine defs h.others)
 
-all_loadable : (defs : List CallRetPair) → AreKept defs → AreLoadable (result_loads defs)
+all_loadable : (defs : List CallRetPair) → AreKept defs → AreStackLoads (result_loads defs)
 all_loadable [] k = tt
 all_loadable (d ∷ defs) k =
     let h = first_kept d defs k in
-    of_both IsStackLoad (location_loads d.vreg.reg d.location) (result_loads defs) (located_loadable d.vreg.reg d.location h.real h.free h.placed h.typed h.apart) (all_loadable defs h.others)
+    of_both (λ (l : StackLoad). IsLoadableAs (load_format l.op) l.register) (location_loads d.vreg.reg d.location) (result_loads defs) (located_loadable d.vreg.reg d.location h.real h.free h.placed h.typed h.apart) (all_loadable defs h.others)
 
 -- ---- a call
 
@@ -147,7 +143,7 @@ all_loadable (d ∷ defs) k =
 pub record CallKept (popped : ℕ) (defs : List CallRetPair) : Type 0 where
   pub few : popped < 2 ^ 31
   pub results : AreFineResults defs
-  pub loadable : AreLoadable (result_loads defs)
+  pub loadable : AreStackLoads (result_loads defs)
 
 results_kept : (popped : ℕ) (defs : List CallRetPair) → popped < 2 ^ 31 → AreKept defs → CallKept popped defs
 results_kept popped defs few k = record { few = few; results = all_fine defs k; loadable = all_loadable defs k }
@@ -175,7 +171,7 @@ call_ind_kept info k =
     })
 
 -- those of a call that may be patched are none
-pub unless_loadable : (patchable : Bool) (defs : List CallRetPair) → AreLoadable (result_loads defs) → AreLoadable (loads_unless patchable defs)
+pub unless_loadable : (patchable : Bool) (defs : List CallRetPair) → AreStackLoads (result_loads defs) → AreStackLoads (loads_unless patchable defs)
 unless_loadable true defs h = tt
 unless_loadable false defs h = h
 

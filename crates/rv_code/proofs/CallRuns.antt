@@ -11,7 +11,8 @@ use Rattle.rv_base.specs.declared.external_name.ExternalName.{ExternalName}
 use Rattle.rv_base.specs.declared.regs.Reg.{Reg}
 use Rattle.rv_base.specs.Regs.{number_of}
 use Rattle.rv_machine.specs.State.{State, Values, reg, set_reg, wrap, low64, at}
-use Rattle.rv_inst.specs.Operands.{Return, return_of}
+use Rattle.rv_inst.specs.Core.{is_integer}
+use Rattle.rv_inst.specs.Operands.{Return, loads_float, return_of}
 use Rattle.rv_inst.specs.Forms.{short_jalr}
 use Rattle.rv_inst.specs.Meaning.{Leave, symbol_at, fallen, resumed, try_exit}
 use Rattle.rv_inst.specs.Returns.{StackLoad, result_loads, loads_unless}
@@ -26,6 +27,7 @@ use Rattle.rv_code.specs.InstRuns.{Enters, ComesOut, Resumes, ResumesIn, RunsIn,
 use Rattle.rv_code.specs.Sites.{Site, IsPlacedAt, StandsIn, GapIn, PartsStand, symbol_address}
 use Rattle.rv_code.specs.Slots.{AddressOf, Part, Slot, size_of}
 use Rattle.rv_code.specs.Usable.{IsUsable}
+use Rattle.rv_code.proofs.AccessRows.{not_true}
 use Rattle.rv_code.proofs.AddressRuns.{set_twice, size_append, stands_split}
 use Rattle.rv_code.proofs.CallRules.{call_kept, call_ind_kept, unless_loadable}
 use Rattle.rv_code.proofs.CodeSteps.{step_at, led_on, comes_goes}
@@ -38,7 +40,7 @@ use Rattle.rv_code.proofs.Operands.{Keeps, keeps}
 use Rattle.rv_code.proofs.Registers.{are_values_set, same_set}
 use Rattle.rv_code.proofs.ReturnRuns.{upper_sum, call_goes}
 use Rattle.rv_code.proofs.ShortOps.{jalr_acts, jalr_sized, back_number, window_some}
-use Rattle.rv_code.proofs.StackRuns.{IsAs, AreLoadable, loads_come, step_comes}
+use Rattle.rv_code.proofs.StackRuns.{IsAs, AreLoadable, integers_loadable, loads_come, step_comes}
 
 -- ---- a call is made
 
@@ -147,7 +149,7 @@ continued_out : {site : Site} {start after from : ℕ} {s : State} {v : Values} 
 continued_out {site} {s = s} allocated None h stands ends b = comes_out s (goes_none site.context.flags s) (let pc = h.pc in omega arith) b
 continued_out {site} allocated (Some t) h stands ends b = jump_out t.continuation h (let some = window_some site.context.flags in omega arith) stands.0 b
 
-continues : {site : Site} {start after from : ℕ} {s : State} {u : Values} (allocated : ℕ) (t : Option TryCallInfo) → StandsIn site allocated from (try_slots site.context.flags t) → from + size_of (try_slots site.context.flags t) ≡ after → Comes site from (size_of (try_slots site.context.flags t)) (IsAs u) s → ComesOut site start after (try_exit t) [] u s
+pub continues : {site : Site} {start after from : ℕ} {s : State} {u : Values} (allocated : ℕ) (t : Option TryCallInfo) → StandsIn site allocated from (try_slots site.context.flags t) → from + size_of (try_slots site.context.flags t) ≡ after → Comes site from (size_of (try_slots site.context.flags t)) (IsAs u) s → ComesOut site start after (try_exit t) [] u s
 continues allocated t stands ends c = goes_out c.goes (continued_out allocated t c.course.here stands ends (record {
   same = c.course.values.same;
   is_state = c.course.is_state;
@@ -189,14 +191,22 @@ resumes_at size even room h = record {
 }
 
 -- the words of a call, after the first of which stands the rest
-record Opens (site : Site) (start offset popped n : ℕ) (patchable : Bool) (entries : Option UserStackMap) (t : Option TryCallInfo) (call : List Slot → List Slot) : Type 0 where
-  even : offset % 2 ≡ 0
-  rest : (allocated : ℕ) (last : List Slot) → StandsIn site allocated start (call last) → StandsIn site allocated (start + offset) (rest_of site.context.flags site.context.frame popped n patchable entries t last)
-  long : (last : List Slot) → size_of (call last) ≡ offset + size_of (rest_of site.context.flags site.context.frame popped n patchable entries t last)
+pub record Opens (site : Site) (start offset popped n : ℕ) (patchable : Bool) (entries : Option UserStackMap) (t : Option TryCallInfo) (call : List Slot → List Slot) : Type 0 where
+  pub even : offset % 2 ≡ 0
+  pub rest : (allocated : ℕ) (last : List Slot) → StandsIn site allocated start (call last) → StandsIn site allocated (start + offset) (rest_of site.context.flags site.context.frame popped n patchable entries t last)
+  pub long : (last : List Slot) → size_of (call last) ≡ offset + size_of (rest_of site.context.flags site.context.frame popped n patchable entries t last)
 
--- the stack pointer falls, results are loaded, past an island where one stands, and then control goes on
-resumes_out : {site : Site} {start after : ℕ} {s : State} {v : Values} (offset popped n : ℕ) (patchable : Bool) (entries : Option UserStackMap) (t : Option TryCallInfo) (call : List Slot → List Slot) (loads : List StackLoad) → popped < 2 ^ 31 → AreLoadable loads → Opens site start offset popped n patchable entries t call → Resumes site start after (start + offset) (call_parts site.context.flags call loads t) s v → ComesOut site start after (try_exit t) [] (resumed (record { offset = offset; popped = popped; loads = loads }) v) s
-resumes_out {site} {start} {after} {s} {v} offset popped n patchable entries t call [] few loadable o h =
+-- The stack pointer has fallen where loads stand, past an island where one stands, and a jump after them where the call ends its block.
+pub record IsAtLoads (site : Site) (after : ℕ) (loads : List StackLoad) (t : Option TryCallInfo) (u : Values) (s : State) : Type 0 where
+  pub allocated : ℕ
+  pub offset : ℕ
+  pub loaded : StandsIn site allocated offset (stack_load_slots site.context.flags loads)
+  pub jump : StandsIn site allocated (offset + size_of (stack_load_slots site.context.flags loads)) (try_slots site.context.flags t)
+  pub ends : offset + size_of (stack_load_slots site.context.flags loads) + size_of (try_slots site.context.flags t) ≡ after
+  pub comes : Comes site offset (size_of (stack_load_slots site.context.flags loads) + size_of (try_slots site.context.flags t)) (IsAs u) s
+
+pub comes_to_loads : {site : Site} {start after : ℕ} {s : State} {v : Values} (offset popped n : ℕ) (patchable : Bool) (entries : Option UserStackMap) (t : Option TryCallInfo) (call : List Slot → List Slot) (loads : List StackLoad) → popped < 2 ^ 31 → Opens site start offset popped n patchable entries t call → Resumes site start after (start + offset) (call_parts site.context.flags call loads t) s v → IsAtLoads site after loads t (fallen popped v) s
+comes_to_loads {site} {start} {after} {s} {v} offset popped n patchable entries t call [] few o h =
     let flags = site.context.flags in
     let step = after_call flags popped in
     let jump = try_slots flags t in
@@ -207,8 +217,16 @@ resumes_out {site} {start} {after} {s} {v} offset popped n patchable entries t c
     let start_even = h.even in
     let even = o.even in
     let both = rest_split site allocated (start + offset) popped n patchable entries t jump (o.rest allocated jump h.stands.1) in
-    continues allocated t both.1 (omega arith) (falls_come allocated popped few both.0 (resumes_at (size_of step + size_of jump) (omega arith) (omega arith) h))
-resumes_out {site} {start} {after} {s} {v} offset popped n patchable entries t call (l ∷ loads) few loadable o h =
+    let there : start + offset + size_of step ≡ start + offset + size_of step + 0 = omega arith in
+    record {
+      allocated = allocated;
+      offset = start + offset + size_of step;
+      loaded = tt;
+      jump = subst (λ m. StandsIn site allocated m jump) there both.1;
+      ends = omega arith;
+      comes = falls_come allocated popped few both.0 (resumes_at (size_of step + (0 + size_of jump)) (omega arith) (omega arith) h);
+    }
+comes_to_loads {site} {start} {after} {s} {v} offset popped n patchable entries t call (l ∷ loads) few o h =
     let flags = site.context.flags in
     let step = after_call flags popped in
     let all = stack_load_slots flags (l ∷ loads) in
@@ -224,37 +242,55 @@ resumes_out {site} {start} {after} {s} {v} offset popped n patchable entries t c
     let rest = rest_long flags site.context.frame popped n patchable entries t [] in
     let start_even = h.even in
     let even = o.even in
-    let u = fallen popped v in
     let sizes : size_of (all ++ jump) ≡ size_of all + size_of jump = size_append all jump in
     let there : start + size_of (call []) ≡ start + offset + size_of step = omega arith in
     let both = rest_split site first (start + offset) popped n patchable entries t [] (o.rest first [] h.stands.1) in
     let after_gap = stands_split site second mid all jump h.stands.2.2.1 in
-    continues second t after_gap.1 (omega arith)
-    (comes_on (falls_come {size = 0} first popped few both.0 (resumes_at (size_of step + 0) (omega arith) (omega arith) h))
-    (λ s1 k1. comes_on (gap_comes {size = size_of all + size_of jump} (subst (λ m. GapIn site m mid) there gap) (omega arith) k1)
-    (λ s2 k2. loads_come second (reg u 2) (l ∷ loads) mid u s2 loadable refl after_gap.0 k2)))
+    record {
+      allocated = second;
+      offset = mid;
+      loaded = after_gap.0;
+      jump = after_gap.1;
+      ends = omega arith;
+      comes = comes_on (falls_come {size = 0} first popped few both.0 (resumes_at (size_of step + 0) (omega arith) (omega arith) h))
+          (λ s1 k1. gap_comes {size = size_of all + size_of jump} (subst (λ m. GapIn site m mid) there gap) (omega arith) k1);
+    }
+
+-- the stack pointer falls, results are loaded, past an island where one stands, and then control goes on
+resumes_out : {site : Site} {start after : ℕ} {s : State} {v : Values} (offset popped n : ℕ) (patchable : Bool) (entries : Option UserStackMap) (t : Option TryCallInfo) (call : List Slot → List Slot) (loads : List StackLoad) → popped < 2 ^ 31 → AreLoadable loads → Opens site start offset popped n patchable entries t call → Resumes site start after (start + offset) (call_parts site.context.flags call loads t) s v → ComesOut site start after (try_exit t) [] (resumed (record { offset = offset; popped = popped; loads = loads }) v) s
+resumes_out {v = v} offset popped n patchable entries t call loads few loadable o h =
+    let u = fallen popped v in
+    let a = comes_to_loads offset popped n patchable entries t call loads few o h in
+    continues a.allocated t a.jump a.ends (comes_on a.comes (λ s1 k1. loads_come a.allocated (reg u 2) loads a.offset u s1 loadable refl a.loaded k1))
+
+-- what opens the two kinds of call
+pub call_opens : (site : Site) (start : ℕ) (info : CallInfo ExternalName) → Opens site start 8 info.callee_pop_size (call_size site.context.flags 8 info.callee_pop_size) info.patchable info.stack_map info.try_call_info (call_slots site.context.flags site.context.frame info)
+call_opens site start info = record { even = refl; rest = λ allocated last stands. stands.1; long = λ last. refl }
+
+pub call_ind_opens : (site : Site) (start : ℕ) (info : CallInfo Reg) → Opens site start (short_jalr site.context.flags 1 (number_of info.dest) (pos 0)).len info.callee_pop_size 0 false info.stack_map info.try_call_info (call_ind_slots site.context.flags site.context.frame info)
+call_ind_opens site start info = record { even = (jalr_sized site.context.flags 1 (number_of info.dest) (pos 0)).even; rest = λ allocated last stands. stands.1; long = λ last. refl }
 
 call_resumes : (site : Site) (setting : EmitVState) (info : CallInfo ExternalName) → info.callee_pop_size < 2 ^ 31 → AreLoadable (loads_unless info.patchable info.defs) → ResumesIn site setting (Call info) (record { offset = 8; popped = info.callee_pop_size; loads = loads_unless info.patchable info.defs })
 call_resumes site setting info few loadable = record {
-  run = λ start after s v h.
-      let flags = site.context.flags in
-      let n = call_size flags 8 info.callee_pop_size in
-      resumes_out 8 info.callee_pop_size n info.patchable info.stack_map info.try_call_info (call_slots flags site.context.frame info) (loads_unless info.patchable info.defs) few loadable (record { even = refl; rest = λ allocated last stands. stands.1; long = λ last. refl }) h;
+  run = λ start after s v h. resumes_out 8 info.callee_pop_size _ info.patchable info.stack_map info.try_call_info (call_slots site.context.flags site.context.frame info) (loads_unless info.patchable info.defs) few loadable (call_opens site start info) h;
 }
 
 call_ind_resumes : (site : Site) (setting : EmitVState) (info : CallInfo Reg) → info.callee_pop_size < 2 ^ 31 → AreLoadable (result_loads info.defs) → ResumesIn site setting (CallInd info) (record { offset = (short_jalr site.context.flags 1 (number_of info.dest) (pos 0)).len; popped = info.callee_pop_size; loads = result_loads info.defs })
 call_ind_resumes site setting info few loadable = record {
-  run = λ start after s v h.
-      let flags = site.context.flags in
-      let jump = jalr_sized flags 1 (number_of info.dest) (pos 0) in
-      resumes_out (short_jalr flags 1 (number_of info.dest) (pos 0)).len info.callee_pop_size 0 false info.stack_map info.try_call_info (call_ind_slots flags site.context.frame info) (result_loads info.defs) few loadable (record { even = jump.even; rest = λ allocated last stands. stands.1; long = λ last. refl }) h;
+  run = λ start after s v h. resumes_out (short_jalr site.context.flags 1 (number_of info.dest) (pos 0)).len info.callee_pop_size 0 false info.stack_map info.try_call_info (call_ind_slots site.context.flags site.context.frame info) (result_loads info.defs) few loadable (call_ind_opens site start info) h;
 }
 
-kept_resumes : (site : Site) (setting : EmitVState) (inst : Inst) (r : Return) → Keeps inst → return_of site.context.flags inst ≡ Some r → ResumesIn site setting inst r
-kept_resumes site setting (Call info) r k is = let c = call_kept info k in subst (ResumesIn site setting (Call info)) (same_Some _ r is) (call_resumes site setting info c.few (unless_loadable info.patchable info.defs c.loadable))
-kept_resumes site setting (CallInd info) r k is = let c = call_ind_kept info k in subst (ResumesIn site setting (CallInd info)) (same_Some _ r is) (call_ind_resumes site setting info c.few c.loadable)
-kept_resumes site setting _ r k is = absurd (cc)
+kept_resumes : (site : Site) (setting : EmitVState) (inst : Inst) (r : Return) → is_integer inst ≡ true → Keeps inst → return_of site.context.flags inst ≡ Some r → ResumesIn site setting inst r
+kept_resumes site setting (Call info) r core k is =
+    let c = call_kept info k in
+    let loads = loads_unless info.patchable info.defs in
+    subst (ResumesIn site setting (Call info)) (same_Some _ r is) (call_resumes site setting info c.few (integers_loadable loads (not_true (loads_float loads) core) (unless_loadable info.patchable info.defs c.loadable)))
+kept_resumes site setting (CallInd info) r core k is =
+    let c = call_ind_kept info k in
+    let loads = result_loads info.defs in
+    subst (ResumesIn site setting (CallInd info)) (same_Some _ r is) (call_ind_resumes site setting info c.few (integers_loadable loads (not_true (loads_float loads) core) c.loadable))
+kept_resumes site setting _ r core k is = absurd (cc)
 
--- every instruction that breaks no rule and returns runs on as it means from where it does
-pub inst_resumes : (site : Site) (setting : EmitVState) (inst : Inst) (r : Return) → inst_rule site.context inst ≡ None → return_of site.context.flags inst ≡ Some r → ResumesIn site setting inst r
-inst_resumes site setting inst r rule is = kept_resumes site setting inst r (keeps site.context inst rule) is
+-- every instruction of the integer core that breaks no rule and returns runs on as it means from where it does
+pub inst_resumes : (site : Site) (setting : EmitVState) (inst : Inst) (r : Return) → is_integer inst ≡ true → inst_rule site.context inst ≡ None → return_of site.context.flags inst ≡ Some r → ResumesIn site setting inst r
+inst_resumes site setting inst r core rule is = kept_resumes site setting inst r core (keeps site.context inst rule) is

@@ -56,7 +56,7 @@ one_load : {site : Site} {start after a : ℕ} {s : State} {v : Values} (op : Lo
 one_load op rd d is ready = record { operation = d; is = is; ready = ready }
 
 -- the load of a floating-point register, by way of x31 where the address isn't near
-load_ready : {site : Site} {start after : ℕ} {s : State} {v : Values} (rd : ℕ) (op : LoadOP) (loc : Location) (trap : Option TrapCode) → is_float_load op ≡ true → IsUsableAt loc → Enters site start after (slots_alone (load_slots site.context.flags rd op trap loc)) s v → IsOneAt site start after (address_at (environment site start after) v loc) (IsLoad op rd) v s
+pub load_ready : {site : Site} {start after : ℕ} {s : State} {v : Values} (rd : ℕ) (op : LoadOP) (loc : Location) (trap : Option TrapCode) → is_float_load op ≡ true → IsUsableAt loc → Enters site start after (slots_alone (load_slots site.context.flags rd op trap loc)) s v → IsOneAt site start after (address_at (environment site start after) v loc) (IsLoad op rd) v s
 load_ready {site} {start} {after} {s} {v} rd op (Based r o) trap float based = on (is_near o)
   where
     near : Decoded

@@ -1,10 +1,13 @@
 -- Every instruction of the integer core that breaks no rule runs as it means.
 use Rattle.std.proofs.Common.{◌≡◌, ℕ, true, false, [], ◌∷◌, None, subst, arith}
+use Rattle.std.specs.Prelude.{not}
+use Rattle.std.proofs.lemmas.Bool.{and_parts}
+use Rattle.rv_base.specs.declared.frame.FrameLayout.{FrameLayout}
 use Rattle.rv_ops.specs.Memory.{is_float_load, is_float_store}
 use Rattle.rv_inst.specs.declared.inst.CountInfo.{CountInfo}
 use Rattle.rv_inst.specs.declared.inst.Inst.{Inst}
 use Rattle.rv_inst.specs.declared.inst.Inst.TheVariants.{Nop0, Nop4, EBreak, SequencePoint, Args, Rets, DummyUse, EmitIsland, RawData, Lui, Auipc, LoadInlineConst, AluRRR, AluRRImm12, Mov, MovFromPReg, Extend, Select, Load, Store, LoadAddr, LabelAddress, Ret, TrapIf, Jal, CondBr, BrTable, Udf, Jalr, Popcnt, Cltz, Brev8, StackProbeLoop, LoadExtNameGot, LoadExtNameNear, LoadExtNameFar, Call, CallInd, ReturnCall, ReturnCallInd, Unwind}
-use Rattle.rv_inst.specs.Core.{is_integer}
+use Rattle.rv_inst.specs.Core.{is_integer, is_integer_in, restores_float}
 use Rattle.rv_inst.specs.Frames.{is_bad_frame_for}
 use Rattle.rv_inst.specs.Operands.{tail_call_of}
 use Rattle.rv_inst.specs.Rules.{is_zero, inst_rule}
@@ -49,7 +52,11 @@ island_runs site setting needed_space = record {
 count_runs : (site : Site) (setting : EmitVState) (info : CountInfo) → Keeps (Popcnt info) → RunsIn site setting (Popcnt info)
 count_runs site setting info k = popcnt_runs site setting info (is_count info.sum info.tmp info.step info.rs info.ty (are_usable (info.sum.reg ∷ info.tmp.reg ∷ info.step.reg ∷ info.rs ∷ []) k.real k.placed k.free) k.counted k.apart k.typed)
 
-kept_runs : (site : Site) (setting : EmitVState) (inst : Inst) → is_integer inst ≡ true → Keeps inst → is_bad_frame_for site.context.frame (tail_call_of inst) ≡ false → RunsIn site setting inst
+-- a tail call of the integer core restores no floating-point register
+none_restored : (frame : FrameLayout) (inst : Inst) → is_integer_in frame inst ≡ true → restores_float frame (tail_call_of inst) ≡ false
+none_restored frame inst core = not_true _ (and_parts (not (restores_float frame (tail_call_of inst))) (is_integer inst) core).0
+
+kept_runs : (site : Site) (setting : EmitVState) (inst : Inst) → is_integer_in site.context.frame inst ≡ true → Keeps inst → is_bad_frame_for site.context.frame (tail_call_of inst) ≡ false → RunsIn site setting inst
 kept_runs site setting Nop0 core k r = record { run = λ start after s v e clear. nothing_out e.stands e }
 kept_runs site setting Nop4 core k r = nop4_runs site setting
 kept_runs site setting EBreak core k r = ebreak_runs site setting
@@ -88,11 +95,11 @@ kept_runs site setting (LoadExtNameNear rd name offset) core k r = let h = (are_
 kept_runs site setting (LoadExtNameFar rd name offset) core k r = let h = (are_usable (rd.reg ∷ []) k.real k.placed k.free).0 in far_runs site setting rd name offset h (not_zero rd.reg h (or_left (is_zero rd.reg) false k.counted))
 kept_runs site setting (Call info) core k r = call_runs site setting info
 kept_runs site setting (CallInd info) core k r = call_ind_runs site setting info (call_usable info k)
-kept_runs site setting (ReturnCall info) core k r = return_call_runs site setting info r
-kept_runs site setting (ReturnCallInd info) core k r = return_call_ind_runs site setting info (target_fine info k).1 r
+kept_runs site setting (ReturnCall info) core k r = return_call_runs site setting info (none_restored site.context.frame (ReturnCall info) core) r
+kept_runs site setting (ReturnCallInd info) core k r = return_call_ind_runs site setting info (target_fine info k).1 (none_restored site.context.frame (ReturnCallInd info) core) r
 kept_runs site setting (Unwind inst) core k r = unwind_runs site setting inst
 kept_runs site setting inst core k r = absurd (cc)
 
 -- where a frame that it takes away can be restored
-pub inst_runs : (site : Site) (setting : EmitVState) (inst : Inst) → is_integer inst ≡ true → inst_rule site.context inst ≡ None → is_bad_frame_for site.context.frame (tail_call_of inst) ≡ false → RunsIn site setting inst
+pub inst_runs : (site : Site) (setting : EmitVState) (inst : Inst) → is_integer_in site.context.frame inst ≡ true → inst_rule site.context inst ≡ None → is_bad_frame_for site.context.frame (tail_call_of inst) ≡ false → RunsIn site setting inst
 inst_runs site setting inst core rule restores = kept_runs site setting inst core (keeps site.context inst rule) restores

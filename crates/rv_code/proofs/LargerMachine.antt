@@ -8,7 +8,7 @@ use Rattle.rv_full.specs.LargerMachine.{LargerMachine, GoesOver, repeat}
 use Rattle.rv_full.specs.Units.{FullState}
 use Rattle.rv_full.proofs.LargerMachine.{full_machine, larger_runs}
 use Rattle.rv_inst.specs.declared.inst.Inst.{Inst}
-use Rattle.rv_inst.specs.Core.{is_integer}
+use Rattle.rv_inst.specs.Core.{is_integer_in}
 use Rattle.rv_inst.specs.Frames.{is_bad_frame_for}
 use Rattle.rv_inst.specs.Meaning.{AreOutside, inst_effect, inst_exit, inst_writes}
 use Rattle.rv_inst.specs.Operands.{tail_call_of, inst_temporaries}
@@ -53,7 +53,7 @@ pub record ComesOver {B : Type 0} (site : Site) (m : LargerMachine site.context.
   pub goes : GoesOver m.step (least_steps (inst_exit (environment site start after) inst v)) b (m.put out.state b)
 
 -- and so does every instruction of the integer core that breaks no rule
-pub larger_comes : {B : Type 0} (site : Site) (m : LargerMachine site.context.flags B) (setting : EmitVState) (inst : Inst) → is_integer inst ≡ true → inst_rule site.context inst ≡ None → is_bad_frame_for site.context.frame (tail_call_of inst) ≡ false → (start after : ℕ) (b : B) (v : Values) → Enters site start after (parts_of site.context setting inst) (m.view b) v → AreOutside site.base (length site.bytes) (inst_writes (environment site start after) inst v) → ComesOver site m start after inst v b
+pub larger_comes : {B : Type 0} (site : Site) (m : LargerMachine site.context.flags B) (setting : EmitVState) (inst : Inst) → is_integer_in site.context.frame inst ≡ true → inst_rule site.context inst ≡ None → is_bad_frame_for site.context.frame (tail_call_of inst) ≡ false → (start after : ℕ) (b : B) (v : Values) → Enters site start after (parts_of site.context setting inst) (m.view b) v → AreOutside site.base (length site.bytes) (inst_writes (environment site start after) inst v) → ComesOver site m start after inst v b
 larger_comes site m setting inst core rule restores start after b v e clear =
     let out = (inst_runs site setting inst core rule restores).run start after (m.view b) v e clear in
     record {
@@ -62,6 +62,6 @@ larger_comes site m setting inst core rule restores start after b v e clear =
     }
 
 -- so it does on the machine with all units, and keeps the units and the answers
-pub full_comes : (site : Site) (setting : EmitVState) (inst : Inst) → is_integer inst ≡ true → inst_rule site.context inst ≡ None → is_bad_frame_for site.context.frame (tail_call_of inst) ≡ false → (start after : ℕ) (b : FullState) (v : Values) → Enters site start after (parts_of site.context setting inst) b.state v → AreOutside site.base (length site.bytes) (inst_writes (environment site start after) inst v) → ComesOver site (full_machine site.context.flags) start after inst v b
+pub full_comes : (site : Site) (setting : EmitVState) (inst : Inst) → is_integer_in site.context.frame inst ≡ true → inst_rule site.context inst ≡ None → is_bad_frame_for site.context.frame (tail_call_of inst) ≡ false → (start after : ℕ) (b : FullState) (v : Values) → Enters site start after (parts_of site.context setting inst) b.state v → AreOutside site.base (length site.bytes) (inst_writes (environment site start after) inst v) → ComesOver site (full_machine site.context.flags) start after inst v b
 unfolding full_machine
 full_comes site setting inst core rule restores start after b v e clear = larger_comes site (full_machine site.context.flags) setting inst core rule restores start after b v e clear

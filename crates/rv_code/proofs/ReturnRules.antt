@@ -11,11 +11,12 @@ use Rattle.rv_base.specs.declared.regs.RegClass.TheVariants.{Int, Float, Vector}
 use Rattle.rv_base.specs.declared.regs.Writable.{Writable}
 use Rattle.rv_base.specs.Frame.{sp_to_fp_of, sp_to_args_end}
 use Rattle.rv_ops.specs.declared.memory.LoadOP.TheVariants.{Ld}
-use Rattle.rv_inst.specs.Frames.{is_unsaved, is_unrestored, is_t0, is_bad_frame, is_bad_frame_for}
-use Rattle.rv_inst.specs.Returns.{StackLoad, saves_from, setup_loads, restores}
+use Rattle.rv_ops.specs.Memory.{load_format}
+use Rattle.rv_inst.specs.Frames.{is_unsaved, is_t0, is_bad_frame, is_bad_frame_for}
+use Rattle.rv_inst.specs.Returns.{StackLoad, saved_load, saves_from, setup_loads, restores}
 use Rattle.rv_inst.specs.Rules.{is_int_class, is_vector_class}
 use Rattle.rv_inst.specs.declared.tail_calls.TailCall.{TailCall}
-use Rattle.rv_code.proofs.StackRuns.{IsLoadable, IsStackLoad, AreLoadable, AreOthers}
+use Rattle.rv_code.proofs.StackRuns.{IsLoadable, IsLoadableAs, AreStackLoads, IsOtherAs, AreOthersAs}
 
 -- ---- one register
 
@@ -31,16 +32,16 @@ number_loadable n e =
     from_three : (n : ℕ) → nat_lt n 3 ≡ false → 3 ≤ n
     from_three n h = grind (arith, nat_tests)
 
--- a saved register that is restored is an integer register below x30 that isn't the stack pointer
-class_loadable : (class : RegClass) (n : ℕ) → (is_vector_class class || (is_int_class class && (nat_lt n 3 || n == 8 || nat_le 30 n))) ≡ false → not (is_int_class class) ≡ false → IsLoadable n
-class_loadable Int n saved restored = number_loadable n saved
-class_loadable Float n saved restored = absurd (cc)
-class_loadable Vector n saved restored = absurd (cc)
+-- a saved register is a floating-point register, or an integer register below x30 that isn't the stack pointer
+class_loadable : (class : RegClass) (n : ℕ) → n < 32 → (is_vector_class class || (is_int_class class && (nat_lt n 3 || n == 8 || nat_le 30 n))) ≡ false → IsLoadableAs (load_format (saved_load class)) n
+class_loadable Int n low saved = number_loadable n saved
+class_loadable Float n low saved = low
+class_loadable Vector n low saved = absurd (cc)
 
-class_other : (class : RegClass) (n : ℕ) → (is_int_class class && n == 5) ≡ false → not (is_int_class class) ≡ false → n ≢ 5
-class_other Int n apart restored = grind (arith, nat_tests)
-class_other Float n apart restored = absurd (cc)
-class_other Vector n apart restored = absurd (cc)
+class_other : (class : RegClass) (n : ℕ) → (is_int_class class && n == 5) ≡ false → is_vector_class class ≡ false → IsOtherAs (load_format (saved_load class)) 5 n
+class_other Int n apart saved = grind (arith, nat_tests)
+class_other Float n apart saved = tt
+class_other Vector n apart saved = absurd (cc)
 
 -- ---- all of them
 
@@ -48,31 +49,30 @@ pub of_both : {A : Type 0} (P : A → Type 0) (xs ys : List A) → AllByRecursio
 of_both P [] ys h g = g
 of_both P (x ∷ xs) ys h g = (h.0, of_both P xs ys h.1 g)
 
-saves_loadable : (offset : ℤ) (saves : List (Writable PReg)) → list_any (λ (r : Writable PReg). is_unsaved r.reg) saves ≡ false → list_any (λ (r : Writable PReg). is_unrestored r.reg) saves ≡ false → AreLoadable (saves_from offset saves)
-saves_loadable offset [] saved restored = tt
-saves_loadable offset (r ∷ saves) saved restored =
+saves_loadable : (offset : ℤ) (saves : List (Writable PReg)) → list_any (λ (r : Writable PReg). is_unsaved r.reg) saves ≡ false → AreStackLoads (saves_from offset saves)
+saves_loadable offset [] saved = tt
+saves_loadable offset (r ∷ saves) saved =
     let s = or_parts (is_unsaved r.reg) _ saved in
-    let t = or_parts (is_unrestored r.reg) _ restored in
-    (record { register = class_loadable r.reg.class r.reg.number s.0 t.0; integer = refl }, saves_loadable (offset -ℤ pos 8) saves s.1 t.1)
+    (class_loadable r.reg.class r.reg.number r.reg.in_file s.0, saves_loadable (offset -ℤ pos 8) saves s.1)
 
-saves_other : (offset : ℤ) (saves : List (Writable PReg)) → list_any (λ (r : Writable PReg). is_t0 r.reg) saves ≡ false → list_any (λ (r : Writable PReg). is_unrestored r.reg) saves ≡ false → AreOthers 5 (saves_from offset saves)
-saves_other offset [] apart restored = tt
-saves_other offset (r ∷ saves) apart restored =
+saves_other : (offset : ℤ) (saves : List (Writable PReg)) → list_any (λ (r : Writable PReg). is_t0 r.reg) saves ≡ false → list_any (λ (r : Writable PReg). is_unsaved r.reg) saves ≡ false → AreOthersAs 5 (saves_from offset saves)
+saves_other offset [] apart saved = tt
+saves_other offset (r ∷ saves) apart saved =
     let s = or_parts (is_t0 r.reg) _ apart in
-    let t = or_parts (is_unrestored r.reg) _ restored in
-    (class_other r.reg.class r.reg.number s.0 t.0, saves_other (offset -ℤ pos 8) saves s.1 t.1)
+    let t = or_parts (is_unsaved r.reg) _ saved in
+    (class_other r.reg.class r.reg.number s.0 (or_parts (is_vector_class r.reg.class) _ t.0).0, saves_other (offset -ℤ pos 8) saves s.1 t.1)
 
-setup_loadable : (frame : FrameLayout) → AreLoadable (setup_loads frame)
+setup_loadable : (frame : FrameLayout) → AreStackLoads (setup_loads frame)
 setup_loadable frame = by (frame.setup_area_size == 0)
   where
-    by : (none : Bool) → AreLoadable (if none then [] else record { register = 1; op = Ld; offset = pos (sp_to_fp_of frame + 8) } ∷ record { register = 8; op = Ld; offset = pos (sp_to_fp_of frame) } ∷ [])
+    by : (none : Bool) → AreStackLoads (if none then [] else record { register = 1; op = Ld; offset = pos (sp_to_fp_of frame + 8) } ∷ record { register = 8; op = Ld; offset = pos (sp_to_fp_of frame) } ∷ [])
     by true = tt
-    by false = (record { register = record { usable = lit< tt; apart = λ e. absurd (omega arith) }; integer = refl }, (record { register = record { usable = lit< tt; apart = λ e. absurd (omega arith) }; integer = refl }, tt))
+    by false = (record { usable = lit< tt; apart = λ e. absurd (omega arith) }, (record { usable = lit< tt; apart = λ e. absurd (omega arith) }, tt))
 
-setup_other : (frame : FrameLayout) → AreOthers 5 (setup_loads frame)
+setup_other : (frame : FrameLayout) → AreOthersAs 5 (setup_loads frame)
 setup_other frame = by (frame.setup_area_size == 0)
   where
-    by : (none : Bool) → AreOthers 5 (if none then [] else record { register = 1; op = Ld; offset = pos (sp_to_fp_of frame + 8) } ∷ record { register = 8; op = Ld; offset = pos (sp_to_fp_of frame) } ∷ [])
+    by : (none : Bool) → AreOthersAs 5 (if none then [] else record { register = 1; op = Ld; offset = pos (sp_to_fp_of frame + 8) } ∷ record { register = 8; op = Ld; offset = pos (sp_to_fp_of frame) } ∷ [])
     by true = tt
     by false = ((λ e. absurd (omega arith)), ((λ e. absurd (omega arith)), tt))
 
@@ -80,7 +80,7 @@ setup_other frame = by (frame.setup_area_size == 0)
 
 -- a frame that a tail call can take away: what it restores, and how large it is
 pub record IsRestorable (frame : FrameLayout) : Type 0 where
-  pub registers : AreLoadable (restores frame)
+  pub registers : AreStackLoads (restores frame)
   pub small : sp_to_args_end frame < 2 ^ 31
 
 small_frame : (n : ℕ) → nat_le (2 ^ 31) n ≡ false → n < 2 ^ 31
@@ -91,16 +91,15 @@ is_restorable frame tail e =
     let saves = frame.clobbered_callee_saves in
     let bad = or_parts (is_bad_frame frame) _ e in
     let parts = or_parts (nat_le (2 ^ 31) (sp_to_args_end frame)) _ bad.0 in
-    let left = or_parts (list_any (λ (r : Writable PReg). is_unrestored r.reg) saves) _ bad.1 in
     record {
-      registers = of_both IsStackLoad (saves_from (pos (sp_to_fp_of frame) -ℤ pos 8) saves) (setup_loads frame) (saves_loadable (pos (sp_to_fp_of frame) -ℤ pos 8) saves parts.1 left.0) (setup_loadable frame);
+      registers = of_both (λ (l : StackLoad). IsLoadableAs (load_format l.op) l.register) (saves_from (pos (sp_to_fp_of frame) -ℤ pos 8) saves) (setup_loads frame) (saves_loadable (pos (sp_to_fp_of frame) -ℤ pos 8) saves parts.1) (setup_loadable frame);
       small = small_frame (sp_to_args_end frame) parts.0;
     }
 
 -- t0 isn't restored, where a tail call goes through it
-pub t0_other : (frame : FrameLayout) (size : ℕ) → is_bad_frame_for frame (Some (record { stack_arg_size = size; by_register = true })) ≡ false → AreOthers 5 (restores frame)
+pub t0_other : (frame : FrameLayout) (size : ℕ) → is_bad_frame_for frame (Some (record { stack_arg_size = size; by_register = true })) ≡ false → AreOthersAs 5 (restores frame)
 t0_other frame size e =
     let saves = frame.clobbered_callee_saves in
     let bad = or_parts (is_bad_frame frame) _ e in
-    let left = or_parts (list_any (λ (r : Writable PReg). is_unrestored r.reg) saves) _ bad.1 in
-    of_both (λ (l : StackLoad). l.register ≢ 5) (saves_from (pos (sp_to_fp_of frame) -ℤ pos 8) saves) (setup_loads frame) (saves_other (pos (sp_to_fp_of frame) -ℤ pos 8) saves left.1 left.0) (setup_other frame)
+    let parts = or_parts (nat_le (2 ^ 31) (sp_to_args_end frame)) _ bad.0 in
+    of_both (λ (l : StackLoad). IsOtherAs (load_format l.op) 5 l.register) (saves_from (pos (sp_to_fp_of frame) -ℤ pos 8) saves) (setup_loads frame) (saves_other (pos (sp_to_fp_of frame) -ℤ pos 8) saves bad.1 parts.1) (setup_other frame)

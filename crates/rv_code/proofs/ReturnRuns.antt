@@ -1,19 +1,32 @@
 -- A tail call takes the frame away, and leaves the code to a symbol or to the address in t0.
-use Rattle.std.proofs.Common.{◌≡◌, ℕ, ◌+◌, ◌*◌, ◌/◌, ◌^◌, ◌<◌, true, false, ℤ, pos, List, [], ◌∷◌, ◌++◌, Some, arith, refl, sym, ap, subst, ◌∙◌, lit<, lit≤}
+use Rattle.std.proofs.Common.{◌≡◌, ℕ, ◌+◌, ◌*◌, ◌/◌, ◌^◌, ◌<◌, Bool, true, false, ℤ, pos, ◌-ℤ◌, List, [], ◌∷◌, ◌++◌, Some, arith, refl, sym, ap, subst, ◌∙◌, lit<, lit≤}
+use Rattle.std.specs.Prelude.{if◌then◌else◌, ◌==◌, ◌||◌}
+use Rattle.std.specs.List.{list_any}
+use Rattle.std.proofs.lemmas.Bool.{or_parts}
 use Rattle.rv_base.specs.declared.call.ReturnCallInfo.{ReturnCallInfo}
 use Rattle.rv_base.specs.declared.external_name.ExternalName.{ExternalName}
 use Rattle.rv_base.specs.declared.frame.FrameLayout.{FrameLayout}
+use Rattle.rv_base.specs.declared.regs.PReg.{PReg}
 use Rattle.rv_base.specs.declared.regs.Reg.{Reg}
+use Rattle.rv_base.specs.declared.regs.RegClass.{RegClass}
+use Rattle.rv_base.specs.declared.regs.RegClass.TheVariants.{Int, Float, Vector}
+use Rattle.rv_base.specs.declared.regs.Writable.{Writable}
+use Rattle.rv_base.specs.Frame.{sp_to_fp_of}
 use Rattle.rv_base.specs.Regs.{number_of}
 use Rattle.mach_records.specs.declared.records.Event.TheVariants as event
 use Rattle.rv_machine.specs.declared.ops.MOp.TheVariants.{Base}
 use Rattle.rv_machine.specs.declared.ops.BaseOp.TheVariants as base
 use Rattle.rv_machine.specs.State.{State, IsState, Values, reg, set_reg, wrap, low64, at}
+use Rattle.rv_ops.specs.Memory.{is_float_load}
+use Rattle.rv_ops.specs.declared.memory.LoadOP.TheVariants.{Ld}
 use Rattle.rv_encode.specs.Operations.{decoded}
 use Rattle.rv_inst.specs.Forms.{short_jalr}
 use Rattle.rv_inst.specs.Frames.{is_bad_frame_for}
 use Rattle.rv_inst.specs.Meaning.{Leave, stack_loaded, frame_left, symbol_at}
-use Rattle.rv_inst.specs.Returns.{restores, frame_above}
+use Rattle.rv_inst.specs.Core.{restores_float}
+use Rattle.rv_inst.specs.Operands.{is_float_class, loads_float, tail_call_of}
+use Rattle.rv_inst.specs.Returns.{StackLoad, saved_load, saves_from, setup_loads, restores, frame_above}
+use Rattle.rv_inst.specs.declared.tail_calls.TailCall.{TailCall}
 use Rattle.rv_inst.specs.declared.inst.Inst.TheVariants.{ReturnCall, ReturnCallInd}
 use Rattle.rv_code.specs.declared.state.EmitVState.{EmitVState}
 use Rattle.rv_code.specs.Chains.{Goes, IsAt}
@@ -33,14 +46,14 @@ use Rattle.rv_code.proofs.OperationActs.{plus_none}
 use Rattle.rv_code.proofs.Registers.{are_values_set, spare_set, reads_back, reads_other}
 use Rattle.rv_code.proofs.ReturnRules.{IsRestorable, is_restorable, t0_other}
 use Rattle.rv_code.proofs.ShortOps.{jalr_acts, jalr_sized, small_number}
-use Rattle.rv_code.proofs.StackRuns.{IsAs, AreOthers, loaded_other, stack_apart, loads_come, step_comes}
+use Rattle.rv_code.proofs.StackRuns.{IsAs, AreLoadable, AreOthers, integers_loadable, integers_other, loaded_other, stack_apart, loads_come, step_comes}
 
 -- ---- the frame
 
 -- what was saved is restored, and the stack pointer rises
-pub return_comes : {site : Site} {offset size : ℕ} {v : Values} {s : State} (allocated arguments : ℕ) → IsRestorable site.context.frame → StandsIn site allocated offset (return_slots site.context.flags site.context.frame arguments) → InCourse site offset (size_of (return_slots site.context.flags site.context.frame arguments) + size) (IsAs v) s →
+pub return_comes : {site : Site} {offset size : ℕ} {v : Values} {s : State} (allocated arguments : ℕ) → IsRestorable site.context.frame → AreLoadable (restores site.context.frame) → StandsIn site allocated offset (return_slots site.context.flags site.context.frame arguments) → InCourse site offset (size_of (return_slots site.context.flags site.context.frame arguments) + size) (IsAs v) s →
     Comes site (offset + size_of (return_slots site.context.flags site.context.frame arguments)) size (IsAs (frame_left site.context.frame arguments v)) s
-return_comes {site} {offset} {size} {v} {s} allocated arguments h stands k =
+return_comes {site} {offset} {size} {v} {s} allocated arguments h loadable stands k =
     let flags = site.context.flags in
     let frame = site.context.frame in
     let loads = restores frame in
@@ -52,24 +65,24 @@ return_comes {site} {offset} {size} {v} {s} allocated arguments h stands k =
     let both = stands_split site allocated offset first rest stands in
     let u = stack_loaded (reg v 2) loads v in
     let rise : low64 (pos n) ≡ n = small_number n (let small = h.small in omega arith) in
-    let kept : reg u 2 ≡ reg v 2 = loaded_other (reg v 2) 2 loads v (stack_apart loads h.registers) in
+    let kept : reg u 2 ≡ reg v 2 = loaded_other (reg v 2) 2 loads v (stack_apart loads loadable) in
     subst (λ m. Comes site m size (IsAs (frame_left frame arguments v)) s) over
-    (comes_on (loads_come allocated (reg v 2) loads offset v s h.registers refl both.0 (course_before (size_of first + (size_of rest + size)) k (omega arith)))
+    (comes_on (loads_come allocated (reg v 2) loads offset v s loadable refl both.0 (course_before (size_of first + (size_of rest + size)) k (omega arith)))
     (λ t k1. subst (λ (w : Values). Comes site (offset + size_of first + size_of rest) size (IsAs w) t) (λ i. set_reg u 2 (wrap (kept i + rise i))) (step_comes allocated (pos n) both.1 k1)))
 
 -- ---- after an island, where one is needed
 
--- the frame is taken away before the rest of the slots
-record IsLeft (site : Site) (arguments : ℕ) (rest : List Slot) (v : Values) (s : State) : Type 0 where
-  allocated : ℕ
-  offset : ℕ
-  stands : StandsIn site allocated offset rest
-  comes : Comes site offset (size_of rest) (IsAs (frame_left site.context.frame arguments v)) s
+-- what restores the frame stands where the machine comes, and the rest of the slots after it
+pub record IsEntered (site : Site) (arguments : ℕ) (rest : List Slot) (v : Values) (s : State) : Type 0 where
+  pub allocated : ℕ
+  pub offset : ℕ
+  pub returns : StandsIn site allocated offset (return_slots site.context.flags site.context.frame arguments)
+  pub stands : StandsIn site allocated (offset + size_of (return_slots site.context.flags site.context.frame arguments)) rest
+  pub comes : Comes site offset (size_of (return_slots site.context.flags site.context.frame arguments) + size_of rest) (IsAs v) s
 
-frame_leaves : {site : Site} {start after : ℕ} {s : State} {v : Values} (space arguments : ℕ) (rest : List Slot) → IsRestorable site.context.frame → Enters site start after (Ask space ∷ Slots (return_slots site.context.flags site.context.frame arguments ++ rest) ∷ []) s v → IsLeft site arguments rest v s
-frame_leaves {site} {start} {after} {s} {v} space arguments rest h e =
-    let frame = site.context.frame in
-    let slots = return_slots site.context.flags frame arguments in
+pub frame_enters : {site : Site} {start after : ℕ} {s : State} {v : Values} (space arguments : ℕ) (rest : List Slot) → Enters site start after (Ask space ∷ Slots (return_slots site.context.flags site.context.frame arguments ++ rest) ∷ []) s v → IsEntered site arguments rest v s
+frame_enters {site} {v = v} space arguments rest e =
+    let slots = return_slots site.context.flags site.context.frame arguments in
     let mid = e.stands.0 in
     let gap = e.stands.1 in
     let ends = e.stands.2.2 in
@@ -78,17 +91,37 @@ frame_leaves {site} {start} {after} {s} {v} space arguments rest h e =
     let both = stands_split site e.stands.2.0 mid slots rest e.stands.2.1 in
     let c = led_on gap.leads e.placed e.pc e.is_state in
     let b = led_beside (starts_beside [] e) c.same c.is_state c.kept in
-    let k : InCourse site mid (size_of slots + size_of rest) (IsAs v) c.state = record {
-      here = record { even = gap.even e.even; room = omega arith; placed = b.placed; pc = c.pc };
-      is_state = c.is_state;
-      values = record { same = b.same; are_values = e.are_values };
-    } in
-    let r = return_comes e.stands.2.0 arguments h both.0 k in
     record {
       allocated = e.stands.2.0;
-      offset = mid + size_of slots;
+      offset = mid;
+      returns = both.0;
       stands = both.1;
-      comes = record { state = r.state; goes = goes_second (comes_goes c) r.goes; course = r.course };
+      comes = record {
+        state = c.state;
+        goes = comes_goes c;
+        course = record {
+          here = record { even = gap.even e.even; room = omega arith; placed = b.placed; pc = c.pc };
+          is_state = c.is_state;
+          values = record { same = b.same; are_values = e.are_values };
+        };
+      };
+    }
+
+-- the frame is taken away before the rest of the slots, which leaves these values
+pub record IsLeft (site : Site) (rest : List Slot) (w : Values) (s : State) : Type 0 where
+  pub allocated : ℕ
+  pub offset : ℕ
+  pub stands : StandsIn site allocated offset rest
+  pub comes : Comes site offset (size_of rest) (IsAs w) s
+
+frame_leaves : {site : Site} {start after : ℕ} {s : State} {v : Values} (space arguments : ℕ) (rest : List Slot) → IsRestorable site.context.frame → AreLoadable (restores site.context.frame) → Enters site start after (Ask space ∷ Slots (return_slots site.context.flags site.context.frame arguments ++ rest) ∷ []) s v → IsLeft site rest (frame_left site.context.frame arguments v) s
+frame_leaves {site} space arguments rest h loadable e =
+    let y = frame_enters space arguments rest e in
+    record {
+      allocated = y.allocated;
+      offset = y.offset + size_of (return_slots site.context.flags site.context.frame arguments);
+      stands = y.stands;
+      comes = comes_on y.comes (λ t k. return_comes y.allocated arguments h loadable y.returns k);
     }
 
 -- ---- to a symbol
@@ -127,48 +160,32 @@ call_goes {site} {offset} {s} link tmp name some lt is_state h f =
     goes_first (step_at first (second ∷ []) s1 h (omega arith) f.has refl)
     (step_at second [] t h1 (omega arith) (code_after site offset first (second ∷ []) f.has) (λ i. Some (at (there i / 2 * 2) (set_reg s1.values link (next i)))))
 
-tail_out : {site : Site} {start after : ℕ} {s : State} {v : Values} (space arguments : ℕ) (name : ExternalName) → IsRestorable site.context.frame → Enters site start after (Ask space ∷ Slots (tail_slots site.context.flags site.context.frame arguments name) ∷ []) s v → ComesOut site start after (Leave (symbol_at (environment site start after) name (pos 0) / 2 * 2)) [] (frame_left site.context.frame arguments v) s
-tail_out {site} {v = v} space arguments name h e =
-    let l = frame_leaves space arguments (Notes event.CallSite ∷ call_to 0 31 name ∷ []) h e in
+pub symbol_out : {site : Site} {start after : ℕ} {s : State} {w : Values} (name : ExternalName) → IsLeft site (Notes event.CallSite ∷ call_to 0 31 name ∷ []) w s → ComesOut site start after (Leave (symbol_at (environment site start after) name (pos 0) / 2 * 2)) [] w s
+symbol_out {site} {w = w} name l =
     let c = l.comes.course in
     let t = l.comes.state in
     let f = l.stands.1.0 in
     let x = upper_sum t.pc f.distance in
     comes_out (at (symbol_address site (AddressOf name (pos 0)) / 2 * 2) (set_reg t.values 31 x)) (goes_second l.comes.goes (call_goes 0 31 name (lit< tt) (lit< tt) c.is_state c.here f)) refl (record {
-      same = spare_set (frame_left site.context.frame arguments v) t.values 31 x (lit≤ tt) c.values.same;
+      same = spare_set w t.values 31 x (lit≤ tt) c.values.same;
       is_state = record { pc = omega arith; values = are_values_set t.values 31 x c.is_state.values (lit< tt) (omega arith) };
       are_values = c.values.are_values;
       placed = c.here.placed;
     })
 
-pub return_call_runs : (site : Site) (setting : EmitVState) (info : ReturnCallInfo ExternalName) → is_bad_frame_for site.context.frame (Some (record { stack_arg_size = info.new_stack_arg_size; by_register = false })) ≡ false → RunsIn site setting (ReturnCall info)
-return_call_runs site setting info fine = record {
-  run = λ start after s v e clear.
-      let n = info.new_stack_arg_size in
-      tail_out _ n info.dest (is_restorable site.context.frame (record { stack_arg_size = n; by_register = false }) fine) e;
-}
-
 -- ---- to the address in t0
 
--- it holds what it held
-t0_kept : (frame : FrameLayout) (arguments : ℕ) (v : Values) → AreOthers 5 (restores frame) → reg (frame_left frame arguments v) 5 ≡ reg v 5
-t0_kept frame arguments v others =
-    let loads = restores frame in
-    let u = stack_loaded (reg v 2) loads v in
-    reads_other u 2 5 (wrap (reg v 2 + frame_above frame arguments)) (λ e. absurd (omega arith)) ∙ loaded_other (reg v 2) 5 loads v others
-
-t0_out : {site : Site} {start after : ℕ} {s : State} {v : Values} (space arguments : ℕ) → IsRestorable site.context.frame → AreOthers 5 (restores site.context.frame) → Enters site start after (Ask space ∷ Slots (t0_slots site.context.flags site.context.frame arguments) ∷ []) s v → ComesOut site start after (Leave (reg v 5 / 2 * 2)) [] (frame_left site.context.frame arguments v) s
-t0_out {site} {v = v} space arguments h others e =
+-- which it still holds
+pub register_out : {site : Site} {start after : ℕ} {s : State} {w : Values} (x : ℕ) → reg w 5 ≡ x → x < 2 ^ 64 → IsLeft site (Op (short_jalr site.context.flags 0 5 (pos 0)) ∷ []) w s → ComesOut site start after (Leave (x / 2 * 2)) [] w s
+register_out {site} {w = w} x kept fits l =
     let flags = site.context.flags in
     let d = short_jalr flags 0 5 (pos 0) in
     let some = (jalr_sized flags 0 5 (pos 0)).some in
-    let l = frame_leaves space arguments (Op d ∷ []) h e in
     let c = l.comes.course in
     let t = l.comes.state in
-    let held : reg t.values 5 ≡ reg v 5 = sym (c.values.same.regs 5 (lit< tt) refl) ∙ t0_kept site.context.frame arguments v others in
-    let there : wrap (reg t.values 5 + low64 (pos 0)) / 2 * 2 ≡ reg v 5 / 2 * 2 = (λ i. wrap (held i + low64 (pos 0)) / 2 * 2) ∙ ap (λ n. n / 2 * 2) (plus_none (reg v 5) (e.are_values.fits 5)) in
-    let fits = e.are_values.fits 5 in
-    let u = at (reg v 5 / 2 * 2) t.values in
+    let held : reg t.values 5 ≡ x = sym (c.values.same.regs 5 (lit< tt) refl) ∙ kept in
+    let there : wrap (reg t.values 5 + low64 (pos 0)) / 2 * 2 ≡ x / 2 * 2 = (λ i. wrap (held i + low64 (pos 0)) / 2 * 2) ∙ ap (λ n. n / 2 * 2) (plus_none x fits) in
+    let u = at (x / 2 * 2) t.values in
     comes_out u (goes_second l.comes.goes (step_at d [] u c.here (omega arith) l.stands.0 (jalr_acts flags 0 5 (pos 0) t c.is_state ∙ (λ i. Some (at (there i) t.values))))) refl (record {
       same = c.values.same;
       is_state = record { pc = omega arith; values = c.is_state.values };
@@ -176,10 +193,58 @@ t0_out {site} {v = v} space arguments h others e =
       placed = c.here.placed;
     })
 
-pub return_call_ind_runs : (site : Site) (setting : EmitVState) (info : ReturnCallInfo Reg) → number_of info.dest ≡ 5 → is_bad_frame_for site.context.frame (Some (record { stack_arg_size = info.new_stack_arg_size; by_register = true })) ≡ false → RunsIn site setting (ReturnCallInd info)
-return_call_ind_runs site setting info fifth fine = record {
+t0_kept : (frame : FrameLayout) (arguments : ℕ) (v : Values) → AreOthers 5 (restores frame) → reg (frame_left frame arguments v) 5 ≡ reg v 5
+t0_kept frame arguments v others =
+    let loads = restores frame in
+    let u = stack_loaded (reg v 2) loads v in
+    reads_other u 2 5 (wrap (reg v 2 + frame_above frame arguments)) (λ e. absurd (omega arith)) ∙ loaded_other (reg v 2) 5 loads v others
+
+-- ---- the instructions, where no floating-point register is restored
+
+no_float : (saves : List (Writable PReg)) (offset : ℤ) → list_any (λ (r : Writable PReg). is_float_class r.reg.class) saves ≡ false → loads_float (saves_from offset saves) ≡ false
+no_float [] offset e = refl
+no_float (r ∷ saves) offset e = let both = or_parts (is_float_class r.reg.class) _ e in by r.reg.class both.0 (no_float saves (offset -ℤ pos 8) both.1)
+  where
+    by : (class : RegClass) → is_float_class class ≡ false → loads_float (saves_from (offset -ℤ pos 8) saves) ≡ false → (is_float_load (saved_load class) || loads_float (saves_from (offset -ℤ pos 8) saves)) ≡ false
+    by Int e rest = rest
+    by Float e rest = absurd (cc)
+    by Vector e rest = rest
+
+no_float_setup : (frame : FrameLayout) → loads_float (setup_loads frame) ≡ false
+no_float_setup frame = by (frame.setup_area_size == 0)
+  where
+    by : (none : Bool) → loads_float (if none then [] else record { register = 1; op = Ld; offset = pos (sp_to_fp_of frame + 8) } ∷ record { register = 8; op = Ld; offset = pos (sp_to_fp_of frame) } ∷ []) ≡ false
+    by true = refl
+    by false = refl
+
+loads_none : (xs ys : List StackLoad) → loads_float xs ≡ false → loads_float ys ≡ false → loads_float (xs ++ ys) ≡ false
+loads_none [] ys a b = b
+loads_none (l ∷ xs) ys a b = let both = or_parts (is_float_load l.op) (loads_float xs) a in ap (λ c. c || loads_float (xs ++ ys)) both.0 ∙ loads_none xs ys both.1 b
+
+pub restores_none : (frame : FrameLayout) (tail : TailCall) → restores_float frame (Some tail) ≡ false → loads_float (restores frame) ≡ false
+restores_none frame tail e = let from = pos (sp_to_fp_of frame) -ℤ pos 8 in loads_none (saves_from from frame.clobbered_callee_saves) (setup_loads frame) (no_float frame.clobbered_callee_saves from e) (no_float_setup frame)
+
+-- what is restored is of integer registers
+integer_restores : (frame : FrameLayout) (tail : TailCall) → IsRestorable frame → restores_float frame (Some tail) ≡ false → AreLoadable (restores frame)
+integer_restores frame tail h core = integers_loadable (restores frame) (restores_none frame tail core) h.registers
+
+pub return_call_runs : (site : Site) (setting : EmitVState) (info : ReturnCallInfo ExternalName) → restores_float site.context.frame (tail_call_of (ReturnCall info)) ≡ false → is_bad_frame_for site.context.frame (tail_call_of (ReturnCall info)) ≡ false → RunsIn site setting (ReturnCall info)
+return_call_runs site setting info core fine = record {
   run = λ start after s v e clear.
       let n = info.new_stack_arg_size in
-      subst (λ m. ComesOut site start after (Leave (reg v m / 2 * 2)) [] (frame_left site.context.frame n v) s) (sym fifth)
-      (t0_out _ n (is_restorable site.context.frame (record { stack_arg_size = n; by_register = true }) fine) (t0_other site.context.frame n fine) e);
+      let tail : TailCall = record { stack_arg_size = n; by_register = false } in
+      let h = is_restorable site.context.frame tail fine in
+      symbol_out info.dest (frame_leaves _ n (Notes event.CallSite ∷ call_to 0 31 info.dest ∷ []) h (integer_restores site.context.frame tail h core) e);
+}
+
+pub return_call_ind_runs : (site : Site) (setting : EmitVState) (info : ReturnCallInfo Reg) → number_of info.dest ≡ 5 → restores_float site.context.frame (tail_call_of (ReturnCallInd info)) ≡ false → is_bad_frame_for site.context.frame (tail_call_of (ReturnCallInd info)) ≡ false → RunsIn site setting (ReturnCallInd info)
+return_call_ind_runs site setting info fifth core fine = record {
+  run = λ start after s v e clear.
+      let n = info.new_stack_arg_size in
+      let frame = site.context.frame in
+      let tail : TailCall = record { stack_arg_size = n; by_register = true } in
+      let h = is_restorable frame tail fine in
+      let others = integers_other 5 (restores frame) (restores_none frame tail core) (t0_other frame n fine) in
+      subst (λ m. ComesOut site start after (Leave (reg v m / 2 * 2)) [] (frame_left frame n v) s) (sym fifth)
+      (register_out (reg v 5) (t0_kept frame n v others) (e.are_values.fits 5) (frame_leaves _ n (Op (short_jalr site.context.flags 0 5 (pos 0)) ∷ []) h (integer_restores frame tail h core) e));
 }

@@ -1,18 +1,22 @@
 -- Registers come from the stack, and the stack pointer rises or falls.
-use Rattle.std.proofs.Common.{◌≡◌, ◌≢◌, ℕ, ◌+◌, ◌^◌, ◌<◌, Bool, true, false, ℤ, pos, List, [], ◌∷◌, ◌++◌, Some, None, arith, refl, sym, ap, subst, ◌∙◌, lit<, lit≤, eqb-true}
-use Rattle.std.specs.Prelude.{if◌then◌else◌, ◌==◌}
+use Rattle.std.proofs.Common.{◌≡◌, ◌≢◌, ℕ, ◌+◌, ◌^◌, ◌<◌, Bool, true, false, ℤ, pos, List, [], ◌∷◌, ◌++◌, Option, Some, None, arith, refl, sym, ap, subst, ◌∙◌, lit<, lit≤, eqb-true}
+use Rattle.std.specs.Prelude.{if◌then◌else◌, ◌==◌, is_some}
+use Rattle.std.proofs.lemmas.Bool.{or_parts}
 use Rattle.std.specs.List.{AllByRecursion}
 use Rattle.std.proofs.lemmas.List.{append-nil}
 use Rattle.rv_base.specs.declared.flags.IsaFlags.{IsaFlags}
 use Rattle.rv_ops.specs.declared.alu.AluOPRRR.TheVariants.{Add}
 use Rattle.rv_ops.specs.declared.alu.AluOPRRI.TheVariants.{Addi}
 use Rattle.rv_ops.specs.declared.memory.LoadOP.{LoadOP}
+use Rattle.rv_machine.specs.declared.ops.FloatFormat.{FloatFormat}
 use Rattle.rv_machine.specs.Memory.{load_result}
 use Rattle.rv_machine.specs.State.{State, Values, AreValues, reg, set_reg, wrap, low64, at}
+use Rattle.rv_ops.specs.Memory.{is_float_load, load_format}
 use Rattle.rv_encode.specs.Operations.{load_op, decoded_load}
 use Rattle.rv_inst.specs.Addresses.{Based, is_near}
 use Rattle.rv_inst.specs.Forms.{short_rrr, short_rri, short_load}
 use Rattle.rv_inst.specs.Meaning.{stack_loaded}
+use Rattle.rv_inst.specs.Operands.{loads_float}
 use Rattle.rv_inst.specs.Returns.{StackLoad}
 use Rattle.rv_inst.specs.SameValues.{SameBut}
 use Rattle.rv_code.specs.InstParts.{number_slots, address_slots, load_slots, stack_load_slots, far_step_slots, stack_step_slots}
@@ -34,6 +38,14 @@ pub record IsLoadable (n : ℕ) : Type 0 where
   pub usable : n < 30
   pub apart : n ≢ 2
 
+-- a floating-point register is one of the machine
+abbrev pub IsLoadableAs : Option FloatFormat → ℕ → Type 0
+IsLoadableAs None n = IsLoadable n
+IsLoadableAs (Some format) n = n < 32
+
+abbrev pub AreStackLoads : List StackLoad → Type 0
+AreStackLoads loads = AllByRecursion (λ (l : StackLoad). IsLoadableAs (load_format l.op) l.register) loads
+
 -- by a load of integers
 pub record IsStackLoad (l : StackLoad) : Type 0 where
   pub register : IsLoadable l.register
@@ -42,9 +54,34 @@ pub record IsStackLoad (l : StackLoad) : Type 0 where
 abbrev pub AreLoadable : List StackLoad → Type 0
 AreLoadable loads = AllByRecursion IsStackLoad loads
 
+as_integer : (format : Option FloatFormat) (n : ℕ) → is_some format ≡ false → IsLoadableAs format n → IsLoadable n
+as_integer None n e h = h
+as_integer (Some format) n e h = absurd (cc)
+
+-- where none is of a floating-point register
+pub integers_loadable : (loads : List StackLoad) → loads_float loads ≡ false → AreStackLoads loads → AreLoadable loads
+integers_loadable [] e h = tt
+integers_loadable (l ∷ loads) e h = let both = or_parts (is_float_load l.op) (loads_float loads) e in (record { register = as_integer (load_format l.op) l.register both.0 h.0; integer = both.0 }, integers_loadable loads both.1 h.1)
+
 -- none of them is this one
 abbrev pub AreOthers : ℕ → List StackLoad → Type 0
 AreOthers n loads = AllByRecursion (λ (l : StackLoad). l.register ≢ n) loads
+
+-- no integer register among them is this one
+abbrev pub IsOtherAs : Option FloatFormat → ℕ → ℕ → Type 0
+IsOtherAs None n m = m ≢ n
+IsOtherAs (Some format) n m = Unit {0}
+
+abbrev pub AreOthersAs : ℕ → List StackLoad → Type 0
+AreOthersAs n loads = AllByRecursion (λ (l : StackLoad). IsOtherAs (load_format l.op) n l.register) loads
+
+other_as_integer : (format : Option FloatFormat) (n m : ℕ) → is_some format ≡ false → IsOtherAs format n m → m ≢ n
+other_as_integer None n m e h = h
+other_as_integer (Some format) n m e h = absurd (cc)
+
+pub integers_other : (n : ℕ) (loads : List StackLoad) → loads_float loads ≡ false → AreOthersAs n loads → AreOthers n loads
+integers_other n [] e h = tt
+integers_other n (l ∷ loads) e h = let both = or_parts (is_float_load l.op) (loads_float loads) e in (other_as_integer (load_format l.op) n l.register both.0 h.0, integers_other n loads both.1 h.1)
 
 -- so it keeps its value
 pub loaded_other : (sp n : ℕ) (loads : List StackLoad) (v : Values) → AreOthers n loads → reg (stack_loaded sp loads v) n ≡ reg v n

@@ -17,7 +17,6 @@ use Rattle.rv_base.specs.Regs.{number_of}
 use Rattle.rv_encode.specs.Registers.{IsIntRegister}
 use Rattle.rv_inst.proofs.Rules.{breaks_none}
 use Rattle.rv_inst.specs.Context.{Context}
-use Rattle.rv_inst.specs.Frames.{is_unrestored, is_bad_frame, is_bad_frame_for}
 use Rattle.rv_inst.specs.Operands.{tail_call_of}
 use Rattle.rv_inst.specs.Rules.{is_int_class, is_fifth, exceeds_arguments, inst_rule}
 use Rattle.rv_inst.specs.Sizes.{inst_sum}
@@ -25,7 +24,6 @@ use Rattle.rv_inst.specs.declared.error.Rule.TheVariants as rules
 use Rattle.rv_inst.specs.declared.inst.Inst.{Inst}
 use Rattle.rv_inst.specs.declared.inst.Inst.TheVariants.{ReturnCall, ReturnCallInd}
 use Rattle.rv_inst.specs.declared.tail_calls.TailCall.{TailCall}
-use Rattle.rv_code.specs.Usable.{AreSaved}
 use Rattle.rv_code.proofs.Operands.{Keeps, keeps, not_false}
 
 fifth_fine : (r : Reg) → is_fifth r ≡ true → IsIntRegister r × (number_of r ≡ 5)
@@ -46,32 +44,12 @@ target_fine info k = fifth_fine info.dest (not_false (is_fifth info.dest) (first
 
 -- ---- what a tail call asks of its frame
 
-int_saved : (class : RegClass) → not (is_int_class class) ≡ false → class ≡ Int
-int_saved Int e = refl
-int_saved Float e = absurd (cc)
-int_saved Vector e = absurd (cc)
-
--- registers that it restores are integer registers
-pub are_saved : (saves : List (Writable PReg)) → list_any (λ (r : Writable PReg). is_unrestored r.reg) saves ≡ false → AreSaved saves
-are_saved [] e = tt
-are_saved (r ∷ saves) e = let both = or_parts (is_unrestored r.reg) _ e in (int_saved r.reg.class both.0, are_saved saves both.1)
-
-pub frame_saved : (frame : FrameLayout) (tail : TailCall) → is_bad_frame_for frame (Some tail) ≡ false → AreSaved frame.clobbered_callee_saves
-frame_saved frame tail e = are_saved frame.clobbered_callee_saves (or_parts _ _ (or_parts (is_bad_frame frame) _ e).1).0
-
 arguments_fit : (have want : ℕ) → nat_lt have want ≡ false → want ≤ have
 arguments_fit have want e = grind (arith, nat_tests)
 
--- what one asks of the frame, by the rule of its arguments and by the frame
-pub record TailKept (frame : FrameLayout) (arguments : ℕ) : Type 0 where
-  pub arguments_within : arguments ≤ frame.tail_args_size
-  pub saved : AreSaved frame.clobbered_callee_saves
-
-pub tail_kept : (context : Context) (inst : Inst) (tail : TailCall) → tail_call_of inst ≡ Some tail → inst_rule context inst ≡ None → is_bad_frame_for context.frame (tail_call_of inst) ≡ false → TailKept context.frame tail.stack_arg_size
-tail_kept context inst tail is rule fit = record {
-  arguments_within = arguments_fit context.frame.tail_args_size tail.stack_arg_size (ap (exceeds_arguments context.frame) (sym is) ∙ breaks_none context inst rule rules.TailArgs);
-  saved = frame_saved context.frame tail (ap (is_bad_frame_for context.frame) (sym is) ∙ fit);
-}
+-- by the rule of its arguments
+pub tail_kept : (context : Context) (inst : Inst) (tail : TailCall) → tail_call_of inst ≡ Some tail → inst_rule context inst ≡ None → tail.stack_arg_size ≤ context.frame.tail_args_size
+tail_kept context inst tail is rule = arguments_fit context.frame.tail_args_size tail.stack_arg_size (ap (exceeds_arguments context.frame) (sym is) ∙ breaks_none context inst rule rules.TailArgs)
 
 -- how many bytes it counts for
 pub tail_sum : (context : Context) (inst : Inst) (info : ReturnCallInfo ExternalName) → inst ≡ ReturnCall info → inst_sum context inst ≡ 128 + 32 * length context.frame.clobbered_callee_saves

@@ -17,4 +17,6 @@ pub mod Immediates
 pub mod OwnCounts
 pub mod FloatAccesses
 pub mod FullValues
+pub mod FullReturns
+pub mod FullEnds
 pub mod UnitRuns

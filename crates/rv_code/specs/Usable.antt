@@ -53,10 +53,10 @@ abbrev pub IsFineTry : Option TryCallInfo → Type 0
 IsFineTry None = Unit {0}
 IsFineTry (Some t) = IsListed t.continuation
 
--- a result on the stack is loaded, by its type, into an integer register
+-- a result on the stack is loaded, by its type, into a register of the machine
 abbrev pub IsFineResult : Reg → RetLocation → Type 0
 IsFineResult r (InReg s) = Unit {0}
-IsFineResult r (OnStack offset type) = IsIntRegister r × IsSome (result_load type)
+IsFineResult r (OnStack offset type) = IsRealRegister r × IsSome (result_load type)
 
 abbrev pub AreFineResults : List CallRetPair → Type 0
 AreFineResults [] = Unit {0}
@@ -89,11 +89,6 @@ IsApart r (Some base) = number_of r ≢ number_of base
 abbrev pub AreInt : List Reg → Type 0
 AreInt [] = Unit {0}
 AreInt (r ∷ rs) = IsIntRegister r × AreInt rs
-
--- integer registers of the machine
-abbrev pub AreSaved : List (Writable PReg) → Type 0
-AreSaved [] = Unit {0}
-AreSaved (r ∷ saves) = IsIntRegister (Real r.reg) × AreSaved saves
 
 -- values in as many integer registers
 pub record IsFineChoice (to : ValueRegs (Writable Reg)) (condition : IntegerCompare) (first second : ValueRegs Reg) : Type 0 where

@@ -67,7 +67,7 @@ module _ (setting : EmitVState) (inst : Inst) (start end : ℕ) (f : Shape Label
   parts_run : RunsBetween site inst start end
   parts_run = record {
     run = λ s v core placed pc is_state are_values same outside. (inst_runs site setting inst core rule restores).run start end s v (record { even = even; within = stand.3; short = short; labels = bound; stands = stand.0; placed = placed; pc = pc; is_state = is_state; are_values = are_values; same = same }) outside;
-    back = λ r s v is placed pc is_state are_values same. (inst_resumes site setting inst r rule is).run start end s v (record { even = even; within = stand.3; short = short; stands = stand.0; placed = placed; pc = pc; is_state = is_state; are_values = are_values; same = same });
+    back = λ r s v core is placed pc is_state are_values same. (inst_resumes site setting inst r core rule is).run start end s v (record { even = even; within = stand.3; short = short; stands = stand.0; placed = placed; pc = pc; is_state = is_state; are_values = are_values; same = same });
     reads = λ d mem is placed. reads_operation site start d setting inst end is stand.0 mem placed;
   }
 

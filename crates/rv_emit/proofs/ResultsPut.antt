@@ -16,7 +16,7 @@ use Rattle.rv_ops.specs.declared.memory.LoadOP.{LoadOP}
 use Rattle.mach_buffer.specs.Buffer.{shape_of, bytes_of}
 use Rattle.mach_buffer.specs.Constants.{reserve_of}
 use Rattle.rv_inst.specs.Addresses.{Based}
-use Rattle.rv_base.specs.declared.ir_type.IrType.TheVariants.{I8, I16, I32, I64}
+use Rattle.rv_base.specs.declared.ir_type.IrType.TheVariants.{I8, I16, I32, I64, F32, F64}
 use Rattle.rv_ops.specs.Memory.{load_of}
 use Rattle.rv_inst.specs.Returns.{typed_loads, location_loads, result_loads, result_load}
 use Rattle.rv_inst.specs.Rules.{is_on_stack, is_stacked}
@@ -127,6 +127,8 @@ typed_is I8 some = refl
 typed_is I16 some = refl
 typed_is I32 some = refl
 typed_is I64 some = refl
+typed_is F32 some = refl
+typed_is F64 some = refl
 typed_is _ some = absurd (cc)
 
 pub typed_put : {flags : IsaFlags} (register offset : ℕ) (op : LoadOP) (found : Option LoadOP) (old new : Buffer) → found ≡ Some op → PutsAlone flags (load_slots flags register op None (Based 2 (pos offset))) old new → PutsAlone flags (stack_load_slots flags (typed_loads register offset found)) old new

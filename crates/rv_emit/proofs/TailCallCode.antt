@@ -29,14 +29,13 @@ use Rattle.mach_buffer.specs.Constants.{reserve_of}
 use Rattle.rv_machine.specs.State.{low64}
 use Rattle.rv_inst.specs.Addresses.{Based, is_near}
 use Rattle.rv_inst.specs.Forms.{short_rrr, short_rri, short_jalr}
-use Rattle.rv_inst.specs.Returns.{StackLoad, saves_from, setup_loads, restores, frame_above}
+use Rattle.rv_inst.specs.Returns.{StackLoad, saved_load, saves_from, setup_loads, restores, frame_above}
 use Rattle.rv_inst.specs.Records.{site_event}
 use Rattle.rv_inst.specs.Sizes.{stack_loads_size, stack_step_size, fall, call_size, return_size}
 use Rattle.rv_emit.specs.Emission.{PutsAlone, PutsParts}
 use Rattle.rv_emit.specs.Emitted.{Buffer, IsSoundBuffer, IslandIfNeeded, AppendsIsland, pending}
 use Rattle.rv_code.specs.InstParts.{load_slots, number_slots, stack_load_slots, far_step_slots, stack_step_slots, return_slots, call_to, tail_slots, t0_slots, map_notes, return_notes, after_call, patch_notes, call_slots, call_ind_slots}
 use Rattle.rv_code.specs.Slots.{Slot, Op, Notes, Ask, Slots, size_of}
-use Rattle.rv_code.specs.Usable.{AreSaved}
 use Rattle.rv_code.proofs.MemorySlots.{HaveAccess, none, nothing}
 use Rattle.rv_code.proofs.PlainSlots.{IsPlain}
 use Rattle.rv_emit.proofs.SlotsOfSeveralPuts.{both_alone, alone_long}
@@ -48,9 +47,9 @@ use Rattle.rv_code.proofs.TailSlots.{loads_then, loads_most, saves_long, setup_f
 
 -- ---- loads
 
--- a load of eight bytes
+-- the load of a saved register
 abbrev pub eight_at : Writable PReg → ℤ → StackLoad
-eight_at r offset = record { register = r.reg.number; op = Ld; offset = offset }
+eight_at r offset = record { register = r.reg.number; op = saved_load r.reg.class; offset = offset }
 
 loads_counted : (flags : IsaFlags) (loads : List StackLoad) → HaveAccess (stack_loads_size flags loads + 0) 0 none None None (stack_load_slots flags loads)
 loads_counted flags loads = subst (HaveAccess (stack_loads_size flags loads + 0) 0 none None None) (append-nil (stack_load_slots flags loads)) (loads_then flags loads nothing)
@@ -80,10 +79,10 @@ saves_more o saves k d lt =
     ap (saves_from o) (take_more saves k d lt) ∙ saves_both o (take k saves) (get_or saves k d ∷ []) ∙ ap (λ n. saves_from o (take k saves) ++ eight_at (get_or saves k d) (o -ℤ pos (8 * n)) ∷ []) long
 
 -- one more
-pub saved_put : {flags : IsaFlags} (o at : ℤ) (saves : List (Writable PReg)) (k : ℕ) (d : Writable PReg) (old mid new : Buffer) → k < length saves → at ≡ o -ℤ pos (8 * k) → PutsAlone flags (stack_load_slots flags (saves_from o (take k saves))) old mid → PutsAlone flags (load_slots flags (get_or saves k d).reg.number Ld None (Based 2 at)) mid new → PutsAlone flags (stack_load_slots flags (saves_from o (take (k + 1) saves))) old new
+pub saved_put : {flags : IsaFlags} (o at : ℤ) (saves : List (Writable PReg)) (k : ℕ) (d : Writable PReg) (old mid new : Buffer) → k < length saves → at ≡ o -ℤ pos (8 * k) → PutsAlone flags (stack_load_slots flags (saves_from o (take k saves))) old mid → PutsAlone flags (load_slots flags (get_or saves k d).reg.number (saved_load (get_or saves k d).reg.class) None (Based 2 at)) mid new → PutsAlone flags (stack_load_slots flags (saves_from o (take (k + 1) saves))) old new
 saved_put {flags} o at saves k d old mid new lt is p q =
     let before = saves_from o (take k saves) in
-    let own = load_slots flags (get_or saves k d).reg.number Ld None (Based 2 at) in
+    let own = load_slots flags (get_or saves k d).reg.number (saved_load (get_or saves k d).reg.class) None (Based 2 at) in
     let next = eight_at (get_or saves k d) at ∷ [] in
     let here = ap (λ x. before ++ eight_at (get_or saves k d) x ∷ []) (sym is) in
     subst (λ slots. PutsAlone flags slots old new) (sym (ap (stack_load_slots flags) (saves_more o saves k d lt ∙ here) ∙ loads_both flags before next))
@@ -111,16 +110,11 @@ saved_at saves k r lt e = e ∙ same saves k r lt
     same (r ∷ saves) (suc k) d lt = same saves k d (omega arith)
 
 -- one more, as the loop puts it
-pub saved_more : {flags : IsaFlags} (o : ℤ) (saves : List (Writable PReg)) (k index : ℕ) (r : Writable PReg) (old mid new : Buffer) → k < length saves → r ≡ slice_index_or saves k r → index ≡ k → PutsAlone flags (stack_load_slots flags (saves_from o (take k saves))) old mid → PutsAlone flags (load_slots flags r.reg.number Ld None (Based 2 (o -ℤ pos (8 * index)))) mid new → PutsAlone flags (stack_load_slots flags (saves_from o (take (k + 1) saves))) old new
+pub saved_more : {flags : IsaFlags} (o : ℤ) (saves : List (Writable PReg)) (k index : ℕ) (r : Writable PReg) (old mid new : Buffer) → k < length saves → r ≡ slice_index_or saves k r → index ≡ k → PutsAlone flags (stack_load_slots flags (saves_from o (take k saves))) old mid → PutsAlone flags (load_slots flags r.reg.number (saved_load r.reg.class) None (Based 2 (o -ℤ pos (8 * index)))) mid new → PutsAlone flags (stack_load_slots flags (saves_from o (take (k + 1) saves))) old new
 saved_more {flags} o saves k index r old mid new lt read is p q =
     saved_put o (o -ℤ pos (8 * k)) saves k r old mid new lt refl p
-    (subst (λ x. PutsAlone flags (load_slots flags x.reg.number Ld None (Based 2 (o -ℤ pos (8 * k)))) mid new) (saved_at saves k r lt read)
-    (subst (λ n. PutsAlone flags (load_slots flags r.reg.number Ld None (Based 2 (o -ℤ pos (8 * n)))) mid new) is q))
-
-pub each_saved : (saves : List (Writable PReg)) (k : ℕ) (d : Writable PReg) → AreSaved saves → k < length saves → IsIntRegister (Real (get_or saves k d).reg)
-each_saved [] k d h lt = absurd (omega arith)
-each_saved (r ∷ saves) zero d h lt = h.0
-each_saved (r ∷ saves) (suc k) d h lt = each_saved saves k d h.1 (omega arith)
+    (subst (λ x. PutsAlone flags (load_slots flags x.reg.number (saved_load x.reg.class) None (Based 2 (o -ℤ pos (8 * k)))) mid new) (saved_at saves k r lt read)
+    (subst (λ n. PutsAlone flags (load_slots flags r.reg.number (saved_load r.reg.class) None (Based 2 (o -ℤ pos (8 * n)))) mid new) is q))
 
 -- the return address and the frame pointer
 pub no_setup : (flags : IsaFlags) (frame : FrameLayout) (old new : Buffer) → frame.setup_area_size ≡ 0 → PutsAlone flags [] old new → PutsAlone flags (stack_load_slots flags (setup_loads frame)) old new

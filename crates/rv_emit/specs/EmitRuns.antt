@@ -10,7 +10,7 @@ use Rattle.rv_machine.specs.Steps.{fetch}
 use Rattle.rv_inst.specs.Sizes.{inst_records, operation_of}
 use Rattle.rv_inst.specs.Operands.{Return, return_of, inst_temporaries}
 use Rattle.rv_inst.specs.Context.{Context}
-use Rattle.rv_inst.specs.Core.{is_integer}
+use Rattle.rv_inst.specs.Core.{is_integer, is_integer_in}
 use Rattle.rv_inst.specs.LabelUse.{label_kinds}
 use Rattle.rv_inst.specs.Meaning.{AreOutside, inst_effect, inst_exit, inst_writes, resumed, try_exit}
 use Rattle.rv_inst.specs.Operands.{inst_constant, named_by, try_call_of}
@@ -48,11 +48,11 @@ pub record HasCode (context : Context) (f : Shape LabelUse) (site : Site) : Type
   pub keeps : KeepsOutside site bytes
   pub filled : IsFilled site bytes
 
--- From the first of two offsets, where the instruction is of the integer core, and from where a call returns, the machine comes out as the
+-- Where the instruction is of the integer core: from the first of two offsets, and from where a call returns, the machine comes out as the
 -- instruction means, where that writes on no byte of the code; and where one operation stands for it, that is read at the first offset.
 pub record RunsBetween (site : Site) (inst : Inst) (start end : ℕ) : Type 0 where
-  pub run : (s : State) (v : Values) → is_integer inst ≡ true → IsPlacedAt site s.values.mem → s.pc ≡ wrap (site.base + start) → IsState s → AreValues v → Same v s.values → AreOutside site.base (length site.bytes) (inst_writes (environment site start end) inst v) → ComesOut site start end (inst_exit (environment site start end) inst v) (inst_temporaries inst) (inst_effect (environment site start end) inst v) s
-  pub back : (r : Return) (s : State) (v : Values) → return_of site.context.flags inst ≡ Some r → IsPlacedAt site s.values.mem → s.pc ≡ wrap (site.base + (start + r.offset)) → IsState s → AreValues v → Same v s.values → ComesOut site start end (try_exit (try_call_of inst)) [] (resumed r v) s
+  pub run : (s : State) (v : Values) → is_integer_in site.context.frame inst ≡ true → IsPlacedAt site s.values.mem → s.pc ≡ wrap (site.base + start) → IsState s → AreValues v → Same v s.values → AreOutside site.base (length site.bytes) (inst_writes (environment site start end) inst v) → ComesOut site start end (inst_exit (environment site start end) inst v) (inst_temporaries inst) (inst_effect (environment site start end) inst v) s
+  pub back : (r : Return) (s : State) (v : Values) → is_integer inst ≡ true → return_of site.context.flags inst ≡ Some r → IsPlacedAt site s.values.mem → s.pc ≡ wrap (site.base + (start + r.offset)) → IsState s → AreValues v → Same v s.values → ComesOut site start end (try_exit (try_call_of inst)) [] (resumed r v) s
   pub reads : (d : Decoded) (mem : Memory) → operation_of site.context inst ≡ Some d → IsPlacedAt site mem → decode site.context.flags (fetch mem (site.base + start)) ≡ Some d
 
 -- What was put between the ends of two buffers runs so wherever the second one's code is finished, with what came after it; what stood

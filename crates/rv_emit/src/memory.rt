@@ -97,7 +97,7 @@ pub(crate) fn put_load(
     }
 }
 
-fn put_based_load(
+pub(crate) fn put_based_load(
     sink: &mut MachBuffer<LabelUse>,
     flags: IsaFlags,
     rd: WritableReg,

@@ -3,7 +3,7 @@
 ghost use Rattle.std.specs.Prelude.{◌≡◌, ◌∷◌, ◌++◌, [], ◌+◌, ◌*◌, ◌^◌, ◌<◌, length, count_by, OnOk, OnErr, IsSome, true};
 ghost use Rattle.rv_base.specs.LabelUse.{code_limit};
 ghost use Rattle.rv_base.specs.Regs.{number_of};
-ghost use Rattle.rv_encode.specs.Registers.{IsIntRegister};
+ghost use Rattle.rv_encode.specs.Registers.{IsRealRegister};
 ghost use Rattle.mach_buffer.specs.Buffer.{shape_of, bytes_of, allocated_of, spoiled_of};
 ghost use Rattle.mach_buffer.specs.Constants.{reserve_of};
 ghost use Rattle.mach_uses.specs.Reach.{CanReach};
@@ -117,7 +117,7 @@ fn put_typed(
     offset: u32,
     ty: IrType,
 ) -> Result<(), OutOfMemory>
-    requires rd { IsIntRegister rd.reg }
+    requires rd { IsRealRegister rd.reg }
     requires typed { IsSome (result_load ty) }
     requires room { length (bytes_of sink.old) + 28 < code_limit }
     requires sound { IsSoundBuffer sink.old }

@@ -4,30 +4,28 @@ ghost use Rattle.std.specs.Prelude.{◌≡◌, ◌∷◌, [], ◌+◌, ◌*◌, 
 ghost use Rattle.rv_base.specs.Frame.{sp_to_args_end};
 ghost use Rattle.rv_base.specs.LabelUse.{code_limit};
 ghost use Rattle.rv_base.specs.Regs.{number_of};
-ghost use Rattle.rv_base.specs.declared.regs.Reg.TheVariants.{Real};
 ghost use Rattle.rv_ops.specs.declared.memory.LoadOP.TheVariants.{Ld};
-ghost use Rattle.rv_encode.specs.Registers.{IsIntRegister};
+ghost use Rattle.rv_encode.specs.Registers.{IsIntRegister, IsRealRegister};
 ghost use Rattle.mach_buffer.specs.Buffer.{shape_of, bytes_of, allocated_of, spoiled_of};
 ghost use Rattle.mach_buffer.specs.Constants.{reserve_of};
 ghost use Rattle.mach_uses.specs.Reach.{CanReach};
 ghost use Rattle.mach_uses.specs.Labels.{inner_count};
 ghost use Rattle.rv_inst.specs.Addresses.{Based};
-ghost use Rattle.rv_inst.specs.Returns.{saves_from, setup_loads, frame_above};
+ghost use Rattle.rv_inst.specs.Returns.{saved_load, saves_from, setup_loads, frame_above};
 ghost use Rattle.rv_inst.specs.Sizes.{return_size};
 ghost use Rattle.rv_emit.specs.Emission.{PutsAlone, PutsParts};
 ghost use Rattle.rv_emit.specs.Emitted.{IsSoundBuffer, pending};
 ghost use Rattle.rv_code.specs.InstParts.{load_slots, stack_load_slots, far_step_slots, stack_step_slots, return_slots, tail_slots, t0_slots};
 ghost use Rattle.rv_code.specs.Slots.{Ask, Slots};
-ghost use Rattle.rv_code.specs.Usable.{AreSaved};
 
 use crate::island::emit_island_if_needed;
-use crate::memory::{Place, put_load};
+use crate::memory::put_based_load;
 use crate::numbers::put_number;
 use crate::shortest::{put_jalr, put_rri, put_rrr};
 use crate::symbols::{put_call_site, put_call_to};
 use mach_buffer::MachBuffer;
 use rv_base::{
-    ExternalName, FrameLayout, IsaFlags, OutOfMemory, PReg, Reg, ReturnCallInfo, Writable,
+    ExternalName, FrameLayout, IsaFlags, OutOfMemory, PReg, Reg, RegClass, ReturnCallInfo, Writable,
     WritableReg, spilltmp_reg, stack_reg, writable_fp_reg, writable_link_reg,
     writable_spilltmp_reg, writable_stack_reg, writable_zero_reg,
 };
@@ -46,7 +44,6 @@ pub(crate) fn put_tail_call(
 ) -> Result<(), OutOfMemory>
     requires frame { sp_to_args_end frame.now < 2 ^ 31 }
     requires arguments { info.now.new_stack_arg_size ≤ frame.now.tail_args_size }
-    requires saved { AreSaved frame.now.clobbered_callee_saves }
     requires reach { CanReach (length (bytes_of sink.old)) (pending sink.old) }
     requires few { allocated_of sink.old < inner_count }
     requires room { length (bytes_of sink.old) + 32 * length frame.now.clobbered_callee_saves + reserve_of (shape_of sink.old) + 8 * length (pending sink.old) + 160 < code_limit }
@@ -77,7 +74,6 @@ pub(crate) fn put_tail_jump(
 ) -> Result<(), OutOfMemory>
     requires frame { sp_to_args_end frame.now < 2 ^ 31 }
     requires arguments { info.now.new_stack_arg_size ≤ frame.now.tail_args_size }
-    requires saved { AreSaved frame.now.clobbered_callee_saves }
     requires target { IsIntRegister info.now.dest }
     requires fifth { number_of info.now.dest ≡ 5 }
     requires reach { CanReach (length (bytes_of sink.old)) (pending sink.old) }
@@ -104,7 +100,6 @@ fn measured(
 ) -> Result<u32, OutOfMemory>
     requires frame { sp_to_args_end frame.now < 2 ^ 31 }
     requires arguments { arguments ≤ frame.now.tail_args_size }
-    requires saved { AreSaved frame.now.clobbered_callee_saves }
     requires room { 28 * length frame.now.clobbered_callee_saves + 80 < code_limit }
     ensures size { IfOk result (λ size. size ≡ return_size flags frame.now arguments) }
     ensures same { OnOk result (sink.new ≡ sink.old) }
@@ -128,7 +123,6 @@ fn return_length(
 ) -> Result<u32, OutOfMemory>
     requires frame { sp_to_args_end frame.now < 2 ^ 31 }
     requires arguments { arguments ≤ frame.now.tail_args_size }
-    requires saved { AreSaved frame.now.clobbered_callee_saves }
     requires room { 28 * length frame.now.clobbered_callee_saves + 80 < code_limit }
     ensures { IfOk result (λ size. size ≡ return_size flags frame.now arguments) }
 {
@@ -146,7 +140,6 @@ fn put_return(
 ) -> Result<(), OutOfMemory>
     requires frame { sp_to_args_end frame.now < 2 ^ 31 }
     requires arguments { arguments ≤ frame.now.tail_args_size }
-    requires saved { AreSaved frame.now.clobbered_callee_saves }
     requires room { length (bytes_of sink.old) + 28 * length frame.now.clobbered_callee_saves + 80 < code_limit }
     requires sound { IsSoundBuffer sink.old }
     ensures slots { OnOk result (PutsAlone flags (return_slots flags frame.now arguments) sink.old sink.new) }
@@ -180,7 +173,6 @@ fn put_saves(
     below: u32,
     saves: &[Writable<PReg>],
 ) -> Result<(), OutOfMemory>
-    requires saved { AreSaved saves.now }
     requires room { length (bytes_of sink.old) + 28 * length saves.now < code_limit }
     requires sound { IsSoundBuffer sink.old }
     ensures slots { OnOk result (PutsAlone flags (stack_load_slots flags (saves_from (pos below -ℤ pos 8) saves.now)) sink.old sink.new) }
@@ -200,16 +192,31 @@ fn put_save(
     below: u32,
     index: u32,
 ) -> Result<(), OutOfMemory>
-    requires save { IsIntRegister (Real save.reg) }
     requires room { length (bytes_of sink.old) + 28 < code_limit }
     requires sound { IsSoundBuffer sink.old }
-    ensures slots { OnOk result (PutsAlone flags (load_slots flags save.reg.number Ld None (Based 2 (pos below -ℤ pos 8 -ℤ pos (8 * index)))) sink.old sink.new) }
+    ensures slots { OnOk result (PutsAlone flags (load_slots flags save.reg.number (saved_load save.reg.class) None (Based 2 (pos below -ℤ pos 8 -ℤ pos (8 * index)))) sink.old sink.new) }
     ensures refused { OnErr result (spoiled_of sink.new ≡ true) }
 {
     let rd = Writable {
         reg: Reg::Real(save.reg),
     };
-    put_stack_load(sink, flags, rd, LoadOP::Ld, saved_offset(below, index))
+    put_stack_load(
+        sink,
+        flags,
+        rd,
+        saved_load(save.reg.class),
+        saved_offset(below, index),
+    )
+}
+
+/// The load of a register that a frame saves, by its class: no frame saves a vector register.
+fn saved_load(class: RegClass) -> LoadOP
+    ensures { result ≡ saved_load class }
+{
+    match class {
+        RegClass::Int | RegClass::Vector => LoadOP::Ld,
+        RegClass::Float => LoadOP::Fld,
+    }
 }
 
 /// Where a frame has a register that it saves, by its index, in bytes above the stack pointer.
@@ -246,7 +253,7 @@ fn put_above(
     rd: WritableReg,
     above: u32,
 ) -> Result<(), OutOfMemory>
-    requires rd { IsIntRegister rd.reg }
+    requires rd { IsRealRegister rd.reg }
     requires room { length (bytes_of sink.old) + 28 < code_limit }
     requires sound { IsSoundBuffer sink.old }
     ensures slots { OnOk result (PutsAlone flags (load_slots flags (number_of rd.reg) Ld None (Based 2 (pos above))) sink.old sink.new) }
@@ -263,13 +270,13 @@ pub(crate) fn put_stack_load(
     op: LoadOP,
     offset: i64,
 ) -> Result<(), OutOfMemory>
-    requires rd { IsIntRegister rd.reg }
+    requires rd { IsRealRegister rd.reg }
     requires room { length (bytes_of sink.old) + 28 < code_limit }
     requires sound { IsSoundBuffer sink.old }
     ensures slots { OnOk result (PutsAlone flags (load_slots flags (number_of rd.reg) op None (Based 2 offset)) sink.old sink.new) }
     ensures refused { OnErr result (spoiled_of sink.new ≡ true) }
 {
-    put_load(sink, flags, rd, op, None, Place::Based(stack_reg(), offset))
+    put_based_load(sink, flags, rd, op, None, stack_reg(), offset)
 }
 
 /// The stack pointer rises by so many bytes.

@@ -12,7 +12,7 @@ use Rattle.rv_asm.specs.Users.{int_reg, is_integer_line}
 use Rattle.rv_asm.proofs.Laws.{reads_back, reads_other, stored_is_loaded, same_are_loaded_alike, elsewhere_unchanged}
 use Rattle.rv_expr.specs.Listing.{load_from, store_to}
 use Rattle.rv_expr.proofs.Places.{place, places_apart, place_inside}
-use Rattle.rv_expr.proofs.Steps.{Run, IsRun, Stands, Goes, is_changed, sp_of, line_runs, to_next}
+use Rattle.rv_expr.proofs.Steps.{job_in, Run, IsRun, Stands, Goes, is_changed, sp_of, line_runs, to_next}
 
 -- ---- a line that puts a number into a register
 
@@ -28,7 +28,7 @@ writes_none : (base size : ℕ) (addresses : List ℕ) → addresses ≡ [] → 
 writes_none base size [] e = λ k below. absurd (omega arith)
 writes_none base size (a ∷ addresses) e = absurd (cc)
 
-pub computes : (r : Run) (k : ℕ) (line : Line) (s : State) (n x : ℕ) → IsRun r → Stands r k s → slice_get r.lines k ≡ Some line → suc k < length r.lines → 0 < n → n < 30 → is_changed n ≡ true → is_integer_line line ≡ true → temporaries_of line ≡ [] →
+pub computes : (r : Run) (k : ℕ) (line : Line) (s : State) (n x : ℕ) → IsRun r → Stands r k s → slice_get r.lines k ≡ Some line → suc k < length r.lines → 0 < n → n < 30 → is_changed n ≡ true → is_integer_line (job_in r).frame line ≡ true → temporaries_of line ≡ [] →
     ((env : Environment) → exit_of env line s.values ≡ Next) → ((env : Environment) → writes_of env line s.values ≡ []) → ((env : Environment) → effect_of env line s.values ≡ set_reg s.values n x) → Computed r s (suc k) n x
 computes r k line s n x h at listed more some low changed core temps exits writes effects =
     let c = line_runs r k line s (set_reg s.values n x) Next (At (suc k)) h at listed core temps exits effects (λ env. writes_none r.base (length r.code.bytes) (writes_of env line s.values) (writes env)) (to_next r k more) in

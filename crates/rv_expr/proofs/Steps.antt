@@ -66,7 +66,7 @@ pub record Came (r : Run) (s : State) (q : Point) (v : Values) : Type 0 where
   pub same : Same v state.values
 
 -- From a line's start, where the line writes none of the code, the machine comes to where the line leads, with the values that it makes.
-pub line_runs : (r : Run) (k : ℕ) (line : Line) (s : State) (v : Values) (e : Exit) (q : Point) → IsRun r → Stands r k s → slice_get r.lines k ≡ Some line → is_integer_line line ≡ true → temporaries_of line ≡ [] →
+pub line_runs : (r : Run) (k : ℕ) (line : Line) (s : State) (v : Values) (e : Exit) (q : Point) → IsRun r → Stands r k s → slice_get r.lines k ≡ Some line → is_integer_line (job_in r).frame line ≡ true → temporaries_of line ≡ [] →
     ((env : Environment) → exit_of env line s.values ≡ e) → ((env : Environment) → effect_of env line s.values ≡ v) → ((env : Environment) → AreOutside r.base (length r.code.bytes) (writes_of env line s.values)) →
     ((p : Point) → Leads r.lines r.code k e p → p ≡ q) → Came r s q v
 line_runs r k line s v e q h at listed core temps exits effects outside leads =

@@ -1,5 +1,5 @@
 -- Results of calls on the stack: how many of them are loaded, and whether their call asks for an island.
-use Rattle.std.proofs.Common.{◌≡◌, ℕ, Bool, true, false, List, [], ◌∷◌, ◌++◌, Option, pos, refl, ap, sym, ◌∙◌}
+use Rattle.std.proofs.Common.{◌≡◌, ℕ, Bool, true, false, List, [], ◌∷◌, ◌++◌, Option, None, Some, pos, refl, ap, sym, ◌∙◌}
 use Rattle.std.specs.Prelude.{is_some, not, ◌&&◌, ◌||◌}
 use Rattle.std.specs.List.{list_any}
 use Rattle.rv_base.specs.declared.call.CallInfo.{CallInfo}
@@ -8,14 +8,14 @@ use Rattle.rv_base.specs.declared.call.RetLocation.TheVariants.{Reg as InReg, St
 use Rattle.rv_base.specs.declared.call.TryCallInfo.{TryCallInfo}
 use Rattle.rv_base.specs.declared.external_name.ExternalName.{ExternalName}
 use Rattle.rv_base.specs.declared.flags.IsaFlags.{IsaFlags}
-use Rattle.rv_base.specs.declared.ir_type.IrType.TheVariants.{I8, I16, I32, I64, I128, F16, F32, F64, F128, Vector}
 use Rattle.rv_base.specs.declared.regs.Reg.{Reg}
 use Rattle.rv_base.specs.Regs.{number_of}
+use Rattle.rv_ops.specs.declared.memory.LoadOP.{LoadOP}
 use Rattle.rv_inst.specs.Context.{Context}
 use Rattle.rv_inst.specs.Forms.{short_jalr}
 use Rattle.rv_inst.specs.declared.inst.Inst.{Inst}
 use Rattle.rv_inst.specs.declared.inst.Inst.TheVariants.{Call, CallInd}
-use Rattle.rv_inst.specs.Returns.{StackLoad, location_loads, result_loads, loads_unless}
+use Rattle.rv_inst.specs.Returns.{StackLoad, location_loads, loads_unless, result_load, result_loads, typed_loads}
 use Rattle.rv_inst.specs.Rules.{is_loaded, is_loaded_from}
 use Rattle.rv_inst.specs.Sizes.{call_extent, space_in, extra_in, island_space}
 use Rattle.rv_base.specs.declared.call.RetLocation.{RetLocation}
@@ -25,22 +25,17 @@ abbrev some_load : List StackLoad → Bool
 some_load [] = false
 some_load (l ∷ loads) = true
 
+typed_some : (register offset : ℕ) (op : Option LoadOP) (loads : List StackLoad) (others : Bool) → some_load loads ≡ others → some_load (typed_loads register offset op ++ loads) ≡ (is_some op || others)
+typed_some register offset None loads others rest = rest
+typed_some register offset (Some op) loads others rest = refl
+
 any_loaded : (defs : List CallRetPair) → some_load (result_loads defs) ≡ list_any is_loaded defs
 any_loaded [] = refl
 any_loaded (d ∷ defs) = by d.vreg.reg d.location (any_loaded defs)
   where
     by : (r : Reg) (location : RetLocation) → some_load (result_loads defs) ≡ list_any is_loaded defs → some_load (location_loads r location ++ result_loads defs) ≡ (is_loaded_from location || list_any is_loaded defs)
     by r (InReg s) rest = rest
-    by r (OnStack offset I8) rest = refl
-    by r (OnStack offset I16) rest = refl
-    by r (OnStack offset I32) rest = refl
-    by r (OnStack offset I64) rest = refl
-    by r (OnStack offset I128) rest = rest
-    by r (OnStack offset F16) rest = rest
-    by r (OnStack offset F32) rest = rest
-    by r (OnStack offset F64) rest = rest
-    by r (OnStack offset F128) rest = rest
-    by r (OnStack offset (Vector v)) rest = rest
+    by r (OnStack offset type) rest = typed_some (number_of r) offset (result_load type) (result_loads defs) (list_any is_loaded defs) rest
 
 asks : (flags : IsaFlags) (jump popped : ℕ) (loads : List StackLoad) (t : Option TryCallInfo) → is_some (space_in (call_extent flags jump popped loads t)) ≡ some_load loads
 asks flags jump popped [] t = refl

@@ -1,12 +1,17 @@
 -- Lines of the integer core: the integer machine alone says what they mean. Of all others the machine with all units does.
-use Rattle.std.specs.Prelude.{Bool, true, false, not, ◌&&◌}
+use Rattle.std.specs.Prelude.{Bool, true, false, not, ◌&&◌, Option, Some, None}
+use Rattle.std.specs.List.{list_any}
+use Rattle.rv_base.specs.declared.frame.FrameLayout.{FrameLayout}
+use Rattle.rv_base.specs.declared.regs.PReg.{PReg}
+use Rattle.rv_base.specs.declared.regs.Writable.{Writable}
 use Rattle.rv_inst.specs.Families.{family_of}
 use Rattle.rv_inst.specs.declared.inst.Family.{Family}
 use Rattle.rv_inst.specs.declared.inst.Family.TheVariants.{Pseudo, Integer, Memory, Control, Loop, Symbols, Calls, Float}
 use Rattle.rv_inst.specs.declared.inst.Inst.{Inst}
 use Rattle.rv_inst.specs.declared.inst.Line.{Line}
 use Rattle.rv_inst.specs.declared.inst.Line.TheVariants.{Inst as Put, Bind}
-use Rattle.rv_inst.specs.Operands.{operands_of}
+use Rattle.rv_inst.specs.Operands.{is_float_class, operands_of, tail_call_of}
+use Rattle.rv_inst.specs.declared.tail_calls.TailCall.{TailCall}
 
 abbrev pub is_integer_family : Family → Bool
 is_integer_family Pseudo = true
@@ -22,6 +27,15 @@ is_integer_family Float = false
 abbrev pub is_integer : Inst → Bool
 is_integer inst = is_integer_family (family_of inst) && not (operands_of inst).floats
 
-abbrev pub is_integer_line : Line → Bool
-is_integer_line (Put inst) = is_integer inst
-is_integer_line (Bind label) = true
+-- whether a tail call restores a floating-point register that its frame saves
+abbrev pub restores_float : FrameLayout → Option TailCall → Bool
+restores_float frame None = false
+restores_float frame (Some tail) = list_any (λ (r : Writable PReg). is_float_class r.reg.class) frame.clobbered_callee_saves
+
+-- so it is in a frame where none is restored either
+abbrev pub is_integer_in : FrameLayout → Inst → Bool
+is_integer_in frame inst = not (restores_float frame (tail_call_of inst)) && is_integer inst
+
+abbrev pub is_integer_line : FrameLayout → Line → Bool
+is_integer_line frame (Put inst) = is_integer_in frame inst
+is_integer_line frame (Bind label) = true

@@ -1,5 +1,5 @@
 -- Frames that can't be made, or that no tail call can take away.
-use Rattle.std.specs.Prelude.{◌^◌, Bool, false, not, ◌||◌, ◌&&◌, ◌==◌, nat_lt, nat_le, Option, Some, None}
+use Rattle.std.specs.Prelude.{◌^◌, Bool, false, ◌||◌, ◌&&◌, ◌==◌, nat_lt, nat_le, Option, Some, None}
 use Rattle.std.specs.List.{list_any}
 use Rattle.rv_base.specs.declared.frame.FrameLayout.{FrameLayout}
 use Rattle.rv_base.specs.declared.regs.PReg.{PReg}
@@ -12,10 +12,6 @@ use Rattle.rv_inst.specs.declared.tail_calls.TailCall.{TailCall}
 abbrev pub is_unsaved : PReg → Bool
 is_unsaved p = is_vector_class p.class || (is_int_class p.class && (nat_lt p.number 3 || p.number == 8 || nat_le 30 p.number))
 
--- one that a tail call doesn't restore: of floats
-abbrev pub is_unrestored : PReg → Bool
-is_unrestored p = not (is_int_class p.class)
-
 -- t0, through which a tail call to a register's address goes
 abbrev pub is_t0 : PReg → Bool
 is_t0 p = is_x 5 p
@@ -24,9 +20,9 @@ is_t0 p = is_x 5 p
 abbrev pub is_bad_frame : FrameLayout → Bool
 is_bad_frame frame = nat_le (2 ^ 31) (sp_to_args_end frame) || list_any (λ (r : Writable PReg). is_unsaved r.reg) frame.clobbered_callee_saves
 
--- a frame that a tail call can't restore, since it saves a float register, or the register through which the call goes
+-- a frame that a tail call can't restore, since it saves the register through which the call goes
 abbrev pub is_unrestorable : FrameLayout → TailCall → Bool
-is_unrestorable frame tail = list_any (λ (r : Writable PReg). is_unrestored r.reg) frame.clobbered_callee_saves || (tail.by_register && list_any (λ (r : Writable PReg). is_t0 r.reg) frame.clobbered_callee_saves)
+is_unrestorable frame tail = tail.by_register && list_any (λ (r : Writable PReg). is_t0 r.reg) frame.clobbered_callee_saves
 
 abbrev pub is_unrestorable_for : FrameLayout → Option TailCall → Bool
 is_unrestorable_for frame None = false

@@ -115,10 +115,14 @@ pub record Return : Type 0 where
 abbrev pub returns_at : ℕ → ℕ → List StackLoad → Option Return
 returns_at offset popped loads = Some (record { offset = offset; popped = popped; loads = loads })
 
+-- whether one of these is of a floating-point register
+abbrev pub loads_float : List StackLoad → Bool
+loads_float loads = list_any (λ (l : StackLoad). is_float_load l.op) loads
+
 -- What an instruction names: its registers; the labels, or the constant, by what it does with them; the labels of its table, the default
 -- first; and the numbers of its temporaries, beside x30 and x31, which may hold anything after it. Of a call: its results, where control
 -- goes after one that ends its block, where one returns, by the flags, and the tail call that it is. Of an instruction that moves values
--- of any class: whether it moves one of a floating-point register.
+-- of any class, and of a call: whether it moves, or loads as a result, one of a floating-point register.
 pub record Operands : Type 0 where
   pub registers : List Reg
   pub targets : Targets
@@ -173,8 +177,8 @@ operands_of (StackProbeLoop guard_size probe_count tmp) = record (only (tmp.reg 
 operands_of (LoadExtNameGot rd name) = only (rd.reg ∷ [])
 operands_of (LoadExtNameNear rd name offset) = only (rd.reg ∷ [])
 operands_of (LoadExtNameFar rd name offset) = only (rd.reg ∷ [])
-operands_of (Call info) = record (only (use_registers info.uses ++ def_registers info.defs)) { results = info.defs; try_call = info.try_call_info; returns = λ flags. returns_at 8 info.callee_pop_size (loads_unless info.patchable info.defs) }
-operands_of (CallInd info) = record (only (info.dest ∷ use_registers info.uses ++ def_registers info.defs)) { results = info.defs; try_call = info.try_call_info; returns = λ flags. returns_at (short_jalr flags 1 (number_of info.dest) (pos 0)).len info.callee_pop_size (result_loads info.defs) }
+operands_of (Call info) = record (only (use_registers info.uses ++ def_registers info.defs)) { floats = loads_float (loads_unless info.patchable info.defs); results = info.defs; try_call = info.try_call_info; returns = λ flags. returns_at 8 info.callee_pop_size (loads_unless info.patchable info.defs) }
+operands_of (CallInd info) = record (only (info.dest ∷ use_registers info.uses ++ def_registers info.defs)) { floats = loads_float (result_loads info.defs); results = info.defs; try_call = info.try_call_info; returns = λ flags. returns_at (short_jalr flags 1 (number_of info.dest) (pos 0)).len info.callee_pop_size (result_loads info.defs) }
 operands_of (ReturnCall info) = record (only (use_registers info.uses)) { tail_call = Some (record { stack_arg_size = info.new_stack_arg_size; by_register = false }) }
 operands_of (ReturnCallInd info) = record (only (info.dest ∷ use_registers info.uses)) { tail_call = Some (record { stack_arg_size = info.new_stack_arg_size; by_register = true }) }
 operands_of inst = only (registers_in (unit_of inst refl).places)

@@ -8,14 +8,16 @@ use Rattle.rv_base.specs.declared.ir_type.IrType.{IrType}
 use Rattle.rv_base.specs.declared.ir_type.IrType.TheVariants.{I8, I16, I32, I64, I128, F16, F32, F64, F128, Vector}
 use Rattle.rv_base.specs.declared.regs.PReg.{PReg}
 use Rattle.rv_base.specs.declared.regs.Reg.{Reg}
+use Rattle.rv_base.specs.declared.regs.RegClass.{RegClass}
+use Rattle.rv_base.specs.declared.regs.RegClass.TheVariants.{Int, Float, Vector as VectorClass}
 use Rattle.rv_base.specs.declared.regs.Writable.{Writable}
 use Rattle.rv_base.specs.Frame.{sp_to_fp_of}
 use Rattle.rv_base.specs.Regs.{number_of}
 use Rattle.rv_ops.specs.Memory.{load_of}
 use Rattle.rv_ops.specs.declared.memory.LoadOP.{LoadOP}
-use Rattle.rv_ops.specs.declared.memory.LoadOP.TheVariants.{Ld}
+use Rattle.rv_ops.specs.declared.memory.LoadOP.TheVariants.{Ld, Fld}
 
--- a load into a register, by its number, from so many bytes above the stack pointer
+-- a load into a register, by its number in the file that the load's operation is of, from so many bytes above the stack pointer
 pub record StackLoad : Type 0 where
   pub register : ℕ
   pub op : LoadOP
@@ -23,10 +25,16 @@ pub record StackLoad : Type 0 where
 
 -- ---- before a tail call
 
+-- the load of a register that a frame saves, by its class: eight bytes; a vector register is one that no frame saves
+abbrev pub saved_load : RegClass → LoadOP
+saved_load Int = Ld
+saved_load Float = Fld
+saved_load VectorClass = Ld
+
 -- the registers that a frame saves, eight bytes each, from an offset downwards
 abbrev pub saves_from : ℤ → List (Writable PReg) → List StackLoad
 saves_from offset [] = []
-saves_from offset (r ∷ saves) = record { register = r.reg.number; op = Ld; offset = offset } ∷ saves_from (offset -ℤ pos 8) saves
+saves_from offset (r ∷ saves) = record { register = r.reg.number; op = saved_load r.reg.class; offset = offset } ∷ saves_from (offset -ℤ pos 8) saves
 
 -- the caller's frame pointer, which is x8, and the return address above it, which goes into x1; none where the frame has no room
 -- for them
@@ -53,8 +61,8 @@ result_load I32 = load_of I32
 result_load I64 = load_of I64
 result_load I128 = None
 result_load F16 = None
-result_load F32 = None
-result_load F64 = None
+result_load F32 = load_of F32
+result_load F64 = load_of F64
 result_load F128 = None
 result_load (Vector v) = None
 

@@ -1,5 +1,5 @@
 -- The rules of a line, in their order. Each is a test of what a line breaks.
-use Rattle.std.specs.Prelude.{ℕ, Bool, true, false, not, ◌&&◌, ◌||◌, ◌==◌, ◌^◌, nat_le, nat_lt, is_none, slice_get, if◌then◌else◌, List, [], ◌∷◌, ◌++◌, length, Option, Some, None, ℤ, pos, negsuc}
+use Rattle.std.specs.Prelude.{ℕ, Bool, true, false, not, ◌&&◌, ◌||◌, ◌==◌, ◌^◌, nat_le, nat_lt, is_none, is_some, slice_get, if◌then◌else◌, List, [], ◌∷◌, ◌++◌, length, Option, Some, None, ℤ, pos, negsuc}
 use Rattle.std.specs.List.{list_any, find}
 use Rattle.std.proofs.Common.{refl}
 use Rattle.rv_base.specs.declared.call.ArgPair.{ArgPair}
@@ -38,6 +38,7 @@ use Rattle.rv_inst.specs.declared.error.Rule.TheVariants.{Virtual, Class, Reserv
 use Rattle.rv_inst.specs.Addresses.{is_distant}
 use Rattle.rv_inst.specs.Context.{Context}
 use Rattle.rv_inst.specs.Operands.{all_of, written_in, result_registers, inst_registers, inst_labels, tail_call_of, targets_of}
+use Rattle.rv_inst.specs.Returns.{result_load}
 use Rattle.rv_inst.specs.UnitWords.{UnitWord, unit_of}
 use Rattle.rv_inst.specs.declared.units.PlacedReg.{PlacedReg}
 use Rattle.rv_inst.specs.declared.tail_calls.TailCall.{TailCall}
@@ -211,10 +212,10 @@ is_int_type F64 = false
 is_int_type F128 = false
 is_int_type (VectorOf v) = false
 
--- whether a result is on the stack, and of a type that is loaded from there
+-- whether a result is on the stack, and of a type that is loaded from there: an integer of at most 64 bits, f32 or f64
 abbrev pub is_loaded_from : RetLocation → Bool
 is_loaded_from (InReg s) = false
-is_loaded_from (OnStack offset type) = is_int_type type
+is_loaded_from (OnStack offset type) = is_some (result_load type)
 
 abbrev pub is_loaded : CallRetPair → Bool
 is_loaded d = is_loaded_from d.location

@@ -1,13 +1,13 @@
 //! Results that a callee leaves on the stack.
 
-ghost use Rattle.std.specs.Prelude.{◌≡◌, ◌∷◌};
+ghost use Rattle.std.specs.Prelude.{◌≡◌, ◌∷◌, is_some};
 ghost use Rattle.std.specs.List.{list_any};
 ghost use Rattle.rv_inst.specs.Operands.{location_registers, result_registers};
+ghost use Rattle.rv_inst.specs.Returns.{result_load};
 ghost use Rattle.rv_inst.specs.Rules.{is_one_of, is_on_stack, is_loaded_from, is_loaded, is_unloadable, is_high_at, is_high, is_into_stack, is_into_result, either_into, results_clash};
 
 use crate::clashes::{is_one_of, is_stack, same_register};
-use crate::ranges::is_int_type;
-use rv_base::{CallRetPair as Def, Reg, RetLocation};
+use rv_base::{CallRetPair as Def, IrType, Reg, RetLocation};
 
 pub fn is_on_stack(location: RetLocation) -> bool
     ensures { result ≡ is_on_stack location }
@@ -24,7 +24,19 @@ fn is_loaded(location: RetLocation) -> bool
 {
     match location {
         RetLocation::Reg(_) => false,
-        RetLocation::Stack { offset: _, ty } => is_int_type(ty),
+        RetLocation::Stack { offset: _, ty } => has_result_load(ty),
+    }
+}
+
+/// Returns whether results of a type are loaded from the stack.
+fn has_result_load(ty: IrType) -> bool
+    ensures { result ≡ is_some (result_load ty) }
+{
+    match ty {
+        IrType::I8 | IrType::I16 | IrType::I32 | IrType::I64 => true,
+        IrType::F32 | IrType::F64 => true,
+        IrType::I128 | IrType::F16 | IrType::F128 => false,
+        IrType::Vector(_) => false,
     }
 }
 

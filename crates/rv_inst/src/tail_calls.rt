@@ -6,7 +6,7 @@ ghost use Rattle.rv_base.specs.declared.regs.Writable.{Writable as Saved};
 ghost use Rattle.rv_base.specs.Frame.{sp_to_args_end};
 ghost use Rattle.rv_inst.specs.Operands.{tail_call_of};
 ghost use Rattle.rv_inst.specs.Rules.{exceeds_arguments};
-ghost use Rattle.rv_inst.specs.Frames.{is_unsaved, is_unrestored, is_t0, is_bad_frame, is_unrestorable, is_unrestorable_for, is_bad_frame_for};
+ghost use Rattle.rv_inst.specs.Frames.{is_unsaved, is_t0, is_bad_frame, is_unrestorable, is_unrestorable_for, is_bad_frame_for};
 
 use crate::inst::Inst;
 use crate::registers::is_x;
@@ -81,8 +81,7 @@ pub fn is_unrestorable_for(inst: &Inst, frame: &FrameLayout) -> bool
 fn is_unrestorable(frame: &FrameLayout, tail: TailCall) -> bool
     ensures { result ≡ is_unrestorable frame.now tail }
 {
-    saves_unrestored(frame.clobbered_callee_saves.as_slice())
-        || (tail.by_register && saves_t0(frame.clobbered_callee_saves.as_slice()))
+    tail.by_register && saves_t0(frame.clobbered_callee_saves.as_slice())
 }
 
 fn is_frame_too_large(frame: &FrameLayout) -> bool
@@ -110,12 +109,6 @@ fn saves_unsaved(saves: &[Writable<PReg>]) -> bool
     saves.iter().any(|r| is_unsaved(r.reg))
 }
 
-fn saves_unrestored(saves: &[Writable<PReg>]) -> bool
-    ensures { result ≡ list_any (λ (r : Saved PReg). is_unrestored r.reg) saves.now }
-{
-    saves.iter().any(|r| is_unrestored(r.reg))
-}
-
 fn saves_t0(saves: &[Writable<PReg>]) -> bool
     ensures { result ≡ list_any (λ (r : Saved PReg). is_t0 r.reg) saves.now }
 {
@@ -129,15 +122,6 @@ fn is_unsaved(reg: PReg) -> bool
         RegClass::Int => reg.number < 3 || reg.number == 8 || reg.number >= 30,
         RegClass::Float => false,
         RegClass::Vector => true,
-    }
-}
-
-fn is_unrestored(reg: PReg) -> bool
-    ensures { result ≡ is_unrestored reg }
-{
-    match reg.class {
-        RegClass::Int => false,
-        RegClass::Float | RegClass::Vector => true,
     }
 }
 

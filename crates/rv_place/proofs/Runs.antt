@@ -9,5 +9,5 @@ use Rattle.rv_place.specs.Images.{PlacesIn, RunsIn}
 pub runs_in : (job : Job) (code : Code) (base : ℕ) (symbols slots : Addresses) (image : List ℕ) → PlacesIn code base symbols slots image → RunsAsListed job code → RunsIn job code base symbols slots image
 runs_in job code base symbols slots image places runs = record {
   from = λ i line s v listed core outside stand is_state are_values stands same. runs.from base symbols slots i line s v listed core outside (places s.values.mem stand) is_state are_values stands same;
-  back = λ i inst r s v listed returns stand is_state are_values stands same. runs.back base symbols slots i inst r s v listed returns (places s.values.mem stand) is_state are_values stands same;
+  back = λ i inst r s v listed core returns stand is_state are_values stands same. runs.back base symbols slots i inst r s v listed core returns (places s.values.mem stand) is_state are_values stands same;
 }

@@ -2,7 +2,7 @@
 use Rattle.std.specs.Prelude.{◌≡◌, ℕ, ◌+◌, ◌<◌, true, List, length, slice_get, slice_index, Some}
 use Rattle.rv_base.specs.declared.external_name.ExternalName.{ExternalName}
 use Rattle.rv_inst.specs.Operands.{Return, return_of}
-use Rattle.rv_inst.specs.Core.{is_integer_line}
+use Rattle.rv_inst.specs.Core.{is_integer, is_integer_line}
 use Rattle.rv_inst.specs.declared.code.Code.{Code}
 use Rattle.rv_inst.specs.declared.inst.Inst.{Inst}
 use Rattle.rv_inst.specs.declared.inst.Line.{Line}
@@ -24,11 +24,11 @@ StandAt base bytes mem = (k : ℕ) → k < length bytes → byte mem (base + k) 
 abbrev pub PlacesIn : Code → ℕ → Addresses → Addresses → List ℕ → Type 0
 PlacesIn code base symbols slots image = (mem : Memory) → StandAt base image mem → IsPlaced code base symbols slots mem
 
--- So it runs there as its job says: from the start of every line of the integer core, and from where each call returns, as
+-- So it runs there as its job says: from the start of every line of the integer core, and from where each call of it returns, as
 -- `RunsAsListed` does.
 pub record RunsIn (job : Job) (code : Code) (base : ℕ) (symbols slots : Addresses) (image : List ℕ) : Type 0 where
-  pub from : (i : ℕ) (line : Line) (s : State) (v : Values) → slice_get job.lines i ≡ Some line → is_integer_line line ≡ true → WritesOutside job code base symbols slots i line v → StandAt base image s.values.mem → IsState s → AreValues v → s.pc ≡ address_of code base (At i) → Same v s.values → Comes job code base symbols slots (At i) v s
-  pub back : (i : ℕ) (inst : Inst) (r : Return) (s : State) (v : Values) → slice_get job.lines i ≡ Some (Put inst) → return_of job.flags inst ≡ Some r → StandAt base image s.values.mem → IsState s → AreValues v → s.pc ≡ address_of code base (Returned i) → Same v s.values → Comes job code base symbols slots (Returned i) v s
+  pub from : (i : ℕ) (line : Line) (s : State) (v : Values) → slice_get job.lines i ≡ Some line → is_integer_line job.frame line ≡ true → WritesOutside job code base symbols slots i line v → StandAt base image s.values.mem → IsState s → AreValues v → s.pc ≡ address_of code base (At i) → Same v s.values → Comes job code base symbols slots (At i) v s
+  pub back : (i : ℕ) (inst : Inst) (r : Return) (s : State) (v : Values) → slice_get job.lines i ≡ Some (Put inst) → is_integer inst ≡ true → return_of job.flags inst ≡ Some r → StandAt base image s.values.mem → IsState s → AreValues v → s.pc ≡ address_of code base (Returned i) → Same v s.values → Comes job code base symbols slots (Returned i) v s
 
 -- an error that says nothing of a code's own records
 abbrev pub IsOfPlace : PlaceError → Type 0

@@ -67,10 +67,7 @@ pub returns-in_ok-put_table-in-BrTable-clause-setting : goal.returns-in_ok-put_t
 returns-in_ok-put_table-in-BrTable-clause-setting c = λ asks setting. table_asked (context_by c.args.flags c.args.frame.now (registered_of c.args.sink.now)) c.args.inst.now c.in-BrTable.index c.in-BrTable.tmp1 c.in-BrTable.tmp2 c.in-BrTable.targets c.args.sink.now setting c.in-BrTable.is
 
 pub put_tail_call-requires-clause-arguments : goal.put_tail_call-requires-clause-arguments
-put_tail_call-requires-clause-arguments c = rw c.as_ref-in-ReturnCall.ensures (tail_kept (context_by c.args.flags c.args.frame.now (registered_of c.args.sink.now)) c.args.inst.now (record { stack_arg_size = c.in-ReturnCall.info.new_stack_arg_size; by_register = false }) (ap tail_call_of c.in-ReturnCall.is) c.requires.rule c.requires.restores).arguments_within
-
-pub put_tail_call-requires-clause-saved : goal.put_tail_call-requires-clause-saved
-put_tail_call-requires-clause-saved c = (tail_kept (context_by c.args.flags c.args.frame.now (registered_of c.args.sink.now)) c.args.inst.now (record { stack_arg_size = c.in-ReturnCall.info.new_stack_arg_size; by_register = false }) (ap tail_call_of c.in-ReturnCall.is) c.requires.rule c.requires.restores).saved
+put_tail_call-requires-clause-arguments c = rw c.as_ref-in-ReturnCall.ensures (tail_kept (context_by c.args.flags c.args.frame.now (registered_of c.args.sink.now)) c.args.inst.now (record { stack_arg_size = c.in-ReturnCall.info.new_stack_arg_size; by_register = false }) (ap tail_call_of c.in-ReturnCall.is) c.requires.rule)
 
 pub put_tail_call-requires-clause-reach : goal.put_tail_call-requires-clause-reach
 put_tail_call-requires-clause-reach c = reach_calm c.args.sink.now c.requires.calm
@@ -85,10 +82,7 @@ pub returns-in_ok-put_tail_call-in-ReturnCall-clause-setting : goal.returns-in_o
 returns-in_ok-put_tail_call-in-ReturnCall-clause-setting c = λ asks setting. tail_asked (context_by c.args.flags c.args.frame.now (registered_of c.args.sink.now)) c.args.inst.now c.in-ReturnCall.info c.args.sink.now setting c.in-ReturnCall.is
 
 pub put_tail_jump-requires-clause-arguments : goal.put_tail_jump-requires-clause-arguments
-put_tail_jump-requires-clause-arguments c = rw c.as_ref-in-ReturnCallInd.ensures (tail_kept (context_by c.args.flags c.args.frame.now (registered_of c.args.sink.now)) c.args.inst.now (record { stack_arg_size = c.in-ReturnCallInd.info.new_stack_arg_size; by_register = true }) (ap tail_call_of c.in-ReturnCallInd.is) c.requires.rule c.requires.restores).arguments_within
-
-pub put_tail_jump-requires-clause-saved : goal.put_tail_jump-requires-clause-saved
-put_tail_jump-requires-clause-saved c = (tail_kept (context_by c.args.flags c.args.frame.now (registered_of c.args.sink.now)) c.args.inst.now (record { stack_arg_size = c.in-ReturnCallInd.info.new_stack_arg_size; by_register = true }) (ap tail_call_of c.in-ReturnCallInd.is) c.requires.rule c.requires.restores).saved
+put_tail_jump-requires-clause-arguments c = rw c.as_ref-in-ReturnCallInd.ensures (tail_kept (context_by c.args.flags c.args.frame.now (registered_of c.args.sink.now)) c.args.inst.now (record { stack_arg_size = c.in-ReturnCallInd.info.new_stack_arg_size; by_register = true }) (ap tail_call_of c.in-ReturnCallInd.is) c.requires.rule)
 
 pub put_tail_jump-requires-clause-reach : goal.put_tail_jump-requires-clause-reach
 put_tail_jump-requires-clause-reach c = reach_calm c.args.sink.now c.requires.calm

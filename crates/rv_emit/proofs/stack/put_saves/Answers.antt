@@ -1,19 +1,12 @@
-use Rattle.std.proofs.Common.{pos, sym, subst, arith}
+use Rattle.std.proofs.Common.{pos, arith}
 use Rattle.std.specs.Prelude.{◌-ℤ◌}
-use Rattle.rv_base.specs.declared.regs.Reg.TheVariants.{Real}
-use Rattle.rv_encode.specs.Registers.{IsIntRegister}
 use Rattle.rv_emit.proofs.SlotsOfSeveralPuts.{alone_sound}
 use Rattle.rv_emit.proofs.SlotsOfOnePut.{none_put}
-use Rattle.rv_emit.proofs.TailCallCode.{saved_at, saved_more, all_saved, saved_long, each_saved}
+use Rattle.rv_emit.proofs.TailCallCode.{saved_more, all_saved, saved_long}
 use Rattle.rv_emit.proofs.stack.put_saves.Goals as goal
 
 pub loop-index-init : goal.loop-index-init
 loop-index-init c = none_put c.args.flags c.args.sink.now c.requires.sound
-
-pub put_save-requires-clause-save : goal.put_save-requires-clause-save
-put_save-requires-clause-save c =
-    let r = c.index-saves-index.result in
-    subst (λ x. IsIntRegister (Real x.reg)) (sym (saved_at c.args.saves.now c.loop-index.index r c.loop-index-test.true c.index-saves-index.is)) (each_saved c.args.saves.now c.loop-index.index r c.requires.saved c.loop-index-test.true)
 
 pub put_save-requires-clause-room : goal.put_save-requires-clause-room
 put_save-requires-clause-room c =
