@@ -5,8 +5,8 @@ use Rattle.rv_base.specs.Regs.{number_of}
 use Rattle.rv_base.specs.declared.amode.AMode.{AMode}
 use Rattle.rv_base.specs.declared.amode.AMode.TheVariants as mode
 use Rattle.rv_base.specs.AMode.{offset_of}
-use Rattle.rv_encode.specs.Operations.{load_op, store_op}
-use Rattle.rv_machine.specs.Memory.{load_result, store_bytes}
+use Rattle.rv_encode.specs.Operations.{load_op}
+use Rattle.rv_machine.specs.Memory.{load_result}
 use Rattle.rv_machine.specs.State.{Values, reg, set_reg, wrap, low64}
 use Rattle.rv_ops.specs.declared.memory.LoadOP.TheVariants.{Ld}
 use Rattle.rv_ops.specs.Memory.{load_size, store_size}
@@ -16,7 +16,7 @@ use Rattle.rv_inst.specs.declared.inst.Line.{Line}
 use Rattle.rv_inst.specs.declared.inst.Line.TheVariants.{Inst as Put, Bind}
 use Rattle.rv_inst.specs.Forms.{short_jalr}
 use Rattle.rv_inst.specs.Environments.{SameLabels, AgreeOn}
-use Rattle.rv_inst.specs.Meaning.{Environment, inst_effect, effect_of, inst_writes, writes_of, Leave, frame_left, inst_exit, exit_of, address_of, addresses_from, put_bytes}
+use Rattle.rv_inst.specs.Meaning.{Environment, inst_effect, effect_of, inst_writes, writes_of, Leave, frame_left, inst_exit, exit_of, address_of, addresses_from, loaded, stored}
 use Rattle.rv_inst.specs.Operands.{labels_of, address_targets, inst_labels, named_labels}
 
 -- an address depends on no label but its own, and on no constant but its own
@@ -39,8 +39,8 @@ agree_first {e} {f} labels more a = record { start = a.start; after = a.after; f
 
 inst_effect_agrees : {e f : Environment} (inst : Inst) (v : Values) → AgreeOn (inst_labels inst) e f → inst_effect e inst v ≡ inst_effect f inst v
 inst_effect_agrees (Auipc rd imm) v a = ap (λ n. set_reg v (number_of rd.reg) (wrap (n + low64 imm.value * 2 ^ 12))) a.start
-inst_effect_agrees (Load rd op flags from) v a = ap (λ n. set_reg v (number_of rd.reg) (load_result (load_op op) v.mem n)) (address_agrees (load_size op) from v (agree_first (labels_of (address_targets (load_size op) from)) [] a))
-inst_effect_agrees (Store src op flags to) v a = ap (λ n. put_bytes v n (store_bytes (store_op op) (reg v (number_of src)))) (address_agrees 0 to v (agree_first (labels_of (address_targets 0 to)) [] a))
+inst_effect_agrees (Load rd op flags from) v a = ap (λ n. loaded op (number_of rd.reg) n v) (address_agrees (load_size op) from v (agree_first (labels_of (address_targets (load_size op) from)) [] a))
+inst_effect_agrees (Store src op flags to) v a = ap (λ n. stored op (number_of src) n v) (address_agrees 0 to v (agree_first (labels_of (address_targets 0 to)) [] a))
 inst_effect_agrees (LoadAddr rd mem) v a = ap (set_reg v (number_of rd.reg)) (address_agrees 0 mem v (agree_first (labels_of (address_targets 0 mem)) [] a))
 inst_effect_agrees (LabelAddress dst label) v a = ap (set_reg v (number_of dst.reg)) a.labels_same.0
 inst_effect_agrees (Jalr rd base offset) v a = ap (set_reg v (number_of rd.reg)) a.after

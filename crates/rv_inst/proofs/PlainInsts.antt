@@ -1,6 +1,6 @@
 -- Instructions with usable registers, and with numbers and labels in their range, break no rule.
 use Rattle.std.proofs.Common.{ℕ, ◌≡◌, Bool, true, false, List, [], ◌∷◌, Some, None, cond, refl, ap, ◌∙◌}
-use Rattle.std.specs.Prelude.{◌&&◌, ◌||◌, ◌++◌, not, is_none}
+use Rattle.std.specs.Prelude.{◌&&◌, ◌||◌, ◌++◌, not, is_none, if◌then◌else◌}
 use Rattle.std.proofs.lemmas.List.{append-nil}
 use Rattle.std.specs.List.{list_any, list_all, find}
 use Rattle.rv_base.specs.declared.amode.AMode.{AMode}
@@ -22,7 +22,7 @@ use Rattle.rv_ops.specs.declared.alu.AluOPRRI.{AluOPRRI}
 use Rattle.rv_ops.specs.declared.memory.LoadOP.{LoadOP}
 use Rattle.rv_ops.specs.declared.memory.StoreOP.{StoreOP}
 use Rattle.rv_ops.specs.Operations.{immediate_of, shift_limit}
-use Rattle.rv_ops.specs.Memory.{load_size}
+use Rattle.rv_ops.specs.Memory.{load_size, is_float_load, is_float_store}
 use Rattle.rv_ops.specs.declared.compare.IntegerCompare.{IntegerCompare}
 use Rattle.rv_inst.specs.declared.inst.Inst.{Inst}
 use Rattle.rv_inst.specs.declared.inst.Inst.TheVariants.{Lui, AluRRR, AluRRImm12, Mov, Load, Store, Jal, CondBr}
@@ -33,7 +33,7 @@ use Rattle.rv_inst.specs.declared.targets.Targets.TheVariants.{Nowhere}
 use Rattle.rv_inst.specs.Operands.{inst_registers, inst_labels, tail_call_of, target_labels, labels_of, address_targets}
 use Rattle.rv_inst.specs.Addresses.{is_distant}
 use Rattle.rv_inst.specs.Context.{Context}
-use Rattle.rv_inst.specs.Rules.{is_virtual, is_other_class, is_reserved, is_int_class, same_class, differ_in_class, is_int_type, is_buffer_label, is_beyond, is_fallthrough, has_other_class, faults_of, is_zero, lacks_named, lacks_constant, exceeds_arguments, every_rule, breaks}
+use Rattle.rv_inst.specs.Rules.{is_virtual, is_other_class, is_reserved, is_int_class, same_class, is_not_of, differ_in_class, is_int_type, is_buffer_label, is_beyond, is_fallthrough, has_other_class, faults_of, is_zero, lacks_named, lacks_constant, exceeds_arguments, every_rule, breaks}
 use Rattle.rv_inst.specs.Sizes.{inst_sum}
 use Rattle.rv_inst.specs.Plain.{is_usable, is_plain_address, IsPlain, is_plain}
 
@@ -84,6 +84,15 @@ int_moved r type e f = by (is_int_class (class_of r)) (is_int_type type) (not_ot
     by true true e f = refl
     by true false e f = absurd (cc)
     by false b e f = absurd (cc)
+
+-- and is in its place, where none of floating-point numbers is asked for
+int_placed : (r : Reg) (float : Bool) → float ≡ false → is_usable r ≡ true → is_not_of (if float then Float else Int) r ≡ false
+int_placed r float int e = (λ i. is_not_of (if int i then Float else Int) r) ∙ by (class_of r) (not_other r e)
+  where
+    by : (c : RegClass) → not (is_int_class c) ≡ false → not (same_class c Int) ≡ false
+    by Int e = refl
+    by Float e = absurd (cc)
+    by Vector e = absurd (cc)
 
 -- ---- instructions
 
@@ -156,20 +165,20 @@ plain_address (LabelAt l) e = absurd (cc)
 usable_and : (r : Reg) (rs : List Reg) → is_usable r ≡ true → list_all is_usable rs ≡ true → list_all is_usable (r ∷ rs) ≡ true
 usable_and r rs e f = λ i. e i && f i
 
-pub plain_load : (rd : Writable Reg) (op : LoadOP) (flags : MemFlagsData) (from : AMode) → is_usable rd.reg ≡ true → is_plain_address from ≡ true → IsPlain (Load rd op flags from)
-plain_load rd op flags from e f =
+pub plain_load : (rd : Writable Reg) (op : LoadOP) (flags : MemFlagsData) (from : AMode) → is_float_load op ≡ false → is_usable rd.reg ≡ true → is_plain_address from ≡ true → IsPlain (Load rd op flags from)
+plain_load rd op flags from int e f =
     let a = plain_address from f in
     let all = usable_and rd.reg (registers_of from) e a.usable in
     plain (Load rd op flags from) all
-    (λ i. record (has_other_class (none_of is_other_class not_other (rd.reg ∷ registers_of from) all i)) { zeroed = a.based i && is_zero rd.reg; range = a.near i })
+    (λ i. record (has_other_class (int_placed rd.reg (is_float_load op) int e i || none_of is_other_class not_other (registers_of from) a.usable i)) { zeroed = a.based i && is_zero rd.reg; range = a.near i })
     (λ constants. ap (lacks_named constants) (a.targets (load_size op))) (λ i. list_any is_buffer_label (labels_of (a.targets (load_size op) i) ++ [])) refl (λ context. refl)
 
-pub plain_store : (to : AMode) (op : StoreOP) (flags : MemFlagsData) (src : Reg) → is_usable src ≡ true → is_plain_address to ≡ true → IsPlain (Store src op flags to)
-plain_store to op flags src e f =
+pub plain_store : (to : AMode) (op : StoreOP) (flags : MemFlagsData) (src : Reg) → is_float_store op ≡ false → is_usable src ≡ true → is_plain_address to ≡ true → IsPlain (Store src op flags to)
+plain_store to op flags src int e f =
     let a = plain_address to f in
     let all = usable_and src (registers_of to) e a.usable in
     plain (Store src op flags to) all
-    (λ i. record (has_other_class (none_of is_other_class not_other (src ∷ registers_of to) all i)) { range = a.near i })
+    (λ i. record (has_other_class (int_placed src (is_float_store op) int e i || none_of is_other_class not_other (registers_of to) a.usable i)) { range = a.near i })
     (λ constants. ap (lacks_named constants) (a.targets 0)) (λ i. list_any is_buffer_label (labels_of (a.targets 0 i) ++ [])) refl (λ context. refl)
 
 -- all of them
@@ -178,8 +187,8 @@ breaks_none (Lui rd imm) e = plain_lui rd imm e
 breaks_none (AluRRR op rd rs1 rs2) e = plain_rrr op rd rs1 rs2 e
 breaks_none (AluRRImm12 op rd rs imm) e = plain_rri op rd rs imm (and_left _ _ e) (not_true _ (and_right _ _ e))
 breaks_none (Mov rd rm type) e = plain_mov rd rm type (and_left _ _ e) (and_right _ _ e)
-breaks_none (Load rd op access from) e = plain_load rd op access from (and_left _ _ e) (and_right _ _ e)
-breaks_none (Store src op access to) e = plain_store to op access src (and_left _ _ e) (and_right _ _ e)
+breaks_none (Load rd op access from) e = plain_load rd op access from (not_true _ (and_left _ _ e)) (and_left _ _ (and_right _ _ e)) (and_right _ _ (and_right _ _ e))
+breaks_none (Store src op access to) e = plain_store to op access src (not_true _ (and_left _ _ e)) (and_left _ _ (and_right _ _ e)) (and_right _ _ (and_right _ _ e))
 breaks_none (Jal label) e = plain_jal label (not_true _ e)
 breaks_none (CondBr taken not_taken kind) e = plain_branch taken not_taken kind (and_left _ _ e) (not_true _ (and_left _ _ (and_right _ _ e))) (not_true _ (and_right _ _ (and_right _ _ e)))
 breaks_none _ e = absurd (cc)

@@ -1,11 +1,12 @@
--- "C", Compressed Instructions, and "Zcb": which instructions have a form of sixteen bits, and which form it is, as the operation
+-- "C", Compressed Instructions, with its parts Zca and Zcd, and "Zcb": which instructions have a form of sixteen bits, and which form it is, as the operation
 -- to which it expands. Registers are numbers, immediates signed.
 use Rattle.std.specs.Prelude.{◌≡◌, ℕ, suc, ◌*◌, ◌%◌, ◌^◌, ◌==◌, nat_le, Bool, true, not, ◌&&◌, ◌||◌, if◌then◌else◌, Option, Some, None, ℤ, pos, negsuc, int_le}
 use Rattle.rv_base.specs.declared.flags.IsaFlags.{IsaFlags}
 use Rattle.rv_imms.specs.Bits.{low_bits}
 use Rattle.rv_machine.specs.declared.decoding.Decoded.{Decoded}
-use Rattle.rv_machine.specs.declared.ops.MOp.TheVariants.{Base, Load, Store, Alu}
+use Rattle.rv_machine.specs.declared.ops.MOp.TheVariants.{Base, Load, Store, Alu, FloatLoad, FloatStore}
 use Rattle.rv_machine.specs.declared.ops.BaseOp.TheVariants.{Lui, Jalr, Ebreak}
+use Rattle.rv_machine.specs.declared.ops.FloatFormat.TheVariants.{D}
 use Rattle.rv_machine.specs.declared.ops.LoadOp.{LoadOp}
 use Rattle.rv_machine.specs.declared.ops.StoreOp.{StoreOp}
 use Rattle.rv_machine.specs.declared.ops.AluOp.{AluOp}
@@ -39,7 +40,7 @@ sp = 2
 abbrev pub ra : ℕ
 ra = 1
 
--- one of the eight registers that fields of three bits name: x8 to x15
+-- one of the eight registers that fields of three bits name: x8 to x15, or f8 to f15
 abbrev pub is_short : ℕ → Bool
 is_short r = nat_le 8 r && nat_le r 15
 
@@ -293,6 +294,13 @@ word_load_form op rd base offset =
 abbrev pub narrow_load_form : IsaFlags → ℕ → LoadOP → ℕ → ℕ → ℤ → Option Decoded
 narrow_load_form flags most op rd base offset = form_where (flags.has_zcb && is_short rd && is_short base && is_scaled (load_size op) most offset) (load_form (load_op op) rd base offset)
 
+-- c.fldsp from sp, and c.fld from a short register
+abbrev pub fld_form : IsaFlags → ℕ → ℕ → ℤ → Option Decoded
+fld_form flags rd base offset =
+    if base == sp then form_where (flags.has_zcd && is_scaled 8 63 offset) (compressed (FloatLoad D) rd base 0 offset) else
+    if is_short rd && is_short base then form_where (flags.has_zcd && is_scaled 8 31 offset) (compressed (FloatLoad D) rd base 0 offset) else
+    None
+
 abbrev pub zca_load : IsaFlags → LoadOP → ℕ → ℕ → ℤ → Option Decoded
 zca_load flags loads.Lb rd base offset = None
 zca_load flags loads.Lh rd base offset = narrow_load_form flags 1 loads.Lh rd base offset
@@ -301,6 +309,8 @@ zca_load flags loads.Lbu rd base offset = narrow_load_form flags 3 loads.Lbu rd 
 zca_load flags loads.Lhu rd base offset = narrow_load_form flags 1 loads.Lhu rd base offset
 zca_load flags loads.Lwu rd base offset = None
 zca_load flags loads.Ld rd base offset = word_load_form loads.Ld rd base offset
+zca_load flags loads.Flw rd base offset = None
+zca_load flags loads.Fld rd base offset = fld_form flags rd base offset
 
 abbrev pub form_load : IsaFlags → LoadOP → ℕ → ℕ → ℤ → Option Decoded
 form_load flags op rd base offset = if flags.has_zca then zca_load flags op rd base offset else None
@@ -321,11 +331,20 @@ word_store_form op base src offset =
 abbrev pub narrow_store_form : IsaFlags → ℕ → StoreOP → ℕ → ℕ → ℤ → Option Decoded
 narrow_store_form flags most op base src offset = form_where (flags.has_zcb && is_short src && is_short base && is_scaled (store_size op) most offset) (store_form (store_op op) base src offset)
 
+-- c.fsdsp to sp, and c.fsd to a short register
+abbrev pub fsd_form : IsaFlags → ℕ → ℕ → ℤ → Option Decoded
+fsd_form flags base src offset =
+    if base == sp then form_where (flags.has_zcd && is_scaled 8 63 offset) (compressed (FloatStore D) 0 base src offset) else
+    if is_short src && is_short base then form_where (flags.has_zcd && is_scaled 8 31 offset) (compressed (FloatStore D) 0 base src offset) else
+    None
+
 abbrev pub zca_store : IsaFlags → StoreOP → ℕ → ℕ → ℤ → Option Decoded
 zca_store flags stores.Sb base src offset = narrow_store_form flags 3 stores.Sb base src offset
 zca_store flags stores.Sh base src offset = narrow_store_form flags 1 stores.Sh base src offset
 zca_store flags stores.Sw base src offset = word_store_form stores.Sw base src offset
 zca_store flags stores.Sd base src offset = word_store_form stores.Sd base src offset
+zca_store flags stores.Fsw base src offset = None
+zca_store flags stores.Fsd base src offset = fsd_form flags base src offset
 
 abbrev pub form_store : IsaFlags → StoreOP → ℕ → ℕ → ℤ → Option Decoded
 form_store flags op base src offset = if flags.has_zca then zca_store flags op base src offset else None

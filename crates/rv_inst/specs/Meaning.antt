@@ -16,11 +16,13 @@ use Rattle.rv_base.specs.CondCodes.{holds}
 use Rattle.rv_ops.specs.declared.alu.AluOPRRR.{AluOPRRR}
 use Rattle.rv_ops.specs.declared.alu.AluOPRRI.{AluOPRRI}
 use Rattle.rv_ops.specs.declared.compare.IntegerCompare.{IntegerCompare}
+use Rattle.rv_ops.specs.declared.memory.LoadOP.{LoadOP}
 use Rattle.rv_ops.specs.declared.memory.LoadOP.TheVariants.{Ld}
+use Rattle.rv_ops.specs.declared.memory.StoreOP.{StoreOP}
 use Rattle.rv_ops.specs.Operations.{is_exchanged, rrr_op, rri_op}
 use Rattle.rv_encode.specs.Operations.{load_op, store_op}
 use Rattle.rv_inst.specs.Addresses.{Location, Based, AtLabel, AtConstant, location_of}
-use Rattle.rv_ops.specs.Memory.{store_size}
+use Rattle.rv_ops.specs.Memory.{is_float_load, is_float_store, store_size}
 use Rattle.rv_inst.specs.Bits.{extended, ones, zeros, reversed_bytes}
 use Rattle.rv_inst.specs.Operands.{all_of, written_in, Return, inst_temporaries, try_call_of, return_of}
 use Rattle.rv_inst.specs.Returns.{StackLoad, restores, frame_above}
@@ -161,6 +163,14 @@ goes exit v = record { effect = v; writes = []; exit = exit }
 abbrev pub unit_meaning : UnitWord → Values → Meaning
 unit_meaning w v = goes Next v
 
+-- A load or a store of a floating-point register has no meaning on integers alone, either, and is said to leave them; yet the bytes that
+-- a store writes are said.
+abbrev pub loaded : LoadOP → ℕ → ℕ → Values → Values
+loaded op rd a v = if is_float_load op then v else set_reg v rd (load_result (load_op op) v.mem a)
+
+abbrev pub stored : StoreOP → ℕ → ℕ → Values → Values
+stored op src a v = if is_float_store op then v else put_bytes v a (store_bytes (store_op op) (reg v src))
+
 -- What an instruction means from these values; a jump to a register links, as a call does; an address is even, and ra is x1.
 abbrev pub inst_meaning : Environment → Inst → Values → Meaning
 inst_meaning env Nop0 v = goes Next v
@@ -182,8 +192,8 @@ inst_meaning env (Mov rd rm type) v = goes Next (set_reg v (number_of rd.reg) (r
 inst_meaning env (MovFromPReg rd rm) v = goes Next (set_reg v (number_of rd.reg) (reg v rm.number))
 inst_meaning env (Extend rd rn signed from_bits to_bits) v = goes Next (set_reg v (number_of rd.reg) (extended signed from_bits (reg v (number_of rn))))
 inst_meaning env (Select info) v = goes Next (set_regs v (map number_of (written_in info.dst)) (map (λ (r : Reg). reg v (number_of r)) (if compares info.condition v then all_of info.x else all_of info.y)))
-inst_meaning env (Load rd op flags from) v = goes Next (set_reg v (number_of rd.reg) (load_result (load_op op) v.mem (address_of env from v)))
-inst_meaning env (Store src op flags to) v = record (goes Next (put_bytes v (address_of env to v) (store_bytes (store_op op) (reg v (number_of src))))) { writes = addresses_from (address_of env to v) (store_size op) }
+inst_meaning env (Load rd op flags from) v = goes Next (loaded op (number_of rd.reg) (address_of env from v) v)
+inst_meaning env (Store src op flags to) v = record (goes Next (stored op (number_of src) (address_of env to v) v)) { writes = addresses_from (address_of env to v) (store_size op) }
 inst_meaning env (LoadAddr rd mem) v = goes Next (set_reg v (number_of rd.reg) (address_of env mem v))
 inst_meaning env (LabelAddress dst label) v = goes Next (set_reg v (number_of dst.reg) (env.label label.number))
 inst_meaning env Ret v = goes (Leave (reg v 1 / 2 * 2)) v

@@ -27,7 +27,7 @@ use Rattle.rv_base.specs.declared.unwind.UnwindInst.{UnwindInst}
 use Rattle.rv_base.specs.declared.unwind.UnwindInst.TheVariants.{PushFrameRegs, DefineNewFrame, StackAlloc, SaveReg}
 use Rattle.rv_base.specs.declared.value_regs.ValueRegs.{ValueRegs}
 use Rattle.rv_base.specs.declared.value_regs.ValueRegs.TheVariants.{One, Two}
-use Rattle.rv_ops.specs.Memory.{load_size}
+use Rattle.rv_ops.specs.Memory.{load_size, is_float_load, is_float_store}
 use Rattle.mach_uses.specs.Labels.{name_more}
 use Rattle.rv_inst.specs.Forms.{short_jalr}
 use Rattle.rv_inst.specs.Returns.{StackLoad, result_loads, loads_unless}
@@ -155,8 +155,8 @@ operands_of (Mov rd rm type) = record (only (rd.reg ∷ rm ∷ [])) { floats = i
 operands_of (MovFromPReg rd rm) = only (rd.reg ∷ Real rm ∷ [])
 operands_of (Extend rd rn signed from_bits to_bits) = only (rd.reg ∷ rn ∷ [])
 operands_of (Select info) = record (only (written_in info.dst ++ info.condition.rs1 ∷ info.condition.rs2 ∷ all_of info.x ++ all_of info.y)) { floats = list_any is_float (written_in info.dst ++ all_of info.x ++ all_of info.y) }
-operands_of (Load rd op flags from) = record (only (rd.reg ∷ registers_of from)) { targets = address_targets (load_size op) from }
-operands_of (Store src op flags to) = record (only (src ∷ registers_of to)) { targets = address_targets 0 to }
+operands_of (Load rd op flags from) = record (only (rd.reg ∷ registers_of from)) { targets = address_targets (load_size op) from; floats = is_float_load op }
+operands_of (Store src op flags to) = record (only (src ∷ registers_of to)) { targets = address_targets 0 to; floats = is_float_store op }
 operands_of (LoadAddr rd mem) = record (only (rd.reg ∷ registers_of mem)) { targets = address_targets 0 mem }
 operands_of (LabelAddress dst label) = record (only (dst.reg ∷ [])) { targets = Refers label }
 operands_of Ret = only []

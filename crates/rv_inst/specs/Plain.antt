@@ -5,6 +5,7 @@ use Rattle.std.proofs.Common.{refl}
 use Rattle.rv_base.specs.declared.amode.AMode.{AMode}
 use Rattle.rv_base.specs.declared.amode.AMode.TheVariants.{RegOffset, SPOffset, FPOffset, SlotOffset, IncomingArg, Const, Label}
 use Rattle.rv_base.specs.declared.regs.Reg.{Reg}
+use Rattle.rv_ops.specs.Memory.{is_float_load, is_float_store}
 use Rattle.rv_ops.specs.Operations.{immediate_of, shift_limit}
 use Rattle.rv_inst.specs.declared.inst.Inst.{Inst}
 use Rattle.rv_inst.specs.declared.inst.Inst.TheVariants.{Nop0, Nop4, EBreak, SequencePoint, Args, Rets, DummyUse, Unwind, EmitIsland, RawData, Lui, Auipc, LoadInlineConst, AluRRR, AluRRImm12, Mov, MovFromPReg, Extend, Select, Load, Store, LoadAddr, LabelAddress, Ret, TrapIf, Jal, CondBr, BrTable, Udf, Jalr, Popcnt, Cltz, Brev8, StackProbeLoop, LoadExtNameGot, LoadExtNameNear, LoadExtNameFar, Call, CallInd, ReturnCall, ReturnCallInd}
@@ -29,7 +30,7 @@ is_plain_address (IncomingArg o) = not (is_distant o)
 is_plain_address (Const k) = false
 is_plain_address (Label l) = false
 
--- those of units are fewer
+-- those of units are fewer, and so are loads and stores of their registers
 abbrev pub unit_is_plain : UnitWord → Bool
 unit_is_plain w = false
 
@@ -54,8 +55,8 @@ is_plain (Mov rd rm type) = list_all is_usable (rd.reg ∷ rm ∷ []) && is_int_
 is_plain (MovFromPReg rd rm) = false
 is_plain (Extend rd rn signed from_bits to_bits) = false
 is_plain (Select info) = false
-is_plain (Load rd op access from) = is_usable rd.reg && is_plain_address from
-is_plain (Store src op access to) = is_usable src && is_plain_address to
+is_plain (Load rd op access from) = not (is_float_load op) && (is_usable rd.reg && is_plain_address from)
+is_plain (Store src op access to) = not (is_float_store op) && (is_usable src && is_plain_address to)
 is_plain (LoadAddr rd mem) = false
 is_plain (LabelAddress dst label) = false
 is_plain Ret = false

@@ -4,6 +4,8 @@ use Rattle.rv_base.specs.declared.call.CallRetPair.{CallRetPair}
 use Rattle.rv_base.specs.declared.call.RetLocation.{RetLocation}
 use Rattle.rv_base.specs.declared.call.RetLocation.TheVariants.{Reg as InReg, Stack as OnStack}
 use Rattle.rv_base.specs.declared.frame.FrameLayout.{FrameLayout}
+use Rattle.rv_base.specs.declared.ir_type.IrType.{IrType}
+use Rattle.rv_base.specs.declared.ir_type.IrType.TheVariants.{I8, I16, I32, I64, I128, F16, F32, F64, F128, Vector}
 use Rattle.rv_base.specs.declared.regs.PReg.{PReg}
 use Rattle.rv_base.specs.declared.regs.Reg.{Reg}
 use Rattle.rv_base.specs.declared.regs.Writable.{Writable}
@@ -43,7 +45,20 @@ frame_above frame arguments = sp_to_fp_of frame + frame.setup_area_size + (frame
 
 -- ---- after a call
 
--- a result on the stack, by the load of its type; none where the type has none, which a rule refuses
+-- the load of a result of a type; of other types none is loaded, which a rule refuses
+abbrev pub result_load : IrType → Option LoadOP
+result_load I8 = load_of I8
+result_load I16 = load_of I16
+result_load I32 = load_of I32
+result_load I64 = load_of I64
+result_load I128 = None
+result_load F16 = None
+result_load F32 = None
+result_load F64 = None
+result_load F128 = None
+result_load (Vector v) = None
+
+-- a result on the stack, by the load of its type, where it has one
 abbrev pub typed_loads : ℕ → ℕ → Option LoadOP → List StackLoad
 typed_loads register offset None = []
 typed_loads register offset (Some op) = record { register = register; op = op; offset = pos offset } ∷ []
@@ -51,7 +66,7 @@ typed_loads register offset (Some op) = record { register = register; op = op; o
 -- a result in a register isn't loaded
 abbrev pub location_loads : Reg → RetLocation → List StackLoad
 location_loads r (InReg s) = []
-location_loads r (OnStack offset type) = typed_loads (number_of r) offset (load_of type)
+location_loads r (OnStack offset type) = typed_loads (number_of r) offset (result_load type)
 
 -- the results that a callee leaves on the stack, in order
 abbrev pub result_loads : List CallRetPair → List StackLoad

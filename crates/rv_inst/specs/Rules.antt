@@ -25,6 +25,7 @@ use Rattle.rv_base.specs.declared.constant.Constant.{Constant}
 use Rattle.rv_base.specs.AMode.{registers_of, own_offset, base_of}
 use Rattle.rv_base.specs.Regs.{class_of}
 use Rattle.mach_labels.specs.Table.{first_inner}
+use Rattle.rv_ops.specs.Memory.{load_class, store_class}
 use Rattle.rv_ops.specs.Operations.{immediate_of, shift_limit}
 use Rattle.rv_inst.specs.declared.inst.Line.{Line}
 use Rattle.rv_inst.specs.declared.inst.Line.TheVariants.{Inst as Put, Bind}
@@ -283,7 +284,7 @@ count_faults sum tmp step rs type = record (has_other_class (list_any is_other_c
 abbrev pub unit_faults : UnitWord → Faults
 unit_faults w = record (has_other_class (list_any is_out_of_place w.places)) { rounding = not w.rounding; width = not w.width }
 
--- A register's place asks the class Int, but those of a unit's word; the two of a pair or of a move have one class, and a result on
+-- A register's place asks the class Int, but those of a unit's word, and what a load or a store of a floating-point register moves; the two of a pair or of a move have one class, and a result on
 -- the stack that of its type. A move of an integer register, and a result on the stack, have an integer type of at most 64 bits; of others none is built. Data has four or eight bytes.
 abbrev pub faults_of : Inst → Faults
 faults_of Nop0 = has_other_class false
@@ -305,8 +306,8 @@ faults_of (Mov rd rm type) = record (has_other_class (differ_in_class rd.reg rm)
 faults_of (MovFromPReg rd rm) = has_other_class (is_other_class rd.reg || not (is_stack_or_frame rm))
 faults_of (Extend rd rn signed from_bits to_bits) = record (has_other_class (list_any is_other_class (rd.reg ∷ rn ∷ []))) { range = not (nat_le 1 from_bits && nat_le from_bits 64) }
 faults_of (Select info) = record (has_other_class (list_any is_other_class (written_in info.dst ++ info.condition.rs1 ∷ info.condition.rs2 ∷ all_of info.x ++ all_of info.y))) { clashing = is_uneven info.dst info.x info.y || select_clash info.dst (info.condition.rs1 ∷ info.condition.rs2 ∷ []) (all_of info.x ++ all_of info.y) }
-faults_of (Load rd op flags from) = record (has_other_class (list_any is_other_class (rd.reg ∷ registers_of from))) { zeroed = is_none (base_of from) && is_zero rd.reg; range = is_distant (own_offset from) }
-faults_of (Store src op flags to) = record (has_other_class (list_any is_other_class (src ∷ registers_of to))) { range = is_distant (own_offset to) }
+faults_of (Load rd op flags from) = record (has_other_class (is_not_of (load_class op) rd.reg || list_any is_other_class (registers_of from))) { zeroed = is_none (base_of from) && is_zero rd.reg; range = is_distant (own_offset from) }
+faults_of (Store src op flags to) = record (has_other_class (is_not_of (store_class op) src || list_any is_other_class (registers_of to))) { range = is_distant (own_offset to) }
 faults_of (LoadAddr rd mem) = record (has_other_class (list_any is_other_class (rd.reg ∷ registers_of mem))) { zeroed = is_zero rd.reg; clashing = is_base rd.reg (base_of mem); range = is_distant (own_offset mem) }
 faults_of (LabelAddress dst label) = record (has_other_class (list_any is_other_class (dst.reg ∷ []))) { zeroed = list_any is_zero (dst.reg ∷ []) }
 faults_of Ret = has_other_class false

@@ -7,16 +7,17 @@ ghost use Rattle.rv_base.specs.declared.call.RetPair.{RetPair};
 ghost use Rattle.rv_base.specs.declared.call.CallArgPair.{CallArgPair};
 ghost use Rattle.rv_base.specs.declared.call.CallRetPair.{CallRetPair};
 ghost use Rattle.rv_inst.specs.Rules.{differ_in_class, is_stack_or_frame, is_fifth, class_for, is_outside, location_differs, call_differs, is_misplaced};
-ghost use Rattle.rv_inst.specs.declared.inst.Family.TheVariants.{Pseudo, Integer, Calls};
+ghost use Rattle.rv_inst.specs.declared.inst.Family.TheVariants.{Pseudo, Integer, Memory, Calls};
 ghost use Rattle.rv_inst.specs.Families.{family_of};
 
+use crate::addresses::address_has;
 use crate::clashes::same_class;
 use crate::inst::{Family, Inst};
 use crate::registers::{
     RegisterTest, control_has, integer_has, is_other_class, is_real_x, loop_has, memory_has,
     symbol_has,
 };
-use crate::units::unit_misplaced;
+use crate::units::{is_not_of, unit_misplaced};
 use rv_base::{
     ArgPair as Arg, CallArgPair as Use, CallRetPair as Def, IrType, PReg, Reg, RegClass,
     RetLocation, RetPair as Ret,
@@ -84,6 +85,26 @@ fn integer_misplaced(inst: &Inst) -> bool
         Inst::Mov { rd, rm, ty: _ } => differ_in_class(rd.reg, *rm),
         Inst::MovFromPReg { rd, rm } => is_other_class(rd.reg) || !is_stack_or_frame(*rm),
         _ => integer_has(RegisterTest::OtherClass, inst),
+    }
+}
+
+fn memory_misplaced(inst: &Inst) -> bool
+    ensures { family_of inst.now ≡ Memory → result ≡ is_misplaced inst.now }
+{
+    match inst {
+        Inst::Load {
+            rd,
+            op,
+            flags: _,
+            from,
+        } => is_not_of(op.class(), rd.reg) || address_has(RegisterTest::OtherClass, *from),
+        Inst::Store {
+            to,
+            op,
+            flags: _,
+            src,
+        } => is_not_of(op.class(), *src) || address_has(RegisterTest::OtherClass, *to),
+        _ => memory_has(RegisterTest::OtherClass, inst),
     }
 }
 
@@ -158,7 +179,7 @@ pub fn is_misplaced(inst: &Inst) -> bool
     match inst.family() {
         Family::Pseudo => pseudo_misplaced(inst),
         Family::Integer => integer_misplaced(inst),
-        Family::Memory => memory_has(RegisterTest::OtherClass, inst),
+        Family::Memory => memory_misplaced(inst),
         Family::Control => control_has(RegisterTest::OtherClass, inst),
         Family::Loop => loop_has(RegisterTest::OtherClass, inst),
         Family::Symbols => symbol_has(RegisterTest::OtherClass, inst),

@@ -109,16 +109,16 @@ fn memory_is_plain(inst: &Inst) -> bool
     match inst {
         Inst::Load {
             rd,
-            op: _,
+            op,
             flags: _,
             from,
-        } => is_usable(rd.reg) && is_plain_address(*from),
+        } => !op.is_float() && (is_usable(rd.reg) && is_plain_address(*from)),
         Inst::Store {
             to,
-            op: _,
+            op,
             flags: _,
             src,
-        } => is_usable(*src) && is_plain_address(*to),
+        } => !op.is_float() && (is_usable(*src) && is_plain_address(*to)),
         _ => false,
     }
 }

@@ -37,7 +37,7 @@ fn placed(class: RegClass, reg: Reg) -> PlacedReg
 }
 
 /// Returns whether a register is of another class than this.
-fn is_not_of(class: RegClass, reg: Reg) -> bool
+pub(crate) fn is_not_of(class: RegClass, reg: Reg) -> bool
     ensures { result ≡ is_not_of class reg }
 {
     !same_class(reg.class(), class)
