@@ -81,7 +81,7 @@ pub after_access : (site : Site) (allocated offset : ℕ) (trap : Option TrapCod
 after_access site allocated offset None slots stands = stands
 after_access site allocated offset (Some code) slots stands = stands.1
 
-access_none : (trap : Option TrapCode) → size_of (access_slots trap) ≡ 0
+pub access_none : (trap : Option TrapCode) → size_of (access_slots trap) ≡ 0
 access_none None = refl
 access_none (Some code) = refl
 
