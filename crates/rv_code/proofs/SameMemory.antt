@@ -84,12 +84,16 @@ stored_bytes stores.Sb x = (omega arith, tt)
 stored_bytes stores.Sh x = (omega arith, (omega arith, tt))
 stored_bytes stores.Sw x = (omega arith, (omega arith, (omega arith, (omega arith, tt))))
 stored_bytes stores.Sd x = (omega arith, (omega arith, (omega arith, (omega arith, (omega arith, (omega arith, (omega arith, (omega arith, tt))))))))
+stored_bytes stores.Fsw x = (omega arith, (omega arith, (omega arith, (omega arith, tt))))
+stored_bytes stores.Fsd x = (omega arith, (omega arith, (omega arith, (omega arith, (omega arith, (omega arith, (omega arith, (omega arith, tt))))))))
 
 pub stored_length : (op : StoreOP) (x : ℕ) → length (store_bytes (store_op op) x) ≡ store_size op
 stored_length stores.Sb x = refl
 stored_length stores.Sh x = refl
 stored_length stores.Sw x = refl
 stored_length stores.Sd x = refl
+stored_length stores.Fsw x = refl
+stored_length stores.Fsd x = refl
 
 -- ---- loads
 

@@ -1,6 +1,11 @@
 -- What a line means depends on no labels but those that it names, and on where constants, symbols and slots stand.
 use Rattle.std.proofs.Common.{ℕ, ◌≡◌, ◌+◌, ◌*◌, ◌/◌, ◌^◌, pos, List, [], ◌∷◌, ◌++◌, refl, ap}
 use Rattle.rv_base.specs.declared.label.MachLabel.{MachLabel}
+use Rattle.rv_base.specs.declared.mem_flags.MemFlagsData.{MemFlagsData}
+use Rattle.rv_base.specs.declared.regs.Reg.{Reg}
+use Rattle.rv_base.specs.declared.regs.Writable.{Writable}
+use Rattle.rv_ops.specs.declared.memory.LoadOP.{LoadOP}
+use Rattle.rv_ops.specs.declared.memory.StoreOP.{StoreOP}
 use Rattle.rv_base.specs.Regs.{number_of}
 use Rattle.rv_base.specs.declared.amode.AMode.{AMode}
 use Rattle.rv_base.specs.declared.amode.AMode.TheVariants as mode
@@ -37,10 +42,17 @@ same_first e f (l ∷ labels) more s = (s.0, same_first e f labels more s.1)
 agree_first : {e f : Environment} (labels more : List MachLabel) → AgreeOn (labels ++ more) e f → AgreeOn labels e f
 agree_first {e} {f} labels more a = record { start = a.start; after = a.after; flags = a.flags; frame = a.frame; labels_same = same_first e f labels more a.labels_same; constants_same = a.constants_same; symbols_same = a.symbols_same; slots_same = a.slots_same }
 
+-- that of a load, and of a store
+pub load_address_agrees : {e f : Environment} (rd : Writable Reg) (op : LoadOP) (flags : MemFlagsData) (from : AMode) (v : Values) → AgreeOn (named_labels (Put (Load rd op flags from))) e f → address_of e from v ≡ address_of f from v
+load_address_agrees rd op flags from v a = address_agrees (load_size op) from v (agree_first (labels_of (address_targets (load_size op) from)) [] a)
+
+pub store_address_agrees : {e f : Environment} (to : AMode) (op : StoreOP) (flags : MemFlagsData) (src : Reg) (v : Values) → AgreeOn (named_labels (Put (Store src op flags to))) e f → address_of e to v ≡ address_of f to v
+store_address_agrees to op flags src v a = address_agrees 0 to v (agree_first (labels_of (address_targets 0 to)) [] a)
+
 inst_effect_agrees : {e f : Environment} (inst : Inst) (v : Values) → AgreeOn (inst_labels inst) e f → inst_effect e inst v ≡ inst_effect f inst v
 inst_effect_agrees (Auipc rd imm) v a = ap (λ n. set_reg v (number_of rd.reg) (wrap (n + low64 imm.value * 2 ^ 12))) a.start
-inst_effect_agrees (Load rd op flags from) v a = ap (λ n. loaded op (number_of rd.reg) n v) (address_agrees (load_size op) from v (agree_first (labels_of (address_targets (load_size op) from)) [] a))
-inst_effect_agrees (Store src op flags to) v a = ap (λ n. stored op (number_of src) n v) (address_agrees 0 to v (agree_first (labels_of (address_targets 0 to)) [] a))
+inst_effect_agrees (Load rd op flags from) v a = ap (λ n. loaded op (number_of rd.reg) n v) (load_address_agrees rd op flags from v a)
+inst_effect_agrees (Store src op flags to) v a = ap (λ n. stored op (number_of src) n v) (store_address_agrees to op flags src v a)
 inst_effect_agrees (LoadAddr rd mem) v a = ap (set_reg v (number_of rd.reg)) (address_agrees 0 mem v (agree_first (labels_of (address_targets 0 mem)) [] a))
 inst_effect_agrees (LabelAddress dst label) v a = ap (set_reg v (number_of dst.reg)) a.labels_same.0
 inst_effect_agrees (Jalr rd base offset) v a = ap (set_reg v (number_of rd.reg)) a.after
@@ -54,7 +66,7 @@ inst_effect_agrees (ReturnCallInd info) v a = ap (λ frame. frame_left frame inf
 inst_effect_agrees _ v a = refl
 
 inst_writes_agree : {e f : Environment} (inst : Inst) (v : Values) → AgreeOn (inst_labels inst) e f → inst_writes e inst v ≡ inst_writes f inst v
-inst_writes_agree (Store src op flags to) v a = ap (λ n. addresses_from n (store_size op)) (address_agrees 0 to v (agree_first (labels_of (address_targets 0 to)) [] a))
+inst_writes_agree (Store src op flags to) v a = ap (λ n. addresses_from n (store_size op)) (store_address_agrees to op flags src v a)
 inst_writes_agree _ v a = refl
 
 inst_exit_agrees : {e f : Environment} (inst : Inst) (v : Values) → AgreeOn (inst_labels inst) e f → inst_exit e inst v ≡ inst_exit f inst v
