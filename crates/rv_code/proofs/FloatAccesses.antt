@@ -22,7 +22,7 @@ use Rattle.rv_code.proofs.UnitRuns.{float_set}
 
 -- ---- numbers and bytes
 
-loaded_small : (format : FloatFormat) (mem : Memory) (a : ℕ) → ((x : ℕ) → byte mem x < 256) → boxed format (load_bytes mem a (format_bytes format)) < 2 ^ 64
+pub loaded_small : (format : FloatFormat) (mem : Memory) (a : ℕ) → ((x : ℕ) → byte mem x < 256) → boxed format (load_bytes mem a (format_bytes format)) < 2 ^ 64
 loaded_small H mem a h = let b0 = h (wrap (a + 0)) in let b1 = h (wrap (a + 1)) in omega arith
 loaded_small S mem a h =
     let b0 = h (wrap (a + 0)) in
@@ -32,12 +32,12 @@ loaded_small S mem a h =
     omega arith
 loaded_small D mem a h = eight_fit mem a h
 
-low_bytes_fit : (format : FloatFormat) (n : ℕ) → AllByRecursion (λ b. b < 256) (low_bytes format n)
+pub low_bytes_fit : (format : FloatFormat) (n : ℕ) → AllByRecursion (λ b. b < 256) (low_bytes format n)
 low_bytes_fit H n = (omega arith, (omega arith, tt))
 low_bytes_fit S n = (omega arith, (omega arith, (omega arith, (omega arith, tt))))
 low_bytes_fit D n = (omega arith, (omega arith, (omega arith, (omega arith, (omega arith, (omega arith, (omega arith, (omega arith, tt))))))))
 
-low_bytes_long : (format : FloatFormat) (n : ℕ) → length (low_bytes format n) ≡ format_bytes format
+pub low_bytes_long : (format : FloatFormat) (n : ℕ) → length (low_bytes format n) ≡ format_bytes format
 low_bytes_long H n = refl
 low_bytes_long S n = refl
 low_bytes_long D n = refl

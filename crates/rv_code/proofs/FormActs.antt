@@ -342,6 +342,7 @@ zca_load_either P flags loads.Lbu rd base offset h = narrow_load_either P flags 
 zca_load_either P flags loads.Lhu rd base offset h = narrow_load_either P flags 1 loads.Lhu rd base offset h
 zca_load_either P flags loads.Lwu rd base offset h = tt
 zca_load_either P flags loads.Ld rd base offset h = word_load_either P loads.Ld rd base offset h
+zca_load_either P flags loads.Flh rd base offset h = tt
 zca_load_either P flags loads.Flw rd base offset h = tt
 zca_load_either P flags loads.Fld rd base offset h = fld_either P flags rd base offset h
 
@@ -390,6 +391,7 @@ zca_store_either P flags stores.Sb base src offset h = narrow_store_either P fla
 zca_store_either P flags stores.Sh base src offset h = narrow_store_either P flags 1 stores.Sh base src offset h
 zca_store_either P flags stores.Sw base src offset h = word_store_either P stores.Sw base src offset h
 zca_store_either P flags stores.Sd base src offset h = word_store_either P stores.Sd base src offset h
+zca_store_either P flags stores.Fsh base src offset h = tt
 zca_store_either P flags stores.Fsw base src offset h = tt
 zca_store_either P flags stores.Fsd base src offset h = fsd_either P flags base src offset h
 

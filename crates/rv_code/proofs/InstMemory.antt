@@ -17,7 +17,7 @@ use Rattle.rv_machine.specs.State.{State, Values, AreValues, reg, set_reg, wrap,
 use Rattle.rv_machine.specs.declared.decoding.Decoded.{Decoded}
 use Rattle.rv_inst.specs.declared.label_use.LabelUse.TheVariants.{PCRelLo12I}
 use Rattle.rv_machine.specs.Memory.{load_result, store_bytes}
-use Rattle.rv_encode.specs.Operations.{load_op, store_op, decoded_load, decoded_store}
+use Rattle.rv_encode.specs.Operations.{load_op, store_op, decoded_load, decoded_store, has_load, has_store}
 use Rattle.rv_inst.specs.Forms.{short_load, short_store}
 use Rattle.rv_inst.specs.Addresses.{Location, Based, AtLabel, AtConstant, location_of, is_near}
 use Rattle.mach_uses.specs.Labels.{constant_label}
@@ -29,10 +29,10 @@ use Rattle.rv_code.specs.Usable.{IsUsable}
 use Rattle.rv_code.specs.Sites.{Site, IsPlacedAt, CodeHas, StandsIn}
 use Rattle.rv_code.specs.Immediates.{lower_of_distance}
 use Rattle.rv_code.specs.Slots.{Label, Slot, Op, Aim, Names, Part, size_of, between}
-use Rattle.rv_code.specs.InstParts.{slots_alone, access_slots, address_slots, label_base, label_load_slots, load_slots, store_slots}
+use Rattle.rv_code.specs.InstParts.{slots_alone, access_slots, address_slots, half_load_slots, half_store_slots, label_base, label_load_slots, load_line_slots, load_slots, store_line_slots, store_slots}
 use Rattle.rv_code.specs.InstRuns.{Enters, ComesOut, RunsIn, environment}
 use Rattle.rv_code.specs.Chains.{Goes, IsAt}
-use Rattle.rv_code.proofs.AccessRows.{IsIntegerLoad, IsIntegerStore}
+use Rattle.rv_code.proofs.AccessRows.{IsIntegerLoad, IsIntegerStore, has_integer_load, has_integer_store}
 use Rattle.rv_code.proofs.AddressRules.{IsUsableAt, IsRealAt, IsApartAt}
 use Rattle.rv_code.proofs.AddressRuns.{size_append, stands_split, Sets, sets_one, sets_both, shorter, set_at, label_address, AreShort, upper_sum, upper_goes, lower_sums, address_goes, address_even, address_same, address_fits}
 use Rattle.rv_code.proofs.Chains.{goes_both, goes_at_least}
@@ -81,7 +81,7 @@ pub after_access : (site : Site) (allocated offset : ℕ) (trap : Option TrapCod
 after_access site allocated offset None slots stands = stands
 after_access site allocated offset (Some code) slots stands = stands.1
 
-access_none : (trap : Option TrapCode) → size_of (access_slots trap) ≡ 0
+pub access_none : (trap : Option TrapCode) → size_of (access_slots trap) ≡ 0
 access_none None = refl
 access_none (Some code) = refl
 
@@ -135,15 +135,20 @@ loaded {site} {start} {after} {s = s} {v = v} op loc based e =
     sym (load_same (load_op op) v.mem s.values.mem (address_at env v loc) e.same.mem ∙ ap (load_result (load_op op) s.values.mem) (address_same env v s.values loc based e.same))
 
 -- by the offset from the register
-load_near_out : {site : Site} {start after : ℕ} {s : State} {v : Values} (rd r : ℕ) (op : LoadOP) (o : ℤ) (trap : Option TrapCode) → IsIntegerLoad op → rd < 30 → Enters site start after (slots_alone (access_slots trap ++ Op (short_load site.context.flags op rd r o) ∷ [])) s v → ComesOut site start after Next [] (set_reg v rd (load_result (load_op op) s.values.mem (wrap (reg s.values r + low64 o)))) s
-load_near_out {site} {start} {s = s} rd r op o trap integer usable e =
+pub near_sets : {site : Site} {start after : ℕ} {s : State} {v : Values} (rd r : ℕ) (op : LoadOP) (o : ℤ) (trap : Option TrapCode) → IsIntegerLoad op → Enters site start after (slots_alone (access_slots trap ++ Op (short_load site.context.flags op rd r o) ∷ [])) s v → Sets site.context.flags (short_load site.context.flags op rd r o).len s rd (load_result (load_op op) s.values.mem (wrap (reg s.values r + low64 o)))
+near_sets {site} {start} {s = s} rd r op o trap integer e =
     let d = short_load site.context.flags op rd r o in
     let some = (load_sized site.context.flags op rd r o).some in
+    let long = access_size trap (Op d ∷ []) in
+    sets_one d rd (load_result (load_op op) s.values.mem (wrap (reg s.values r + low64 o))) (starts_at (access_slots trap ++ Op d ∷ []) e) (omega arith) (after_access site e.stands.0 start trap (Op d ∷ []) e.stands.1).0 (load_acts site.context.flags op rd r o s integer e.is_state)
+
+load_near_out : {site : Site} {start after : ℕ} {s : State} {v : Values} (rd r : ℕ) (op : LoadOP) (o : ℤ) (trap : Option TrapCode) → IsIntegerLoad op → rd < 30 → Enters site start after (slots_alone (access_slots trap ++ Op (short_load site.context.flags op rd r o) ∷ [])) s v → ComesOut site start after Next [] (set_reg v rd (load_result (load_op op) s.values.mem (wrap (reg s.values r + low64 o)))) s
+load_near_out {site} {s = s} rd r op o trap integer usable e =
+    let d = short_load site.context.flags op rd r o in
     let slots = access_slots trap ++ Op d ∷ [] in
     let x = load_result (load_op op) s.values.mem (wrap (reg s.values r + low64 o)) in
     let long = access_size trap (Op d ∷ []) in
-    sets_out slots d.len rd x usable (load_fits (load_op op) s.values.mem (wrap (reg s.values r + low64 o)) e.is_state.values.bytes) e (omega arith)
-    (sets_one d rd x (starts_at slots e) (omega arith) (after_access site e.stands.0 start trap (Op d ∷ []) e.stands.1).0 (load_acts site.context.flags op rd r o s integer e.is_state))
+    sets_out slots d.len rd x usable (load_fits (load_op op) s.values.mem (wrap (reg s.values r + low64 o)) e.is_state.values.bytes) e (omega arith) (near_sets rd r op o trap integer e)
 
 -- by x31
 load_far_out : {site : Site} {start after : ℕ} {s : State} {v : Values} (rd : ℕ) (op : LoadOP) (loc : Location) (trap : Option TrapCode) → IsIntegerLoad op → rd < 30 → IsUsableAt loc → Enters site start after (slots_alone (access_after site.context.flags loc trap (decoded_load op rd 31 (pos 0)))) s v → ComesOut site start after Next [] (set_reg v rd (load_result (load_op op) s.values.mem (address_at (environment site start after) s.values loc))) s
@@ -162,22 +167,26 @@ load_far_out {site} {start} {after} {s} {v} rd op loc trap integer usable based 
     (but_set v w rd x e.are_values written (omega arith) (spare_set v s.values 31 a (omega arith) (same_but [] e.same))) (are_values_set v rd x e.are_values (omega arith) fits) (are_values_set w rd x written (omega arith) fits) e.placed
 
 -- by the register itself, which holds the address's upper part first
-load_label_out : {site : Site} {start after : ℕ} {s : State} {v : Values} (rd : ℕ) (op : LoadOP) (l : MachLabel) (trap : Option TrapCode) → IsIntegerLoad op → rd < 30 → 0 < rd → Enters site start after (slots_alone (label_load_slots rd rd op trap l)) s v → ComesOut site start after Next [] (set_reg v rd (load_result (load_op op) s.values.mem (label_address site l))) s
-load_label_out {site} {start} {s = s} rd op l trap integer usable some e =
-    let slots = label_load_slots rd rd op trap l in
+pub label_sets : {site : Site} {start after : ℕ} {s : State} {v : Values} (rd : ℕ) (op : LoadOP) (l : MachLabel) (trap : Option TrapCode) → IsIntegerLoad op → rd < 32 → 0 < rd → Enters site start after (slots_alone (label_load_slots rd rd op trap l)) s v → Sets site.context.flags 8 s rd (load_result (load_op op) s.values.mem (label_address site l))
+label_sets {site} {start} {s = s} rd op l trap integer lt some e =
     let lower = Aim PCRelLo12I (Label l) (λ d. decoded_load op rd rd (lower_of_distance d) ∷ []) ∷ [] in
-    let long : 8 ≡ size_of slots = (let rest = access_size trap lower in omega arith) in
-    let h = shorter 8 (starts_at slots e) (omega arith) in
+    let long : 8 ≡ size_of (label_load_slots rd rd op trap l) = (let rest = access_size trap lower in omega arith) in
+    let h = shorter 8 (starts_at (label_load_slots rd rd op trap l) e) (omega arith) in
     let a = e.stands.1.0 in
     let b = (after_access site e.stands.0 (start + 4) trap lower e.stands.1.1).0 in
     let y = upper_sum s.pc start a.to in
     let w = set_reg s.values rd y in
     let x = load_result (load_op op) s.values.mem (label_address site l) in
     let h1 : IsAt site (start + 4) 4 (at (wrap (s.pc + 4)) w) = set_at 4 rd y h refl in
-    let sum = lower_sums rd l a.to b.to some (omega arith) (bounds e) e.is_state h a.reaches.0 b.reaches.0 in
-    sets_out slots 8 rd x usable (load_fits (load_op op) s.values.mem (label_address site l) e.is_state.values.bytes) e long
-    (sets_both 4 4 rd y x (upper_goes rd l h (omega arith) a)
-    (sets_one (decoded_load op rd rd (lower_of_distance (between (start + 4) b.to))) rd x h1 (omega arith) b.has (load_acts_wide op rd rd (lower_of_distance (between (start + 4) b.to)) (at (wrap (s.pc + 4)) w) integer ∙ (λ i. Some (at (wrap (wrap (s.pc + 4) + 4)) (set_reg w rd (load_result (load_op op) s.values.mem (sum i))))))))
+    let sum = lower_sums rd l a.to b.to some lt (bounds e) e.is_state h a.reaches.0 b.reaches.0 in
+    sets_both 4 4 rd y x (upper_goes rd l h (omega arith) a)
+    (sets_one (decoded_load op rd rd (lower_of_distance (between (start + 4) b.to))) rd x h1 (omega arith) b.has (load_acts_wide op rd rd (lower_of_distance (between (start + 4) b.to)) (at (wrap (s.pc + 4)) w) integer ∙ (λ i. Some (at (wrap (wrap (s.pc + 4) + 4)) (set_reg w rd (load_result (load_op op) s.values.mem (sum i)))))))
+
+load_label_out : {site : Site} {start after : ℕ} {s : State} {v : Values} (rd : ℕ) (op : LoadOP) (l : MachLabel) (trap : Option TrapCode) → IsIntegerLoad op → rd < 30 → 0 < rd → Enters site start after (slots_alone (label_load_slots rd rd op trap l)) s v → ComesOut site start after Next [] (set_reg v rd (load_result (load_op op) s.values.mem (label_address site l))) s
+load_label_out {site} {s = s} rd op l trap integer usable some e =
+    let lower = Aim PCRelLo12I (Label l) (λ d. decoded_load op rd rd (lower_of_distance d) ∷ []) ∷ [] in
+    let long : 8 ≡ size_of (label_load_slots rd rd op trap l) = (let rest = access_size trap lower in omega arith) in
+    sets_out (label_load_slots rd rd op trap l) 8 rd (load_result (load_op op) s.values.mem (label_address site l)) usable (load_fits (load_op op) s.values.mem (label_address site l) e.is_state.values.bytes) e long (label_sets rd op l trap integer (omega arith) some e)
 
 -- an integer register is its own base
 by_itself : {site : Site} {start after rd : ℕ} {s : State} {v : Values} (op : LoadOP) (l : MachLabel) (trap : Option TrapCode) → IsIntegerLoad op → Enters site start after (slots_alone (label_load_slots (label_base op rd) rd op trap l)) s v → Enters site start after (slots_alone (label_load_slots rd rd op trap l)) s v
@@ -192,13 +201,17 @@ load_out {site} {start} {after} {s} {v} rd op (Based r o) trap integer usable ba
 load_out rd op (AtLabel l) trap integer usable based real = λ e. load_label_out rd op l trap integer usable real (by_itself op l trap integer e)
 load_out rd op (AtConstant k) trap integer usable based real = λ e. load_label_out rd op (constant_label k) trap integer usable real (by_itself op (constant_label k) trap integer (once_named k (label_load_slots (label_base op rd) rd op trap (constant_label k)) e))
 
+-- the load of a line is one, where the machine has it
+pub one_load : {site : Site} {start after : ℕ} {s : State} {v : Values} (op : LoadOP) (rd : ℕ) (trap : Option TrapCode) (loc : Location) → has_load site.context.flags op ≡ true → Enters site start after (slots_alone (load_line_slots site.context.flags rd op trap loc)) s v → Enters site start after (slots_alone (load_slots site.context.flags rd op trap loc)) s v
+one_load {site} {start} {after} {s} {v} op rd trap loc has e = subst (λ (c : Bool). Enters site start after (slots_alone (if c then load_slots site.context.flags rd op trap loc else half_load_slots site.context.flags rd trap loc)) s v) has e
+
 pub load_runs : (site : Site) (setting : EmitVState) (rd : Writable Reg) (op : LoadOP) (flags : MemFlagsData) (from : AMode) → IsIntegerLoad op → IsUsable rd.reg → IsUsableAt (location_of site.context.frame from) → IsRealAt (number_of rd.reg) (location_of site.context.frame from) → RunsIn site setting (Load rd op flags from)
 load_runs site setting rd op flags from integer h based real = record {
   run = λ start after s v e clear.
       let loc = location_of site.context.frame from in
       let x = load_result (load_op op) v.mem (address_at (environment site start after) v loc) in
       subst (λ (c : Bool). ComesOut site start after Next [] (if c then v else set_reg v (number_of rd.reg) x) s) (sym integer)
-      (subst (λ y. ComesOut site start after Next [] (set_reg v (number_of rd.reg) y) s) (loaded op loc based e) (load_out (number_of rd.reg) op loc flags.trap integer h.1 based real e));
+      (subst (λ y. ComesOut site start after Next [] (set_reg v (number_of rd.reg) y) s) (loaded op loc based e) (load_out (number_of rd.reg) op loc flags.trap integer h.1 based real (one_load op (number_of rd.reg) flags.trap loc (has_integer_load site.context.flags op integer) e)));
 }
 
 -- ---- stores
@@ -223,7 +236,7 @@ store_near_out {site} {start} {s = s} op r src o trap integer e clear =
     (goes_at_least (omega arith) (step_at d [] t (starts_at slots e) (omega arith) (after_access site e.stands.0 start trap (Op d ∷ []) e.stands.1).0 (store_acts site.context.flags op r src o s integer e.is_state)))
     (same_but [] e.same) e.is_state.values refl
 
-store_far_out : {site : Site} {start after : ℕ} {s : State} {v : Values} (op : StoreOP) (src : ℕ) (loc : Location) (trap : Option TrapCode) → IsIntegerStore op → src < 30 → IsUsableAt loc → Enters site start after (slots_alone (access_after site.context.flags loc trap (decoded_store op 31 src (pos 0)))) s v → AreOutside site.base (length site.bytes) (addresses_from (address_at (environment site start after) s.values loc) (store_size op)) →
+store_far_out : {site : Site} {start after : ℕ} {s : State} {v : Values} (op : StoreOP) (src : ℕ) (loc : Location) (trap : Option TrapCode) → IsIntegerStore op → src < 31 → IsUsableAt loc → Enters site start after (slots_alone (access_after site.context.flags loc trap (decoded_store op 31 src (pos 0)))) s v → AreOutside site.base (length site.bytes) (addresses_from (address_at (environment site start after) s.values loc) (store_size op)) →
     ComesOut site start after Next [] (put_bytes v (address_at (environment site start after) s.values loc) (store_bytes (store_op op) (reg s.values src))) s
 store_far_out {site} {start} {after} {s} {v} op src loc trap integer usable based e clear =
     let d = decoded_store op 31 src (pos 0) in
@@ -239,7 +252,8 @@ store_far_out {site} {start} {after} {s} {v} op src loc trap integer usable base
     store_ends (access_after site.context.flags loc trap d) (k + 4) op a x w e y.long clear (subst (λ n. Goes site.context.flags 0 s (at n t.values)) over (goes_both {n = 0} y.goes (goes_at_least (omega arith) acts)))
     (spare_set v s.values 31 a (omega arith) (same_but [] e.same)) (are_values_set s.values 31 a e.is_state.values (omega arith) (address_fits site start after s.values loc)) refl
 
-store_out : {site : Site} {start after : ℕ} {s : State} {v : Values} (op : StoreOP) (src : ℕ) (loc : Location) (trap : Option TrapCode) → IsIntegerStore op → src < 30 → IsUsableAt loc → Enters site start after (slots_alone (store_slots site.context.flags op src trap loc)) s v → AreOutside site.base (length site.bytes) (addresses_from (address_at (environment site start after) s.values loc) (store_size op)) →
+-- of a register that isn't the one in which an address is computed
+pub store_out : {site : Site} {start after : ℕ} {s : State} {v : Values} (op : StoreOP) (src : ℕ) (loc : Location) (trap : Option TrapCode) → IsIntegerStore op → src < 31 → IsUsableAt loc → Enters site start after (slots_alone (store_slots site.context.flags op src trap loc)) s v → AreOutside site.base (length site.bytes) (addresses_from (address_at (environment site start after) s.values loc) (store_size op)) →
     ComesOut site start after Next [] (put_bytes v (address_at (environment site start after) s.values loc) (store_bytes (store_op op) (reg s.values src))) s
 store_out {site} {start} {after} {s} {v} op src (Based r o) trap integer usable based = on (is_near o)
   where
@@ -250,6 +264,10 @@ store_out {site} {start} {after} {s} {v} op src (Based r o) trap integer usable 
 store_out op src (AtLabel l) trap integer usable based = λ e clear. store_far_out op src (AtLabel l) trap integer usable tt e clear
 store_out op src (AtConstant k) trap integer usable based = λ e clear. store_far_out op src (AtConstant k) trap integer usable tt e clear
 
+-- the store of a line is one, where the machine has it
+pub one_store : {site : Site} {start after : ℕ} {s : State} {v : Values} (op : StoreOP) (src : ℕ) (trap : Option TrapCode) (loc : Location) → has_store site.context.flags op ≡ true → Enters site start after (slots_alone (store_line_slots site.context.flags op src trap loc)) s v → Enters site start after (slots_alone (store_slots site.context.flags op src trap loc)) s v
+one_store {site} {start} {after} {s} {v} op src trap loc has e = subst (λ (c : Bool). Enters site start after (slots_alone (if c then store_slots site.context.flags op src trap loc else half_store_slots site.context.flags src trap loc)) s v) has e
+
 pub store_runs : (site : Site) (setting : EmitVState) (to : AMode) (op : StoreOP) (flags : MemFlagsData) (src : Reg) → IsIntegerStore op → IsUsable src → IsUsableAt (location_of site.context.frame to) → RunsIn site setting (Store src op flags to)
 store_runs site setting to op flags src integer h based = record {
   run = λ start after s v e clear.
@@ -259,7 +277,7 @@ store_runs site setting to op flags src integer h based = record {
       subst (λ (c : Bool). ComesOut site start after Next [] (if c then v else put_bytes v (address_at env v loc) (store_bytes (store_op op) (reg v (number_of src)))) s) (sym integer)
       (subst (λ a. ComesOut site start after Next [] (put_bytes v a (store_bytes (store_op op) (reg v (number_of src)))) s) (sym where_stored)
       (subst (λ x. ComesOut site start after Next [] (put_bytes v (address_at env s.values loc) (store_bytes (store_op op) x)) s) (sym (e.same.regs (number_of src) h.1))
-      (store_out op (number_of src) loc flags.trap integer h.1 based e (subst (λ a. AreOutside site.base (length site.bytes) (addresses_from a (store_size op))) where_stored clear))));
+      (store_out op (number_of src) loc flags.trap integer (omega arith) based (one_store op (number_of src) flags.trap loc (has_integer_store site.context.flags op integer) e) (subst (λ a. AreOutside site.base (length site.bytes) (addresses_from a (store_size op))) where_stored clear))));
 }
 
 -- ---- addresses

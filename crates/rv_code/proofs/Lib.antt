@@ -58,6 +58,10 @@ pub mod FineOperands
 pub mod AccessRows
 pub mod FormActs
 pub mod MemorySlots
+pub mod LineSlots
+mod HalfNumbers
+mod HalfLoads
+mod HalfStores
 pub mod NumberRuns
 pub mod NumberSlots
 pub mod OffsetSizes

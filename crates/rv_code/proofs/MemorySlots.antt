@@ -1,4 +1,4 @@
--- What loads, stores and addresses add to a buffer, and that their parts are self-contained.
+-- What loads and stores of one instruction, and addresses, add to a buffer, and that their parts are self-contained.
 use Rattle.std.proofs.Common.{◌≡◌, ℕ, ◌+◌, ◌-◌, ◌%◌, ◌≤◌, Bool, true, false, List, [], ◌∷◌, ◌++◌, length, Option, Some, None, ℤ, pos, refl, ap, sym, ◌∙◌, subst, append_assoc, arith, lit≤}
 use Rattle.std.specs.Prelude.{◌==◌, if◌then◌else◌}
 use Rattle.std.specs.Int.{to_le_bytes, w64}
@@ -7,7 +7,6 @@ use Rattle.rv_base.specs.declared.amode.AMode.TheVariants.{RegOffset, SPOffset, 
 use Rattle.rv_base.specs.declared.flags.IsaFlags.{IsaFlags}
 use Rattle.rv_base.specs.declared.frame.FrameLayout.{FrameLayout}
 use Rattle.rv_base.specs.declared.label.MachLabel.{MachLabel}
-use Rattle.rv_base.specs.declared.mem_flags.MemFlagsData.{MemFlagsData}
 use Rattle.rv_base.specs.declared.regs.Reg.{Reg}
 use Rattle.rv_base.specs.declared.regs.Writable.{Writable}
 use Rattle.rv_base.specs.declared.trap.TrapCode.{TrapCode}
@@ -26,7 +25,6 @@ use Rattle.mach_records.specs.declared.records.Event.TheVariants as event
 use Rattle.mach_records.specs.declared.records.MachRecord.{MachRecord}
 use Rattle.mach_uses.specs.declared.uses.Use.{Use}
 use Rattle.rv_encode.specs.Operations.{decoded, decoded_load, decoded_store}
-use Rattle.rv_ops.specs.Memory.{load_size}
 use Rattle.rv_inst.specs.Addresses.{Location, Based, AtLabel, AtConstant, location_of, is_near, is_splittable, inline_size, far_size, far_address_size, address_size, load_size_at, store_size_at, load_own_size, store_own_size}
 use Rattle.rv_inst.specs.Forms.{short_rrr, short_rri, short_lui, short_load, short_store}
 use Rattle.rv_inst.specs.declared.inst.Inst.{Inst}
@@ -39,7 +37,7 @@ use Rattle.rv_inst.specs.Sizes.{Words, extent_of, inst_records}
 use Rattle.rv_inst.specs.Records.{access_records}
 use Rattle.rv_inst.specs.Uses.{use_at, uses_in, target_uses}
 use Rattle.rv_inst.specs.Context.{Context}
-use Rattle.rv_inst.specs.declared.inst.Inst.TheVariants.{Load, Store, LoadAddr, LabelAddress}
+use Rattle.rv_inst.specs.declared.inst.Inst.TheVariants.{LoadAddr, LabelAddress}
 use Rattle.rv_code.specs.Immediates.{upper_of, lower_of}
 use Rattle.rv_code.specs.Operations.{short_jump, jump_size}
 use Rattle.rv_code.specs.Slots.{Slot, Op, Data, Notes, size_of, uses_of, records_of, names_of, AreClosed, AreSelfContained}
@@ -63,7 +61,7 @@ abbrev pub HaveAccess : ℕ → ℕ → (ℕ → ℕ → List (Use LabelUse)) �
 HaveAccess size last own trap constant slots = HaveContents size last own (λ at. access_records at trap) constant slots
 
 -- the record of a trap at an offset, alone
-abbrev trap_at : TrapCode → ℕ → List MachRecord
+abbrev pub trap_at : TrapCode → ℕ → List MachRecord
 trap_at code at = record { offset = at; event = event.Trap code } ∷ []
 
 -- uses that depend on the end alone
@@ -176,13 +174,13 @@ offset_then {size} {last} {rest} {records_at} {slots} flags rd o c = by (is_spli
 -- ---- by location
 
 -- the uses of an address
-abbrev uses_at : Location → ℕ → ℕ → List (Use LabelUse)
+abbrev pub uses_at : Location → ℕ → ℕ → List (Use LabelUse)
 uses_at (Based r o) = none
 uses_at (AtLabel l) = λ start end. use_at start l PCRelHi20 ∷ use_at (start + 4) l PCRelLo12I ∷ []
 uses_at (AtConstant k) = λ start end. use_at start (constant_label k) PCRelHi20 ∷ use_at (start + 4) (constant_label k) PCRelLo12I ∷ []
 
 -- its constant
-abbrev constant_at : Location → Option VCodeConstant
+abbrev pub constant_at : Location → Option VCodeConstant
 constant_at (Based r o) = None
 constant_at (AtLabel l) = None
 constant_at (AtConstant k) = Some k
@@ -215,14 +213,14 @@ addresses flags rd (Based r o) = by (is_near o)
 addresses flags rd (AtLabel l) = record { plain = tt; long = refl; within = lit≤ tt; uses = λ allocated start. refl; records = λ start. refl; names = λ named. refl; closed = λ here start. (tt, (tt, tt)) }
 addresses flags rd (AtConstant k) = record { plain = tt; long = refl; within = lit≤ tt; uses = λ allocated start. refl; records = λ start. refl; names = λ named. refl; closed = λ here start. (tt, (tt, tt)) }
 
-loaded : (flags : IsaFlags) (rd : ℕ) (op : LoadOP) (trap : Option TrapCode) (at : Location) → HaveAccess (load_size_at flags op rd at) (load_own_size flags op rd at) (uses_at at) trap (constant_at at) (load_slots flags rd op trap at)
+pub loaded : (flags : IsaFlags) (rd : ℕ) (op : LoadOP) (trap : Option TrapCode) (at : Location) → HaveAccess (load_size_at flags op rd at) (load_own_size flags op rd at) (uses_at at) trap (constant_at at) (load_slots flags rd op trap at)
 loaded flags rd op trap (Based r o) = based flags (short_load flags op rd r o) (decoded_load op rd 31 (pos 0)) trap r o (load_sized flags op rd r o).even refl
 loaded flags rd op None (AtLabel l) = record { plain = tt; long = refl; within = lit≤ tt; uses = λ allocated start. refl; records = λ start. refl; names = λ named. refl; closed = λ here start. (tt, (tt, tt)) }
 loaded flags rd op None (AtConstant k) = record { plain = tt; long = refl; within = lit≤ tt; uses = λ allocated start. refl; records = λ start. refl; names = λ named. refl; closed = λ here start. (tt, (tt, tt)) }
 loaded flags rd op (Some code) (AtLabel l) = record { plain = tt; long = refl; within = lit≤ tt; uses = λ allocated start. refl; records = λ start. let e : start + 4 ≡ start + 8 - 4 = omega arith in ap (trap_at code) e; names = λ named. refl; closed = λ here start. (tt, (tt, tt)) }
 loaded flags rd op (Some code) (AtConstant k) = record { plain = tt; long = refl; within = lit≤ tt; uses = λ allocated start. refl; records = λ start. let e : start + 4 ≡ start + 8 - 4 = omega arith in ap (trap_at code) e; names = λ named. refl; closed = λ here start. (tt, (tt, tt)) }
 
-stored : (flags : IsaFlags) (op : StoreOP) (src : ℕ) (trap : Option TrapCode) (at : Location) → HaveAccess (store_size_at flags op src at) (store_own_size flags op src at) (uses_at at) trap (constant_at at) (store_slots flags op src trap at)
+pub stored : (flags : IsaFlags) (op : StoreOP) (src : ℕ) (trap : Option TrapCode) (at : Location) → HaveAccess (store_size_at flags op src at) (store_own_size flags op src at) (uses_at at) trap (constant_at at) (store_slots flags op src trap at)
 stored flags op src trap (Based r o) = based flags (short_store flags op r src o) (decoded_store op 31 src (pos 0)) trap r o (store_sized flags op r src o).even refl
 stored flags op src None (AtLabel l) = record { plain = tt; long = refl; within = lit≤ tt; uses = λ allocated start. refl; records = λ start. refl; names = λ named. refl; closed = λ here start. (tt, (tt, (refl, tt))) }
 stored flags op src None (AtConstant k) = record { plain = tt; long = refl; within = lit≤ tt; uses = λ allocated start. refl; records = λ start. refl; names = λ named. refl; closed = λ here start. (tt, (tt, (refl, tt))) }
@@ -241,7 +239,7 @@ summed_by {context} {inst} {slots} {size} {last} {own} {records_at} c long uses 
 }
 
 -- an address has the constant and the uses of its location
-same_constant : (frame : FrameLayout) (read : ℕ) (mode : AMode) → constant_at (location_of frame mode) ≡ constant_named (address_targets read mode)
+pub same_constant : (frame : FrameLayout) (read : ℕ) (mode : AMode) → constant_at (location_of frame mode) ≡ constant_named (address_targets read mode)
 same_constant frame read (RegOffset r o) = refl
 same_constant frame read (SPOffset o) = refl
 same_constant frame read (FPOffset o) = refl
@@ -250,7 +248,7 @@ same_constant frame read (IncomingArg o) = refl
 same_constant frame read (Const k) = refl
 same_constant frame read (Label l) = refl
 
-same_uses : (flags : IsaFlags) (frame : FrameLayout) (read : ℕ) (mode : AMode) (start end : ℕ) → uses_at (location_of frame mode) start end ≡ target_uses flags start (address_targets read mode)
+pub same_uses : (flags : IsaFlags) (frame : FrameLayout) (read : ℕ) (mode : AMode) (start end : ℕ) → uses_at (location_of frame mode) start end ≡ target_uses flags start (address_targets read mode)
 same_uses flags frame read (RegOffset r o) start end = refl
 same_uses flags frame read (SPOffset o) start end = refl
 same_uses flags frame read (FPOffset o) start end = refl
@@ -259,23 +257,11 @@ same_uses flags frame read (IncomingArg o) start end = refl
 same_uses flags frame read (Const k) start end = refl
 same_uses flags frame read (Label l) start end = refl
 
-pub load_summed : (context : Context) (rd : Writable Reg) (op : LoadOP) (flags : MemFlagsData) (from : AMode) → IsSummed context (Load rd op flags from) (load_slots context.flags (number_of rd.reg) op flags.trap (location_of context.frame from))
-load_summed context rd op flags from = summed_by (loaded context.flags (number_of rd.reg) op flags.trap (location_of context.frame from)) refl (same_uses context.flags context.frame (load_size op) from) (λ start end. refl) (same_constant context.frame (load_size op) from)
-
-pub store_summed : (context : Context) (to : AMode) (op : StoreOP) (flags : MemFlagsData) (src : Reg) → IsSummed context (Store src op flags to) (store_slots context.flags op (number_of src) flags.trap (location_of context.frame to))
-store_summed context to op flags src = summed_by (stored context.flags op (number_of src) flags.trap (location_of context.frame to)) refl (same_uses context.flags context.frame 0 to) (λ start end. refl) (same_constant context.frame 0 to)
-
 pub load_addr_summed : (context : Context) (rd : Writable Reg) (mem : AMode) → IsSummed context (LoadAddr rd mem) (address_slots context.flags (number_of rd.reg) (location_of context.frame mem))
 load_addr_summed context rd mem = summed_by (addresses context.flags (number_of rd.reg) (location_of context.frame mem)) refl (same_uses context.flags context.frame 0 mem) (λ start end. refl) (same_constant context.frame 0 mem)
 
 pub label_address_summed : (context : Context) (dst : Writable Reg) (label : MachLabel) → IsSummed context (LabelAddress dst label) (address_slots context.flags (number_of dst.reg) (AtLabel label))
 label_address_summed context dst label = summed_by (addresses context.flags (number_of dst.reg) (AtLabel label)) refl (λ start end. refl) (λ start end. refl) refl
-
-pub load_contained : (flags : IsaFlags) (rd : ℕ) (op : LoadOP) (trap : Option TrapCode) (at : Location) → AreSelfContained (load_slots flags rd op trap at)
-load_contained flags rd op trap at = (loaded flags rd op trap at).closed _ 0
-
-pub store_contained : (flags : IsaFlags) (op : StoreOP) (src : ℕ) (trap : Option TrapCode) (at : Location) → AreSelfContained (store_slots flags op src trap at)
-store_contained flags op src trap at = (stored flags op src trap at).closed _ 0
 
 pub address_contained : (flags : IsaFlags) (rd : ℕ) (at : Location) → AreSelfContained (address_slots flags rd at)
 address_contained flags rd at = (addresses flags rd at).closed _ 0

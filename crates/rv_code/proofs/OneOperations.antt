@@ -14,15 +14,16 @@ use Rattle.rv_machine.proofs.UnitOperations.{is_integer as is_integer_op, intege
 use Rattle.rv_ops.specs.declared.alu.AluOPRRI.TheVariants.{Addi, Andi}
 use Rattle.rv_ops.specs.declared.memory.LoadOP.{LoadOP}
 use Rattle.rv_ops.specs.declared.memory.StoreOP.{StoreOP}
+use Rattle.rv_encode.specs.Operations.{has_load, has_store}
 use Rattle.rv_inst.specs.Core.{is_integer}
 use Rattle.rv_inst.specs.Addresses.{Location, Based, AtLabel, AtConstant, location_of, is_near}
 use Rattle.rv_inst.specs.UnitWords.{unit_of}
 use Rattle.rv_inst.specs.declared.inst.Inst.{Inst}
 use Rattle.rv_inst.specs.declared.inst.Inst.TheVariants.{Nop0, Nop4, EBreak, SequencePoint, Args, Rets, DummyUse, EmitIsland, RawData, Lui, Auipc, LoadInlineConst, AluRRR, AluRRImm12, Mov, MovFromPReg, Extend, Select, Load, Store, LoadAddr, LabelAddress, Ret, TrapIf, Jal, CondBr, BrTable, Udf, Jalr, Popcnt, Cltz, Brev8, StackProbeLoop, LoadExtNameGot, LoadExtNameNear, LoadExtNameFar, Call, CallInd, ReturnCall, ReturnCallInd, Unwind}
 use Rattle.rv_inst.specs.Context.{Context}
-use Rattle.rv_inst.specs.Sizes.{is_byte, address_operation, load_operation, store_operation, operation_of}
+use Rattle.rv_inst.specs.Sizes.{is_byte, address_operation, load_operation, store_operation, load_line_operation, store_line_operation, operation_of}
 use Rattle.rv_code.specs.declared.state.EmitVState.{EmitVState}
-use Rattle.rv_code.specs.InstParts.{slots_alone, access_slots, address_slots, load_slots, store_slots, parts_of}
+use Rattle.rv_code.specs.InstParts.{slots_alone, access_slots, address_slots, half_load_slots, half_store_slots, load_slots, load_line_slots, store_slots, store_line_slots, parts_of}
 use Rattle.rv_code.specs.Pieces.{Action, Rri, Piece, Do, op_of, slots_of}
 use Rattle.rv_code.specs.Slots.{Slot, Op, Part}
 use Rattle.rv_code.specs.Sites.{Site, IsPlacedAt, CodeHas, PartsStand}
@@ -82,6 +83,21 @@ addresses flags rd (Based r o) e = near (is_near o) None _ _ (λ core. does_inte
 addresses flags rd (AtLabel l) e = absurd (cc)
 addresses flags rd (AtConstant k) e = absurd (cc)
 
+-- a half by integer registers is none of them
+load_lines : {core : Bool} {d : Decoded} (flags : IsaFlags) (op : LoadOP) (rd : ℕ) (trap : Option TrapCode) (location : Location) → (core ≡ true → IsIntegerLoad op) → load_line_operation flags op rd location ≡ Some d → IsAlone core (slots_alone (load_line_slots flags rd op trap location)) d
+load_lines {core} {d} flags op rd trap location integer = by (has_load flags op)
+  where
+    by : (has : Bool) → (if has then load_operation flags op rd location else None) ≡ Some d → IsAlone core (slots_alone (if has then load_slots flags rd op trap location else half_load_slots flags rd trap location)) d
+    by true e = loads flags op rd trap location integer e
+    by false e = absurd (cc)
+
+store_lines : {core : Bool} {d : Decoded} (flags : IsaFlags) (op : StoreOP) (src : ℕ) (trap : Option TrapCode) (location : Location) → (core ≡ true → IsIntegerStore op) → store_line_operation flags op src location ≡ Some d → IsAlone core (slots_alone (store_line_slots flags op src trap location)) d
+store_lines {core} {d} flags op src trap location integer = by (has_store flags op)
+  where
+    by : (has : Bool) → (if has then store_operation flags op src location else None) ≡ Some d → IsAlone core (slots_alone (if has then store_slots flags op src trap location else half_store_slots flags src trap location)) d
+    by true e = stores flags op src trap location integer e
+    by false e = absurd (cc)
+
 pub one_slot : (context : Context) (setting : EmitVState) (inst : Inst) (d : Decoded) → operation_of context inst ≡ Some d → IsAlone (is_integer inst) (parts_of context setting inst) d
 one_slot context setting Nop0 d e = absurd (cc)
 one_slot context setting Nop4 d e = alone _ refl e
@@ -101,8 +117,8 @@ one_slot context setting (Mov rd rm type) d e = unless context.flags (nat_eq (nu
 one_slot context setting (MovFromPReg rd rm) d e = unless context.flags (nat_eq (number_of rd.reg) rm.number) (Rri Addi (number_of rd.reg) rm.number (pos 0)) (does_integer (short_rri_does context.flags Addi (number_of rd.reg) rm.number (pos 0))) e
 one_slot context setting (Extend rd rn signed from_bits to_bits) d e = only_where context.flags (is_byte signed from_bits) (Rri Andi (number_of rd.reg) (number_of rn) (pos 255)) _ (does_integer (short_rri_does context.flags Andi (number_of rd.reg) (number_of rn) (pos 255))) e
 one_slot context setting (Select info) d e = absurd (cc)
-one_slot context setting (Load rd op flags from) d e = loads context.flags op (number_of rd.reg) flags.trap (location_of context.frame from) (not_true (is_float_load op)) e
-one_slot context setting (Store src op flags to) d e = stores context.flags op (number_of src) flags.trap (location_of context.frame to) (not_true (is_float_store op)) e
+one_slot context setting (Load rd op flags from) d e = load_lines context.flags op (number_of rd.reg) flags.trap (location_of context.frame from) (not_true (is_float_load op)) e
+one_slot context setting (Store src op flags to) d e = store_lines context.flags op (number_of src) flags.trap (location_of context.frame to) (not_true (is_float_store op)) e
 one_slot context setting (LoadAddr rd mem) d e = addresses context.flags (number_of rd.reg) (location_of context.frame mem) e
 one_slot context setting (LabelAddress dst label) d e = absurd (cc)
 one_slot context setting Ret d e = alone _ (does_integer (short_jalr_does context.flags 0 1 (pos 0))) e

@@ -113,7 +113,7 @@ number_fits (Length n) fit h = absurd (cc)
 extended_fits : (width : Width) (n : ℕ) → T (leb (hbits width) (hbits w64)) → low64 (cast_signed width n) < 2 ^ 64
 extended_fits width n narrow = Fits-lt-pow {w = w64} (Fits-of_z (sfits_widen narrow (let e : FitsSigned width (cast_signed width n) = omega (arith, ints) in e)))
 
-extended_small : (format : FloatFormat) (n : ℕ) → n < 2 ^ 64 → extended format n < 2 ^ 64
+pub extended_small : (format : FloatFormat) (n : ℕ) → n < 2 ^ 64 → extended format n < 2 ^ 64
 extended_small H n lt = extended_fits w16 (n % 2 ^ 16) tt
 extended_small S n lt = extended_fits w32 (n % 2 ^ 32) tt
 extended_small D n lt = lt

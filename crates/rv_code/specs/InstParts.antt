@@ -20,6 +20,10 @@ use Rattle.rv_ops.specs.declared.alu.AluOPRRI.TheVariants as rri
 use Rattle.rv_ops.specs.declared.memory.LoadOP.{LoadOP}
 use Rattle.rv_ops.specs.declared.memory.LoadOP.TheVariants as loads
 use Rattle.rv_ops.specs.declared.memory.StoreOP.{StoreOP}
+use Rattle.rv_ops.specs.declared.memory.StoreOP.TheVariants as stores
+use Rattle.rv_ops.specs.declared.float_fields.FpuOPWidth.TheVariants.{S}
+use Rattle.rv_ops.specs.declared.float_fields.FRM.TheVariants.{RNE}
+use Rattle.rv_ops.specs.declared.fpu_rr.FpuOPRR.TheVariants.{FmvXFmt, FmvFmtX}
 use Rattle.rv_ops.specs.declared.compare.IntegerCompare.{IntegerCompare}
 use Rattle.rv_ops.specs.Memory.{is_float_load}
 use Rattle.rv_inst.specs.Context.{Context}
@@ -34,12 +38,13 @@ use Rattle.rv_inst.specs.declared.inst.CondBrTarget.TheVariants.{Label as ToLabe
 use Rattle.rv_inst.specs.declared.label_use.LabelUse.TheVariants.{Jal20, B12, PCRelHi20, PCRelLo12I}
 use Rattle.rv_machine.specs.declared.ops.MOp.TheVariants.{Base}
 use Rattle.rv_machine.specs.declared.ops.BaseOp.TheVariants as base
-use Rattle.rv_encode.specs.Operations.{decoded, decoded_branch, decoded_load, decoded_store}
+use Rattle.rv_encode.specs.Operations.{decoded, decoded_branch, decoded_load, decoded_store, decoded_fpu_rr, has_load, has_store}
 use Rattle.rv_inst.specs.Forms.{jump_kind, short_rrr, short_rri, short_lui, short_jalr, short_ebreak, short_load, short_store}
 use Rattle.rv_machine.specs.State.{low64}
 use Rattle.rv_machine.specs.Arithmetic.{low_word}
 use Rattle.mach_uses.specs.Labels.{constant_label}
 use Rattle.rv_inst.specs.Addresses.{Location, Based, AtLabel, AtConstant, location_of, is_near, is_splittable}
+use Rattle.rv_inst.specs.Halves.{high_bits}
 use Rattle.rv_code.specs.Immediates.{upper_of, lower_of, upper_of_distance, lower_of_distance}
 use Rattle.mach_records.specs.declared.records.Event.TheVariants as event
 use Rattle.rv_code.specs.declared.state.EmitVState.{EmitVState}
@@ -139,6 +144,31 @@ abbrev pub store_slots : IsaFlags → StoreOP → ℕ → Option TrapCode → Lo
 store_slots flags op src trap (Based r o) = if is_near o then access_slots trap ++ Op (short_store flags op r src o) ∷ [] else far_store_slots flags op src trap (Based r o)
 store_slots flags op src trap (AtLabel l) = far_store_slots flags op src trap (AtLabel l)
 store_slots flags op src trap (AtConstant k) = far_store_slots flags op src trap (AtConstant k)
+
+-- a number of four bytes is moved from an integer register to a floating-point one, and back
+abbrev pub moved_to_float : ℕ → ℕ → Decoded
+moved_to_float rd rs = decoded_fpu_rr FmvFmtX S RNE rd rs
+
+abbrev pub moved_to_integer : ℕ → ℕ → Decoded
+moved_to_integer rd rs = decoded_fpu_rr FmvXFmt S RNE rd rs
+
+-- the half in x31 gets ones above it, and goes to a floating-point register
+abbrev pub boxing_slots : IsaFlags → ℕ → List Slot
+boxing_slots flags rd = Op (short_lui flags 30 high_bits) ∷ Op (short_rrr flags rrr.Or 31 31 30) ∷ Op (moved_to_float rd 31) ∷ []
+
+-- a half by integer registers, where the machine has no load, or no store, of halves
+abbrev pub half_load_slots : IsaFlags → ℕ → Option TrapCode → Location → List Slot
+half_load_slots flags rd trap at = load_slots flags 31 loads.Lh trap at ++ boxing_slots flags rd
+
+abbrev pub half_store_slots : IsaFlags → ℕ → Option TrapCode → Location → List Slot
+half_store_slots flags src trap at = Op (moved_to_integer 30 src) ∷ store_slots flags stores.Sh 30 trap at
+
+-- the load, or the store, of a line
+abbrev pub load_line_slots : IsaFlags → ℕ → LoadOP → Option TrapCode → Location → List Slot
+load_line_slots flags rd op trap at = if has_load flags op then load_slots flags rd op trap at else half_load_slots flags rd trap at
+
+abbrev pub store_line_slots : IsaFlags → StoreOP → ℕ → Option TrapCode → Location → List Slot
+store_line_slots flags op src trap at = if has_store flags op then store_slots flags op src trap at else half_store_slots flags src trap at
 
 -- ---- constants
 
@@ -287,8 +317,8 @@ parts_of context setting (Mov rd rm type) = slots_alone (slots_of context.flags 
 parts_of context setting (MovFromPReg rd rm) = slots_alone (slots_of context.flags (move_pieces (number_of rd.reg) rm.number))
 parts_of context setting (Extend rd rn signed from_bits to_bits) = slots_alone (slots_of context.flags (extend_pieces (number_of rd.reg) (number_of rn) signed from_bits))
 parts_of context setting (Select info) = slots_alone (slots_of context.flags (select_pieces info))
-parts_of context setting (Load rd op flags from) = slots_alone (load_slots context.flags (number_of rd.reg) op flags.trap (location_of context.frame from))
-parts_of context setting (Store src op flags to) = slots_alone (store_slots context.flags op (number_of src) flags.trap (location_of context.frame to))
+parts_of context setting (Load rd op flags from) = slots_alone (load_line_slots context.flags (number_of rd.reg) op flags.trap (location_of context.frame from))
+parts_of context setting (Store src op flags to) = slots_alone (store_line_slots context.flags op (number_of src) flags.trap (location_of context.frame to))
 parts_of context setting (LoadAddr rd mem) = slots_alone (address_slots context.flags (number_of rd.reg) (location_of context.frame mem))
 parts_of context setting (LabelAddress dst label) = slots_alone (address_slots context.flags (number_of dst.reg) (AtLabel label))
 parts_of context setting Ret = slots_alone (Op (short_jalr context.flags 0 1 (pos 0)) ∷ [])

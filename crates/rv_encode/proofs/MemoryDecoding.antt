@@ -1,4 +1,4 @@
--- Words with the fields of a load or a store, of an integer register or of a floating-point one, are decoded as it, whatever the flags.
+-- Words with the fields of a load or a store, of an integer register or of a floating-point one, are decoded as it, where the machine has it.
 use Rattle.std.proofs.Common.{◌≡◌, ℕ, ◌^◌, Bool, true, ℤ, pos, Option, Some, None, refl, ap, ◌∙◌, arith}
 use Rattle.std.specs.Option.{option_map, option_and_then}
 use Rattle.std.proofs.lemmas.Int.{ints}
@@ -13,7 +13,7 @@ use Rattle.rv_ops.specs.Memory.{load_opcode, load_funct3, store_opcode, store_fu
 use Rattle.rv_machine.specs.declared.decoding.Decoded.{Decoded}
 use Rattle.rv_machine.specs.declared.ops.MOp.TheVariants.{Load, Store, FloatLoad, FloatStore}
 use Rattle.rv_machine.specs.declared.ops.FloatFormat.{FloatFormat}
-use Rattle.rv_machine.specs.declared.ops.FloatFormat.TheVariants.{S, D}
+use Rattle.rv_machine.specs.declared.ops.FloatFormat.TheVariants.{H, S, D}
 use Rattle.rv_machine.specs.declared.ops.LoadOp.{LoadOp}
 use Rattle.rv_machine.specs.declared.ops.LoadOp.TheVariants as load
 use Rattle.rv_machine.specs.declared.ops.StoreOp.{StoreOp}
@@ -26,7 +26,7 @@ use Rattle.rv_machine.specs.UnitTables.{width_entry}
 use Rattle.rv_machine.specs.UnitDecode.{only, has_format}
 use Rattle.rv_machine.specs.Decode.{or_else, decode}
 use Rattle.rv_encode.specs.Layouts.{IsIType, IsSType}
-use Rattle.rv_encode.specs.Operations.{decoded, decoded_load, decoded_store}
+use Rattle.rv_encode.specs.Operations.{decoded, decoded_load, decoded_store, has_load, has_store}
 use Rattle.rv_encode.proofs.Numbers.{signed-low_bits}
 use Rattle.rv_encode.proofs.Decoding.{opcode_decodes}
 use Rattle.rv_encode.proofs.FloatDecoding.{unit_decodes}
@@ -50,16 +50,17 @@ float_load flags format w rd funct3 rs bits imm found has h value =
     ∙ (λ i. Some (decoded (FloatLoad format) (h.rd_is i) (h.rs1_is i) 0 (value i))))
 
 -- a word with any immediate
-pub load_decodes : (flags : IsaFlags) (op : LoadOP) (w rd rs bits : ℕ) (imm : ℤ) → IsIType w (load_opcode op) rd (load_funct3 op) rs bits → i_imm w ≡ imm → decode flags w ≡ Some (decoded_load op rd rs imm)
-load_decodes flags loads.Lb w rd rs bits imm h value = int_load flags load.Lb w rd 0 rs bits imm refl h value
-load_decodes flags loads.Lh w rd rs bits imm h value = int_load flags load.Lh w rd 1 rs bits imm refl h value
-load_decodes flags loads.Lw w rd rs bits imm h value = int_load flags load.Lw w rd 2 rs bits imm refl h value
-load_decodes flags loads.Ld w rd rs bits imm h value = int_load flags load.Ld w rd 3 rs bits imm refl h value
-load_decodes flags loads.Lbu w rd rs bits imm h value = int_load flags load.Lbu w rd 4 rs bits imm refl h value
-load_decodes flags loads.Lhu w rd rs bits imm h value = int_load flags load.Lhu w rd 5 rs bits imm refl h value
-load_decodes flags loads.Lwu w rd rs bits imm h value = int_load flags load.Lwu w rd 6 rs bits imm refl h value
-load_decodes flags loads.Flw w rd rs bits imm h value = float_load flags S w rd 2 rs bits imm refl refl h value
-load_decodes flags loads.Fld w rd rs bits imm h value = float_load flags D w rd 3 rs bits imm refl refl h value
+pub load_decodes : (flags : IsaFlags) (op : LoadOP) (w rd rs bits : ℕ) (imm : ℤ) → has_load flags op ≡ true → IsIType w (load_opcode op) rd (load_funct3 op) rs bits → i_imm w ≡ imm → decode flags w ≡ Some (decoded_load op rd rs imm)
+load_decodes flags loads.Lb w rd rs bits imm has h value = int_load flags load.Lb w rd 0 rs bits imm refl h value
+load_decodes flags loads.Lh w rd rs bits imm has h value = int_load flags load.Lh w rd 1 rs bits imm refl h value
+load_decodes flags loads.Lw w rd rs bits imm has h value = int_load flags load.Lw w rd 2 rs bits imm refl h value
+load_decodes flags loads.Ld w rd rs bits imm has h value = int_load flags load.Ld w rd 3 rs bits imm refl h value
+load_decodes flags loads.Lbu w rd rs bits imm has h value = int_load flags load.Lbu w rd 4 rs bits imm refl h value
+load_decodes flags loads.Lhu w rd rs bits imm has h value = int_load flags load.Lhu w rd 5 rs bits imm refl h value
+load_decodes flags loads.Lwu w rd rs bits imm has h value = int_load flags load.Lwu w rd 6 rs bits imm refl h value
+load_decodes flags loads.Flh w rd rs bits imm has h value = float_load flags H w rd 1 rs bits imm refl has h value
+load_decodes flags loads.Flw w rd rs bits imm has h value = float_load flags S w rd 2 rs bits imm refl refl h value
+load_decodes flags loads.Fld w rd rs bits imm has h value = float_load flags D w rd 3 rs bits imm refl refl h value
 
 -- ---- stores
 
@@ -79,10 +80,11 @@ float_store flags format w funct3 rs1 rs2 bits imm found has h value =
     ∙ (λ i. Some (decoded (FloatStore format) 0 (h.rs1_is i) (h.rs2_is i) (value i))))
 
 -- a word with any immediate
-pub store_decodes : (flags : IsaFlags) (op : StoreOP) (w rs1 rs2 bits : ℕ) (imm : ℤ) → IsSType w (store_opcode op) (store_funct3 op) rs1 rs2 bits → s_imm w ≡ imm → decode flags w ≡ Some (decoded_store op rs1 rs2 imm)
-store_decodes flags stores.Sb w rs1 rs2 bits imm h value = int_store flags store.Sb w 0 rs1 rs2 bits imm refl h value
-store_decodes flags stores.Sh w rs1 rs2 bits imm h value = int_store flags store.Sh w 1 rs1 rs2 bits imm refl h value
-store_decodes flags stores.Sw w rs1 rs2 bits imm h value = int_store flags store.Sw w 2 rs1 rs2 bits imm refl h value
-store_decodes flags stores.Sd w rs1 rs2 bits imm h value = int_store flags store.Sd w 3 rs1 rs2 bits imm refl h value
-store_decodes flags stores.Fsw w rs1 rs2 bits imm h value = float_store flags S w 2 rs1 rs2 bits imm refl refl h value
-store_decodes flags stores.Fsd w rs1 rs2 bits imm h value = float_store flags D w 3 rs1 rs2 bits imm refl refl h value
+pub store_decodes : (flags : IsaFlags) (op : StoreOP) (w rs1 rs2 bits : ℕ) (imm : ℤ) → has_store flags op ≡ true → IsSType w (store_opcode op) (store_funct3 op) rs1 rs2 bits → s_imm w ≡ imm → decode flags w ≡ Some (decoded_store op rs1 rs2 imm)
+store_decodes flags stores.Sb w rs1 rs2 bits imm has h value = int_store flags store.Sb w 0 rs1 rs2 bits imm refl h value
+store_decodes flags stores.Sh w rs1 rs2 bits imm has h value = int_store flags store.Sh w 1 rs1 rs2 bits imm refl h value
+store_decodes flags stores.Sw w rs1 rs2 bits imm has h value = int_store flags store.Sw w 2 rs1 rs2 bits imm refl h value
+store_decodes flags stores.Sd w rs1 rs2 bits imm has h value = int_store flags store.Sd w 3 rs1 rs2 bits imm refl h value
+store_decodes flags stores.Fsh w rs1 rs2 bits imm has h value = float_store flags H w 1 rs1 rs2 bits imm refl has h value
+store_decodes flags stores.Fsw w rs1 rs2 bits imm has h value = float_store flags S w 2 rs1 rs2 bits imm refl refl h value
+store_decodes flags stores.Fsd w rs1 rs2 bits imm has h value = float_store flags D w 3 rs1 rs2 bits imm refl refl h value

@@ -1,6 +1,7 @@
 -- The operations of the machine that instructions are, with their operands.
-use Rattle.std.specs.Prelude.{ℕ, ◌==◌, if◌then◌else◌, ℤ, pos, Option, Some, None}
+use Rattle.std.specs.Prelude.{ℕ, ◌==◌, if◌then◌else◌, Bool, true, ℤ, pos, Option, Some, None}
 use Rattle.std.specs.Option.{option_map}
+use Rattle.rv_base.specs.declared.flags.IsaFlags.{IsaFlags}
 use Rattle.rv_base.specs.Regs.{number_of}
 use Rattle.rv_ops.specs.declared.alu.AluOPRRR.{AluOPRRR}
 use Rattle.rv_ops.specs.declared.alu.AluOPRRI.{AluOPRRI}
@@ -33,6 +34,7 @@ use Rattle.rv_machine.specs.declared.ops.LoadOp.{LoadOp}
 use Rattle.rv_machine.specs.declared.ops.LoadOp.TheVariants as load
 use Rattle.rv_machine.specs.declared.ops.StoreOp.{StoreOp}
 use Rattle.rv_machine.specs.Opcodes.{JALR, LOAD, STORE, OP_IMM, OP_IMM_32, OP, OP_32}
+use Rattle.rv_machine.specs.UnitDecode.{has_format}
 use Rattle.rv_machine.specs.Tables.{load_entry, store_entry, imm_entry, imm_32_entry, op_entry, op_32_entry}
 pub use Rattle.rv_machine.specs.Layout.{decoded, rounded}
 use Rattle.rv_ops.specs.Memory.{load_format, store_format}
@@ -80,6 +82,7 @@ load_op loads.Lbu = load.Lbu
 load_op loads.Lhu = load.Lhu
 load_op loads.Lwu = load.Lwu
 load_op loads.Ld = load.Ld
+load_op loads.Flh = load.Lhu
 load_op loads.Flw = load.Lwu
 load_op loads.Fld = load.Ld
 
@@ -100,6 +103,17 @@ store_of_format (Some format) op = FloatStore format
 -- the machine's store
 abbrev pub store_row : StoreOP → MOp
 store_row op = store_of_format (store_format op) (store_op op)
+
+-- whether the machine has a load or a store: one of halves needs Zfhmin
+abbrev pub has_numbers : IsaFlags → Option FloatFormat → Bool
+has_numbers flags None = true
+has_numbers flags (Some format) = has_format flags format
+
+abbrev pub has_load : IsaFlags → LoadOP → Bool
+has_load flags op = has_numbers flags (load_format op)
+
+abbrev pub has_store : IsaFlags → StoreOP → Bool
+has_store flags op = has_numbers flags (store_format op)
 
 -- a load into rd, from an offset past a base
 abbrev pub decoded_load : LoadOP → ℕ → ℕ → ℤ → Decoded

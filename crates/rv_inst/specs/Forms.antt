@@ -309,6 +309,7 @@ zca_load flags loads.Lbu rd base offset = narrow_load_form flags 3 loads.Lbu rd 
 zca_load flags loads.Lhu rd base offset = narrow_load_form flags 1 loads.Lhu rd base offset
 zca_load flags loads.Lwu rd base offset = None
 zca_load flags loads.Ld rd base offset = word_load_form loads.Ld rd base offset
+zca_load flags loads.Flh rd base offset = None
 zca_load flags loads.Flw rd base offset = None
 zca_load flags loads.Fld rd base offset = fld_form flags rd base offset
 
@@ -343,6 +344,7 @@ zca_store flags stores.Sb base src offset = narrow_store_form flags 3 stores.Sb 
 zca_store flags stores.Sh base src offset = narrow_store_form flags 1 stores.Sh base src offset
 zca_store flags stores.Sw base src offset = word_store_form stores.Sw base src offset
 zca_store flags stores.Sd base src offset = word_store_form stores.Sd base src offset
+zca_store flags stores.Fsh base src offset = None
 zca_store flags stores.Fsw base src offset = None
 zca_store flags stores.Fsd base src offset = fsd_form flags base src offset
 

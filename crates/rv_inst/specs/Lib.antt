@@ -17,6 +17,7 @@ pub mod Returns
 pub mod Rules
 pub mod Frames
 pub mod SameValues
+pub mod Halves
 pub mod Sizes
 pub mod MostBytes
 pub mod Bits

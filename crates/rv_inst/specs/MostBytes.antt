@@ -1,7 +1,11 @@
 -- How many bytes an instruction puts at most, an island that it asks for apart.
-use Rattle.std.specs.Prelude.{ℕ, ◌+◌, ◌*◌, List, length}
+use Rattle.std.specs.Prelude.{ℕ, ◌+◌, ◌*◌, if◌then◌else◌, List, length}
 use Rattle.std.proofs.Common.{refl}
 use Rattle.rv_base.specs.declared.frame.FrameLayout.{FrameLayout}
+use Rattle.rv_base.specs.declared.flags.IsaFlags.{IsaFlags}
+use Rattle.rv_ops.specs.declared.memory.LoadOP.{LoadOP}
+use Rattle.rv_ops.specs.declared.memory.StoreOP.{StoreOP}
+use Rattle.rv_encode.specs.Operations.{has_load, has_store}
 use Rattle.rv_inst.specs.Context.{Context}
 use Rattle.rv_inst.specs.Returns.{StackLoad, restores, result_loads, loads_unless}
 use Rattle.rv_inst.specs.Sizes.{table_space}
@@ -20,6 +24,13 @@ address_limit = number_limit + 4
 -- a load or a store: its address, and its own word
 abbrev pub access_limit : ℕ
 access_limit = address_limit + 4
+
+-- one of a half by integer registers: three words after the load, or one before the store
+abbrev pub load_limit : IsaFlags → LoadOP → ℕ
+load_limit flags op = if has_load flags op then access_limit else access_limit + 12
+
+abbrev pub store_limit : IsaFlags → StoreOP → ℕ
+store_limit flags op = if has_store flags op then access_limit else access_limit + 4
 
 -- a step of the stack pointer: a number, and the sum of both
 abbrev pub step_limit : ℕ
@@ -64,8 +75,8 @@ most_bytes context (Mov rd rm type) = 4
 most_bytes context (MovFromPReg rd rm) = 4
 most_bytes context (Extend rd rn signed from_bits to_bits) = 8
 most_bytes context (Select info) = 24
-most_bytes context (Load rd op flags from) = access_limit
-most_bytes context (Store src op flags to) = access_limit
+most_bytes context (Load rd op flags from) = load_limit context.flags op
+most_bytes context (Store src op flags to) = store_limit context.flags op
 most_bytes context (LoadAddr rd mem) = address_limit
 most_bytes context (LabelAddress dst label) = 8
 most_bytes context Ret = 4

@@ -19,10 +19,11 @@ use Rattle.rv_ops.specs.declared.memory.StoreOP.TheVariants.{Sb}
 use Rattle.rv_machine.specs.declared.decoding.Decoded.{Decoded}
 use Rattle.rv_machine.specs.declared.ops.MOp.TheVariants.{Base}
 use Rattle.rv_machine.specs.declared.ops.BaseOp.TheVariants.{Auipc as AuipcOp}
-use Rattle.rv_encode.specs.Operations.{decoded, decoded_rri}
+use Rattle.rv_encode.specs.Operations.{decoded, decoded_rri, has_load, has_store}
 use Rattle.rv_machine.specs.State.{low64}
 use Rattle.rv_machine.specs.Arithmetic.{low_word}
-use Rattle.rv_inst.specs.Addresses.{Location, Based, AtLabel, AtConstant, location_of, is_near, is_splittable, inline_size, far_size, address_size, load_size_at, store_size_at, load_own_size, store_own_size}
+use Rattle.rv_inst.specs.Addresses.{Location, Based, AtLabel, AtConstant, location_of, is_near, is_splittable, inline_size, far_size, address_size, load_size_at}
+use Rattle.rv_inst.specs.Halves.{load_line_size, load_line_own_size, store_line_size, store_line_own_size, is_moved_first}
 use Rattle.rv_inst.specs.Forms.{short_rrr, short_rri, short_lui, short_jalr, short_ebreak, short_load, short_store, jump_size}
 use Rattle.rv_base.specs.declared.reloc.Reloc.TheVariants.{RiscvCallPlt, RiscvGotHi20, RiscvPCRelHi20, Abs8}
 use Rattle.mach_records.specs.declared.records.Event.TheVariants as event
@@ -238,21 +239,30 @@ store_operation flags op src (Based r o) = if is_near o then Some (short_store f
 store_operation flags op src (AtLabel l) = None
 store_operation flags op src (AtConstant k) = None
 
+-- a half has one where the machine has its load or its store
+abbrev pub load_line_operation : IsaFlags → LoadOP → ℕ → Location → Option Decoded
+load_line_operation flags op rd at = if has_load flags op then load_operation flags op rd at else None
+
+abbrev pub store_line_operation : IsaFlags → StoreOP → ℕ → Location → Option Decoded
+store_line_operation flags op src at = if has_store flags op then store_operation flags op src at else None
+
 -- the low byte, zero-extended, is andi of 255; any other extension takes two shifts
 abbrev pub extend_operation : IsaFlags → ℕ → ℕ → Bool → ℕ → Option Decoded
 extend_operation flags rd rn signed bits = if is_byte signed bits then Some (short_rri flags rri.Andi rd rn (pos 255)) else None
 
 -- ---- instructions
 
--- How many bytes an instruction puts; of one machine word, the operation that stands for it, in sixteen bits where it has such a form; and
--- what it records, by the offsets where its bytes begin and end.
+-- How many bytes an instruction puts; of one machine word, the operation that stands for it, in sixteen bits where it has such a form;
+-- what it records, by the offsets where its bytes begin and end; and whether a word of four bytes stands before those that take its
+-- label or its constant.
 pub record InstCode : Type 0 where
   pub extent : Extent
   pub operation : Option Decoded
   pub records : ℕ → ℕ → List MachRecord
+  pub led : Bool
 
 abbrev pub extends : Extent → InstCode
-extends extent = record { extent = extent; operation = None; records = λ start end. [] }
+extends extent = record { extent = extent; operation = None; records = λ start end. []; led = false }
 
 abbrev pub words : ℕ → InstCode
 words size = extends (Words size)
@@ -266,7 +276,7 @@ unit_code w = record (one_word w.operation) { records = λ start end. access_rec
 
 -- A trap where a comparison holds is a branch over a trap. What a label's or a constant's address is taken by, and auipc, have
 -- no forms of sixteen bits. What goes to a label has its distance beside it, and is no operation of these. The instruction of an access
--- is the last of its sequence, and so are the eight bytes with a symbol's address, and the two instructions that go to one.
+-- is the last of its sequence, but for the words that box a half, and so are the eight bytes with a symbol's address, and the two instructions that go to one.
 abbrev pub inst_code : Context → Inst → InstCode
 inst_code context Nop0 = words 0
 inst_code context Nop4 = one_word (decoded_rri rri.Addi 0 0 (pos 0))
@@ -287,8 +297,8 @@ inst_code context (Mov rd rm type) = record (words (move_size context.flags (num
 inst_code context (MovFromPReg rd rm) = record (words (move_size context.flags (number_of rd.reg) rm.number)) { operation = move_operation context.flags (number_of rd.reg) rm.number }
 inst_code context (Extend rd rn signed from_bits to_bits) = record (words (extend_size context.flags (number_of rd.reg) (number_of rn) signed from_bits)) { operation = extend_operation context.flags (number_of rd.reg) (number_of rn) signed from_bits }
 inst_code context (Select info) = words (select_size context.flags info.dst info.x info.y)
-inst_code context (Load rd op flags from) = record (words (load_size_at context.flags op (number_of rd.reg) (location_of context.frame from))) { operation = load_operation context.flags op (number_of rd.reg) (location_of context.frame from); records = λ start end. access_records (end - load_own_size context.flags op (number_of rd.reg) (location_of context.frame from)) flags.trap }
-inst_code context (Store src op flags to) = record (words (store_size_at context.flags op (number_of src) (location_of context.frame to))) { operation = store_operation context.flags op (number_of src) (location_of context.frame to); records = λ start end. access_records (end - store_own_size context.flags op (number_of src) (location_of context.frame to)) flags.trap }
+inst_code context (Load rd op flags from) = record (words (load_line_size context.flags op (number_of rd.reg) (location_of context.frame from))) { operation = load_line_operation context.flags op (number_of rd.reg) (location_of context.frame from); records = λ start end. access_records (end - load_line_own_size context.flags op (number_of rd.reg) (location_of context.frame from)) flags.trap }
+inst_code context (Store src op flags to) = record (words (store_line_size context.flags op (number_of src) (location_of context.frame to))) { operation = store_line_operation context.flags op (number_of src) (location_of context.frame to); records = λ start end. access_records (end - store_line_own_size context.flags op (number_of src) (location_of context.frame to)) flags.trap; led = is_moved_first context.flags op }
 inst_code context (LoadAddr rd mem) = record (words (address_size context.flags (number_of rd.reg) (location_of context.frame mem))) { operation = address_operation context.flags (number_of rd.reg) (location_of context.frame mem) }
 inst_code context (LabelAddress dst label) = words 8
 inst_code context Ret = one_word (short_jalr context.flags 0 1 (pos 0))

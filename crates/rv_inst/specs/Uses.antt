@@ -1,5 +1,5 @@
 -- The uses of labels that an instruction makes, those of constants among them, and how far they reach.
-use Rattle.std.specs.Prelude.{ℕ, ◌+◌, ◌-◌, if◌then◌else◌, List, [], ◌∷◌, Option, Some, None}
+use Rattle.std.specs.Prelude.{ℕ, ◌+◌, ◌-◌, Bool, true, false, if◌then◌else◌, List, [], ◌∷◌, Option, Some, None}
 use Rattle.rv_base.specs.declared.call.TryCallInfo.{TryCallInfo}
 use Rattle.rv_base.specs.declared.flags.IsaFlags.{IsaFlags}
 use Rattle.rv_base.specs.declared.label.MachLabel.{MachLabel}
@@ -16,6 +16,7 @@ use Rattle.rv_inst.specs.Context.{Context}
 use Rattle.rv_inst.specs.Forms.{jump_kind, jump_size}
 use Rattle.rv_inst.specs.LabelUse.{forward_of}
 use Rattle.rv_inst.specs.Operands.{targets_of, try_call_of}
+use Rattle.rv_inst.specs.Sizes.{inst_code}
 use Rattle.mach_uses.specs.Labels.{constant_label}
 use Rattle.mach_uses.specs.declared.uses.Use.{Use}
 
@@ -40,9 +41,14 @@ abbrev pub uses_by : IsaFlags → ℕ → ℕ → Option TryCallInfo → Targets
 uses_by flags start end None targets = target_uses flags start targets
 uses_by flags start end (Some t) targets = use_at (end - jump_size flags) t.continuation (jump_kind flags) ∷ []
 
+-- where they begin: at the start, or after a word of four bytes
+abbrev pub uses_start : Bool → ℕ → ℕ
+uses_start false start = start
+uses_start true start = start + 4
+
 -- the uses of an instruction between two offsets, in the order in which it names their labels, or for its constant
 abbrev pub uses_in : Context → ℕ → ℕ → Inst → List (Use LabelUse)
-uses_in context start end inst = uses_by context.flags start end (try_call_of inst) (targets_of inst)
+uses_in context start end inst = uses_by context.flags (uses_start (inst_code context inst).led start) end (try_call_of inst) (targets_of inst)
 
 -- how far a jump reaches
 abbrev pub jump_reach : IsaFlags → ℕ

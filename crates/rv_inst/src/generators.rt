@@ -101,8 +101,8 @@ impl Inst {
     }
 
     /// The load of an integer of 8, 16, 32 or 64 bits, sign-extended to 64 bits (the manual's chapters "RV32I" and "RV64I Base
-    /// Integer Instruction Set", "Load and Store Instructions"), or of a floating-point number of 32 or 64 bits (the chapters "F"
-    /// and "D").
+    /// Integer Instruction Set", "Load and Store Instructions"), or of a floating-point number of 16, 32 or 64 bits (the chapters
+    /// "F", "D" and "Zfhmin").
     pub fn gen_load(into_reg: WritableReg, mem: AMode, ty: IrType, flags: MemFlagsData) -> Inst
         requires { IsSome (load_of ty) }
         ensures { IfSome (load_of ty) (λ op. result ≡ Load into_reg op flags mem) }
@@ -115,7 +115,7 @@ impl Inst {
         }
     }
 
-    /// The store of an integer of 8, 16, 32 or 64 bits, or of a floating-point number of 32 or 64 bits: the low bits of the register,
+    /// The store of an integer of 8, 16, 32 or 64 bits, or of a floating-point number of 16, 32 or 64 bits: the low bits of the register,
     /// as many as the type has (the manual's chapters "RV32I" and "RV64I Base Integer Instruction Set", "Load and Store
     /// Instructions", and "F" and "D").
     pub fn gen_store(mem: AMode, from_reg: Reg, ty: IrType, flags: MemFlagsData) -> Inst

@@ -1,6 +1,6 @@
 //! Loads and stores of integer registers (the manual's chapters "RV32I" and "RV64I Base Integer Instruction Set", "Load and
 //! Store Instructions") and of floating-point registers (the chapters "F" and "D", "Single-Precision" and "Double-Precision Load
-//! and Store Instructions").
+//! and Store Instructions", and "Zfhmin").
 
 use rv_base::{IrType, RegClass};
 use rv_machine::{LOAD, LOAD_FP, STORE, STORE_FP};
@@ -15,6 +15,7 @@ pub enum LoadOP {
     Lhu,
     Lwu,
     Ld,
+    Flh,
     Flw,
     Fld,
 }
@@ -35,13 +36,14 @@ impl LoadOP {
             LoadOP::Lhu => "lhu",
             LoadOP::Lwu => "lwu",
             LoadOP::Ld => "ld",
+            LoadOP::Flh => "flh",
             LoadOP::Flw => "flw",
             LoadOP::Fld => "fld",
         }
     }
 
     /// The load of an integer of 8, 16, 32 or 64 bits, signed where it is narrower than a register, or of a floating-point number of
-    /// 32 or 64 bits.
+    /// 16, 32 or 64 bits.
     pub fn from_type(ty: IrType) -> LoadOP
         requires { IsSome (load_of ty) }
         ensures { load_of ty ≡ Some result }
@@ -50,6 +52,7 @@ impl LoadOP {
             IrType::I8 => LoadOP::Lb,
             IrType::I16 => LoadOP::Lh,
             IrType::I32 => LoadOP::Lw,
+            IrType::F16 => LoadOP::Flh,
             IrType::F32 => LoadOP::Flw,
             IrType::F64 => LoadOP::Fld,
             _ => LoadOP::Ld,
@@ -62,7 +65,7 @@ impl LoadOP {
     {
         match self {
             LoadOP::Lb | LoadOP::Lbu => 1,
-            LoadOP::Lh | LoadOP::Lhu => 2,
+            LoadOP::Lh | LoadOP::Lhu | LoadOP::Flh => 2,
             LoadOP::Lw | LoadOP::Lwu | LoadOP::Flw => 4,
             LoadOP::Ld | LoadOP::Fld => 8,
         }
@@ -72,7 +75,7 @@ impl LoadOP {
     pub fn is_float(self) -> bool
         ensures { result ≡ is_float_load self }
     {
-        matches!(self, LoadOP::Flw | LoadOP::Fld)
+        matches!(self, LoadOP::Flh | LoadOP::Flw | LoadOP::Fld)
     }
 
     /// The file of the register that it loads.
@@ -101,7 +104,7 @@ impl LoadOP {
     {
         match self {
             LoadOP::Lb => 0b000,
-            LoadOP::Lh => 0b001,
+            LoadOP::Lh | LoadOP::Flh => 0b001,
             LoadOP::Lw | LoadOP::Flw => 0b010,
             LoadOP::Ld | LoadOP::Fld => 0b011,
             LoadOP::Lbu => 0b100,
@@ -118,6 +121,7 @@ pub enum StoreOP {
     Sh,
     Sw,
     Sd,
+    Fsh,
     Fsw,
     Fsd,
 }
@@ -135,12 +139,13 @@ impl StoreOP {
             StoreOP::Sh => "sh",
             StoreOP::Sw => "sw",
             StoreOP::Sd => "sd",
+            StoreOP::Fsh => "fsh",
             StoreOP::Fsw => "fsw",
             StoreOP::Fsd => "fsd",
         }
     }
 
-    /// The store of an integer of 8, 16, 32 or 64 bits, or of a floating-point number of 32 or 64 bits.
+    /// The store of an integer of 8, 16, 32 or 64 bits, or of a floating-point number of 16, 32 or 64 bits.
     pub fn from_type(ty: IrType) -> StoreOP
         requires { IsSome (store_of ty) }
         ensures { store_of ty ≡ Some result }
@@ -149,6 +154,7 @@ impl StoreOP {
             IrType::I8 => StoreOP::Sb,
             IrType::I16 => StoreOP::Sh,
             IrType::I32 => StoreOP::Sw,
+            IrType::F16 => StoreOP::Fsh,
             IrType::F32 => StoreOP::Fsw,
             IrType::F64 => StoreOP::Fsd,
             _ => StoreOP::Sd,
@@ -161,7 +167,7 @@ impl StoreOP {
     {
         match self {
             StoreOP::Sb => 1,
-            StoreOP::Sh => 2,
+            StoreOP::Sh | StoreOP::Fsh => 2,
             StoreOP::Sw | StoreOP::Fsw => 4,
             StoreOP::Sd | StoreOP::Fsd => 8,
         }
@@ -171,7 +177,7 @@ impl StoreOP {
     pub fn is_float(self) -> bool
         ensures { result ≡ is_float_store self }
     {
-        matches!(self, StoreOP::Fsw | StoreOP::Fsd)
+        matches!(self, StoreOP::Fsh | StoreOP::Fsw | StoreOP::Fsd)
     }
 
     /// The file of the register that it stores.
@@ -200,7 +206,7 @@ impl StoreOP {
     {
         match self {
             StoreOP::Sb => 0b000,
-            StoreOP::Sh => 0b001,
+            StoreOP::Sh | StoreOP::Fsh => 0b001,
             StoreOP::Sw | StoreOP::Fsw => 0b010,
             StoreOP::Sd | StoreOP::Fsd => 0b011,
         }
