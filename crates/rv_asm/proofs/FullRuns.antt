@@ -1,15 +1,16 @@
 -- Code that runs as listed on the integer machine runs so on the machine with all units, too: by induction over the lines that are
 -- passed.
 use Rattle.std.proofs.Common.{◌≡◌, ◌⊎◌, ℕ, zero, suc, ◌+◌, ◌<◌, ◌≤◌, Bool, true, false, List, [], ◌∷◌, ◌++◌, length, Some, None, arith, refl, sym, ap, subst, ◌∙◌, inl, inr, lit≤, append_assoc}
-use Rattle.std.specs.Prelude.{slice_get, slice_index, nat_lt, if◌then◌else◌}
-use Rattle.std.proofs.lemmas.Bool.{ltb-true, ltb-false}
+use Rattle.std.specs.Prelude.{slice_get, slice_index, nat_lt, not, if◌then◌else◌}
+use Rattle.std.proofs.lemmas.Bool.{and_parts, ltb-true, ltb-false}
 use Rattle.std.proofs.lemmas.Option.{slice_get_within}
-use Rattle.rv_inst.specs.Operands.{Return, return_of}
+use Rattle.rv_inst.specs.Operands.{Return, is_float, operands_of, return_of}
 use Rattle.rv_inst.specs.Core.{is_integer_family, is_integer, is_integer_line}
 use Rattle.rv_inst.specs.declared.code.Code.{Code}
 use Rattle.rv_inst.specs.declared.inst.Family.{Family}
 use Rattle.rv_inst.specs.declared.inst.Family.TheVariants.{Pseudo, Integer, Memory, Control, Loop, Symbols, Calls, Float}
 use Rattle.rv_inst.specs.declared.inst.Inst.{Inst}
+use Rattle.rv_inst.specs.declared.inst.Inst.TheVariants.{Nop0, Mov}
 use Rattle.rv_inst.specs.declared.inst.Line.{Line}
 use Rattle.rv_inst.specs.declared.inst.Line.TheVariants.{Inst as Put, Bind}
 use Rattle.rv_inst.specs.declared.job.Job.{Job}
@@ -21,7 +22,7 @@ use Rattle.rv_full.specs.Steps.{fiter}
 use Rattle.rv_full.specs.Units.{FullState, FullValues, put}
 use Rattle.rv_full.proofs.LargerMachine.{integer_run}
 use Rattle.rv_full.proofs.Runs.{fiter_none, fiter_after}
-use Rattle.rv_asm.specs.FullMeaning.{FullMeaning, of_integers, meaning_by, meaning_of}
+use Rattle.rv_asm.specs.FullMeaning.{FullMeaning, of_integers, of_integer, of_float_move, meaning_by, meaning_of}
 use Rattle.rv_asm.specs.FullSimulation.{Placing, StandsAt, LineAt, OneFullLine, OneMore, Lines, Reached, Stops, IsOn, Overwrites, IsExit, ComesThere, WantsAnswer, WritesOnCode, RunsOn, IsEntry, FullRuns, environment_at, meaning_at}
 use Rattle.rv_asm.specs.Placed.{Addresses}
 use Rattle.rv_asm.specs.Simulation.{Point, At, Returned, Out, End, Stop, Trapped, InData, Entry, AtStart, AtReturn, IsBack, Leads, next_point, environment_of, exit_from, effect_from, Comes, RunsAsListed}
@@ -31,18 +32,28 @@ use Rattle.rv_asm.proofs.OneComes.{CameOut, OneComes}
 
 -- ---- lines of integers
 
-family_is_of_integers : (family : Family) (entry : Entry) (inst : Inst) → is_integer_family family ≡ true → meaning_by family entry inst ≡ of_integers entry (Put inst)
-family_is_of_integers Pseudo entry inst core = refl
-family_is_of_integers Integer entry inst core = refl
-family_is_of_integers Memory entry inst core = refl
-family_is_of_integers Control entry inst core = refl
-family_is_of_integers Loop entry inst core = refl
-family_is_of_integers Symbols entry inst core = refl
-family_is_of_integers Calls entry inst core = refl
-family_is_of_integers Float entry inst core = absurd (cc)
+-- no floating-point register is moved
+integer_is_of_integers : (entry : Entry) (inst : Inst) → not (operands_of inst).floats ≡ true → of_integer entry inst ≡ of_integers entry (Put inst)
+integer_is_of_integers entry (Mov rd rm type) other = by (is_float rd.reg) other
+  where
+    by : (c : Bool) → not c ≡ true → (if c then of_float_move (Mov rd rm type) else of_integers entry (Put (Mov rd rm type))) ≡ of_integers entry (Put (Mov rd rm type))
+    by true e = absurd (cc)
+    by false e = refl
+integer_is_of_integers entry Nop0 other = refl
+integer_is_of_integers entry inst other = refl
+
+family_is_of_integers : (family : Family) (entry : Entry) (inst : Inst) → is_integer_family family ≡ true → not (operands_of inst).floats ≡ true → meaning_by family entry inst ≡ of_integers entry (Put inst)
+family_is_of_integers Pseudo entry inst core other = refl
+family_is_of_integers Integer entry inst core other = integer_is_of_integers entry inst other
+family_is_of_integers Memory entry inst core other = refl
+family_is_of_integers Control entry inst core other = refl
+family_is_of_integers Loop entry inst core other = refl
+family_is_of_integers Symbols entry inst core other = refl
+family_is_of_integers Calls entry inst core other = refl
+family_is_of_integers Float entry inst core other = absurd (cc)
 
 is_of_integers : (entry : Entry) (line : Line) → is_integer_line line ≡ true → meaning_of entry line ≡ of_integers entry line
-is_of_integers entry (Put inst) core = family_is_of_integers (family_of inst) entry inst core
+is_of_integers entry (Put inst) core = let both = and_parts (is_integer_family (family_of inst)) (not (operands_of inst).floats) core in family_is_of_integers (family_of inst) entry inst both.0 both.1
 is_of_integers entry (Bind label) core = refl
 
 -- ---- addresses are outside, or one of them isn't

@@ -38,4 +38,8 @@ pub mod Laws
 mod IslandEnds
 mod FullRuns
 mod OneComes
+mod LinesComeOut
+mod RowLines
 mod UnitLines
+mod FloatMoves
+mod OtherLines

@@ -1,15 +1,18 @@
 -- What a line means on the machine with all units: what it makes of the values with the units' answers. Each family of instructions is
--- a case: those of integers take no answer, and leave the units as they were; a float operation does what its row does.
-use Rattle.std.specs.Prelude.{ℕ, ◌&&◌, Bool, true, List, [], ◌∷◌, Option, Some, None}
+-- a case: those of integers take no answer, and leave the units as they were; a float operation does what its row does. A move of a
+-- floating-point register does what its operation's row does.
+use Rattle.std.specs.Prelude.{ℕ, ◌&&◌, Bool, true, if◌then◌else◌, List, [], ◌∷◌, Option, Some, None}
 use Rattle.rv_inst.specs.Context.{context_by}
 use Rattle.rv_inst.specs.Core.{is_integer_line}
 use Rattle.rv_inst.specs.declared.inst.Family.{Family}
 use Rattle.rv_inst.specs.declared.inst.Family.TheVariants.{Pseudo, Integer, Memory, Control, Loop, Symbols, Calls, Float}
 use Rattle.rv_inst.specs.declared.inst.Inst.{Inst}
+use Rattle.rv_inst.specs.declared.inst.Inst.TheVariants.{Mov}
 use Rattle.rv_inst.specs.declared.inst.Line.{Line}
 use Rattle.rv_inst.specs.declared.inst.Line.TheVariants.{Inst as Put, Bind}
 use Rattle.rv_inst.specs.Families.{family_of}
 use Rattle.rv_inst.specs.Meaning.{Environment, writes_of}
+use Rattle.rv_inst.specs.Operands.{is_float}
 use Rattle.rv_inst.specs.Sizes.{operation_of}
 use Rattle.rv_machine.specs.declared.decoding.Decoded.{Decoded}
 use Rattle.rv_full.specs.declared.answer.Answer.{Answer}
@@ -66,9 +69,27 @@ of_unit entry inst = record {
   own_of = λ took. took;
 }
 
+-- a move of a floating-point register does nothing where it is one to itself, and else the row of its operation
+abbrev pub move_row : Option Decoded → FullValues → Row
+move_row None v = Does v
+move_row (Some d) v = unit_row d v
+
+abbrev pub of_float_move : Inst → FullMeaning
+of_float_move inst = record {
+  takes = λ env v answers. row_takes (move_row (operation_of (context_by env.flags env.frame []) inst) v) answers;
+  writes = λ env v answers. [];
+  own_answers = λ env v. answers_of (move_row (operation_of (context_by env.flags env.frame []) inst) v);
+  own_of = λ took. took;
+}
+
+-- of the instructions that write integer registers, one moves floating-point registers as well
+abbrev pub of_integer : Entry → Inst → FullMeaning
+of_integer entry (Mov rd rm type) = if is_float rd.reg then of_float_move (Mov rd rm type) else of_integers entry (Put (Mov rd rm type))
+of_integer entry inst = of_integers entry (Put inst)
+
 abbrev pub meaning_by : Family → Entry → Inst → FullMeaning
 meaning_by Pseudo entry inst = of_integers entry (Put inst)
-meaning_by Integer entry inst = of_integers entry (Put inst)
+meaning_by Integer entry inst = of_integer entry inst
 meaning_by Memory entry inst = of_integers entry (Put inst)
 meaning_by Control entry inst = of_integers entry (Put inst)
 meaning_by Loop entry inst = of_integers entry (Put inst)

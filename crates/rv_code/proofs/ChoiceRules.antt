@@ -1,20 +1,24 @@
 -- What an extension and a choice that break no rule give.
-use Rattle.std.proofs.Common.{◌≡◌, ℕ, ◌<◌, ◌≤◌, Bool, true, false, nat_eq, List, [], ◌∷◌, map, length, refl, arith}
+use Rattle.std.proofs.Common.{◌≡◌, ℕ, ◌<◌, ◌≤◌, Bool, true, false, nat_eq, List, [], ◌∷◌, map, length, refl, sym, subst, ◌∙◌, arith}
 use Rattle.std.specs.Prelude.{nat_le, ◌||◌, ◌&&◌, not}
+use Rattle.std.specs.List.{list_any}
 use Rattle.std.proofs.lemmas.Bool.{or_parts}
 use Rattle.std.proofs.lemmas.Bool.Decides.{nat_tests}
 use Rattle.rv_base.specs.declared.regs.Reg.{Reg}
+use Rattle.rv_base.specs.declared.regs.Reg.TheVariants.{Real, Virtual as AVirtual}
 use Rattle.rv_base.specs.declared.regs.Writable.{Writable}
 use Rattle.rv_base.specs.declared.value_regs.ValueRegs.{ValueRegs}
 use Rattle.rv_base.specs.declared.value_regs.ValueRegs.TheVariants.{One, Two}
-use Rattle.rv_base.specs.Regs.{number_of}
+use Rattle.rv_base.specs.Regs.{class_of, number_of}
+use Rattle.rv_encode.specs.Registers.{IsIntRegister}
 use Rattle.rv_ops.specs.declared.compare.IntegerCompare.{IntegerCompare}
-use Rattle.rv_inst.specs.Operands.{all_of, written_in}
-use Rattle.rv_inst.specs.Rules.{is_one_of, same_register}
+use Rattle.rv_inst.specs.Generators.{canonical_type}
+use Rattle.rv_inst.specs.Operands.{all_of, inst_registers, written_in}
+use Rattle.rv_inst.specs.Rules.{is_movable, is_one_of, is_other_class, same_register}
 use Rattle.rv_inst.specs.SameValues.{is_among}
 use Rattle.rv_inst.specs.declared.inst.Inst.TheVariants.{Extend, Select}
 use Rattle.rv_code.specs.Choices.{same_numbers}
-use Rattle.rv_code.specs.Usable.{IsFineChoice, IsUsable}
+use Rattle.rv_code.specs.Usable.{IsFineChoice, IsMove, IsUsable}
 use Rattle.rv_code.proofs.Operands.{Keeps, AreUsable, are_usable}
 use Rattle.rv_code.proofs.CountRules.{numbers_differ}
 
@@ -91,9 +95,10 @@ one_other n rd e = by (nat_eq n rd) refl e
     by true test e = absurd (cc)
     by false test e = let other : nat_eq rd n ≡ false = grind (arith, nat_tests) in λ i. other i || false
 
-pub is_choice : (dst : ValueRegs (Writable Reg)) (condition : IntegerCompare) (x y : ValueRegs Reg) → Keeps (Select (record { dst = dst; condition = condition; x = x; y = y })) → IsChoice (map number_of (written_in dst)) (map number_of (all_of x)) (map number_of (all_of y)) (number_of condition.rs1) (number_of condition.rs2)
-is_choice (One r) condition (One a) (One b) k =
-    let all = are_usable (r.reg ∷ condition.rs1 ∷ condition.rs2 ∷ a ∷ b ∷ []) k.real k.placed k.free in
+-- of integer registers
+pub is_choice : (dst : ValueRegs (Writable Reg)) (condition : IntegerCompare) (x y : ValueRegs Reg) → list_any is_other_class (inst_registers (Select (record { dst = dst; condition = condition; x = x; y = y }))) ≡ false → Keeps (Select (record { dst = dst; condition = condition; x = x; y = y })) → IsChoice (map number_of (written_in dst)) (map number_of (all_of x)) (map number_of (all_of y)) (number_of condition.rs1) (number_of condition.rs2)
+is_choice (One r) condition (One a) (One b) placed k =
+    let all = are_usable (r.reg ∷ condition.rs1 ∷ condition.rs2 ∷ a ∷ b ∷ []) k.real placed k.free in
     let o = others_of r.reg (condition.rs1 ∷ condition.rs2 ∷ []) all.0 (all.1.0, (all.1.1.0, tt)) k.apart in
     record {
       results = (all.0.1, tt);
@@ -105,9 +110,9 @@ is_choice (One r) condition (One a) (One b) k =
       second = record { count = refl; usable = (all.1.1.1.1.0.1, tt); ordered = (tt, tt) };
       others = λ e. (one_other (number_of b) (number_of r.reg) e, tt);
     }
-is_choice (Two r s) condition (Two a b) (Two c d) k =
+is_choice (Two r s) condition (Two a b) (Two c d) placed k =
     let inputs = condition.rs1 ∷ condition.rs2 ∷ a ∷ b ∷ c ∷ d ∷ [] in
-    let all = are_usable (r.reg ∷ s.reg ∷ inputs) k.real k.placed k.free in
+    let all = are_usable (r.reg ∷ s.reg ∷ inputs) k.real placed k.free in
     let rest = all.1.1 in
     let clashes = or_parts (is_one_of r.reg (s.reg ∷ inputs)) _ k.apart in
     let o = others_of r.reg (s.reg ∷ inputs) all.0 all.1 clashes.0 in
@@ -122,18 +127,26 @@ is_choice (Two r s) condition (Two a b) (Two c d) k =
       second = record { count = refl; usable = (rest.1.1.1.1.0.1, (rest.1.1.1.1.1.0.1, tt)); ordered = ((o.1.1.1.1.1.1.0, tt), (tt, tt)) };
       others = λ e. (both_other _ _ _ o.1.1.1.1.1.0 p.1.1.1.1.0, (both_other _ _ _ o.1.1.1.1.1.1.0 p.1.1.1.1.1.0, tt));
     }
-is_choice (One r) condition (One a) (Two c d) k = absurd (cc)
-is_choice (One r) condition (Two a b) y k = absurd (cc)
-is_choice (Two r s) condition (One a) y k = absurd (cc)
-is_choice (Two r s) condition (Two a b) (One c) k = absurd (cc)
+is_choice (One r) condition (One a) (Two c d) placed k = absurd (cc)
+is_choice (One r) condition (Two a b) y placed k = absurd (cc)
+is_choice (Two r s) condition (One a) y placed k = absurd (cc)
+is_choice (Two r s) condition (Two a b) (One c) placed k = absurd (cc)
+
+int_move : {r s : Reg} → IsIntRegister r → IsIntRegister s → IsMove r s (canonical_type (class_of r))
+int_move {r} {s} h g = by r s h g
+  where
+    by : (r s : Reg) → IsIntRegister r → IsIntRegister s → IsMove r s (canonical_type (class_of r))
+    by (Real p) (Real q) h g = record { to = refl; from = refl; class = g ∙ sym h; typed = subst (λ c. is_movable c (canonical_type c) ≡ true) (sym h) refl }
+    by (AVirtual c i) s h g = absurd h
+    by (Real p) (AVirtual c i) h g = absurd g
 
 pub select_fine : (dst : ValueRegs (Writable Reg)) (condition : IntegerCompare) (x y : ValueRegs Reg) → Keeps (Select (record { dst = dst; condition = condition; x = x; y = y })) → IsFineChoice dst condition x y
 select_fine (One r) condition (One a) (One b) k =
     let all = are_usable (r.reg ∷ condition.rs1 ∷ condition.rs2 ∷ a ∷ b ∷ []) k.real k.placed k.free in
-    record { dst = (all.0.0, tt); rs1 = all.1.0.0; rs2 = all.1.1.0.0; x = (all.1.1.1.0.0, tt); y = (all.1.1.1.1.0.0, tt); x_count = refl; y_count = refl }
+    record { rs1 = all.1.0.0; rs2 = all.1.1.0.0; x = (int_move all.0.0 all.1.1.1.0.0, tt); y = (int_move all.0.0 all.1.1.1.1.0.0, tt); x_count = refl; y_count = refl }
 select_fine (Two r s) condition (Two a b) (Two c d) k =
     let all = are_usable (r.reg ∷ s.reg ∷ condition.rs1 ∷ condition.rs2 ∷ a ∷ b ∷ c ∷ d ∷ []) k.real k.placed k.free in
-    record { dst = (all.0.0, (all.1.0.0, tt)); rs1 = all.1.1.0.0; rs2 = all.1.1.1.0.0; x = (all.1.1.1.1.0.0, (all.1.1.1.1.1.0.0, tt)); y = (all.1.1.1.1.1.1.0.0, (all.1.1.1.1.1.1.1.0.0, tt)); x_count = refl; y_count = refl }
+    record { rs1 = all.1.1.0.0; rs2 = all.1.1.1.0.0; x = (int_move all.0.0 all.1.1.1.1.0.0, (int_move all.1.0.0 all.1.1.1.1.1.0.0, tt)); y = (int_move all.0.0 all.1.1.1.1.1.1.0.0, (int_move all.1.0.0 all.1.1.1.1.1.1.1.0.0, tt)); x_count = refl; y_count = refl }
 select_fine (One r) condition (One a) (Two c d) k = absurd (cc)
 select_fine (One r) condition (Two a b) y k = absurd (cc)
 select_fine (Two r s) condition (One a) y k = absurd (cc)

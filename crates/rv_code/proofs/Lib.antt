@@ -73,5 +73,7 @@ mod Reaching
 pub mod ClosedPieces
 pub mod MadeOfPieces
 pub mod UnitRuns
+mod FullRegisters
+mod FullPieces
 pub mod UnitRules
 pub mod UnitWordRuns

@@ -14,6 +14,7 @@ use Rattle.std.proofs.Math.Seq.{get_or-set_other}
 use Rattle.std.proofs.Math.ListN.{length-set}
 use Rattle.std.proofs.lemmas.Grind.{get_or-set_at}
 use Rattle.std.proofs.lemmas.Bool.{cases_eq}
+use Rattle.rv_base.specs.declared.flags.IsaFlags.{IsaFlags}
 use Rattle.rv_machine.specs.declared.decoding.Decoded.{Decoded}
 use Rattle.rv_machine.specs.declared.ops.FloatFormat.{FloatFormat}
 use Rattle.rv_machine.specs.declared.ops.FloatFormat.TheVariants.{H, S, D}
@@ -36,7 +37,7 @@ use Rattle.rv_full.specs.declared.shapes.FloatShape.TheVariants.{Answered, ToInt
 use Rattle.rv_full.specs.Atomics.{csr_result, csr_row}
 use Rattle.rv_full.specs.Floats.{boxed, extended, inputs_of, low_part, put_number, number_row, is_move, shape_row}
 use Rattle.rv_full.specs.Rows.{Row, Absent, Does, Takes, OneNumber, fits, bits_of, x_of, put_f, put_x, put_units, entry_of, noted}
-use Rattle.rv_full.specs.Steps.{Goes, Asks, Halts, fnext, next_by, row_next, unit_on}
+use Rattle.rv_full.specs.Steps.{Goes, Asks, Halts, fiter, fnext, next_by, row_next, stepped, unit_on}
 use Rattle.rv_full.specs.UnitRows.{unit_row}
 use Rattle.rv_full.specs.Units.{FullState, FullValues, Units, AreUnits, AnswerFits, freg, set_freg, set_frm, values_of, full_at}
 use Rattle.rv_code.specs.Chains.{IsAt}
@@ -58,6 +59,11 @@ unit_next_at {site} {offset} {size} b d ds unit h some has =
     let there = decodes_at d ds h some has in
     let none : istep site.context.flags b.state ≡ None = same_step site.context.flags b.state ∙ (λ i. if nat_eq (even_pc i) 0 then step_on (there i) b.state else None) ∙ unit in
     ap (λ o. next_by site.context.flags o b) none ∙ (λ i. if nat_eq (even_pc i) 0 then unit_on (there i) b else Halts)
+
+-- one step of the machine with all units
+pub fiter_one : (flags : IsaFlags) (b c : FullState) → fnext flags b ≡ Goes c → fiter flags 1 b ≡ Some c
+unfolding fiter
+fiter_one flags b c next = ap stepped next
 
 -- ---- what comes of a row
 
@@ -92,7 +98,7 @@ float_set_fits xs n m x long lt small h =
 units_noted : (e : Entry) (u : Units) → AreUnits u → AreUnits (noted e u)
 units_noted e u h = record { float_count = h.float_count; float_fits = h.float_fits; vector_count = h.vector_count; vector_fits = h.vector_fits; frm_fits = h.frm_fits; reserved_fits = h.reserved_fits; avl_fits = h.avl_fits; vtype_fits = h.vtype_fits }
 
-float_set : (u : Units) (n x : ℕ) → AreUnits u → n < 32 → x < 2 ^ 64 → AreUnits (set_freg u n x)
+pub float_set : (u : Units) (n x : ℕ) → AreUnits u → n < 32 → x < 2 ^ 64 → AreUnits (set_freg u n x)
 float_set u n x h lt small = record { float_count = length-set u.floats n x ∙ h.float_count; float_fits = λ m. float_set_fits u.floats n m x h.float_count lt small (h.float_fits m); vector_count = h.vector_count; vector_fits = h.vector_fits; frm_fits = h.frm_fits; reserved_fits = h.reserved_fits; avl_fits = h.avl_fits; vtype_fits = h.vtype_fits }
 
 -- an answer of its kind has 64 bits

@@ -1,5 +1,5 @@
 -- What it is for a unit's operation to do the same on the machine and on values of the listing: links of the proof.
-use Rattle.std.specs.Prelude.{◌≡◌, ℕ, ◌<◌, true, List, [], ◌∷◌, ◌++◌, Some}
+use Rattle.std.specs.Prelude.{◌≡◌, ℕ, ◌+◌, ◌<◌, ◌≤◌, true, List, [], ◌∷◌, ◌++◌, Some}
 use Rattle.std.specs.List.{AllByRecursion}
 use Rattle.rv_base.specs.declared.regs.RegClass.{RegClass}
 use Rattle.rv_base.specs.declared.regs.RegClass.TheVariants.{Int, Float, Vector}
@@ -7,7 +7,7 @@ use Rattle.rv_base.specs.Regs.{number_of}
 use Rattle.rv_machine.specs.declared.decoding.Decoded.{Decoded}
 use Rattle.rv_machine.specs.declared.ops.CsrOp.{CsrOp}
 use Rattle.rv_machine.specs.declared.ops.CsrOp.TheVariants.{Csrrw, Csrrs, Csrrc, Csrrwi, Csrrsi, Csrrci}
-use Rattle.rv_machine.specs.State.{AreValues}
+use Rattle.rv_machine.specs.State.{AreValues, wrap}
 use Rattle.rv_inst.specs.declared.units.PlacedReg.{PlacedReg}
 use Rattle.rv_full.specs.declared.answer.Answer.{Answer}
 use Rattle.rv_full.specs.declared.shapes.Sources.{Sources}
@@ -17,9 +17,10 @@ use Rattle.rv_full.specs.declared.shapes.Target.TheVariants as target
 use Rattle.rv_full.specs.declared.shapes.FloatShape.{FloatShape}
 use Rattle.rv_full.specs.declared.shapes.FloatShape.TheVariants.{Answered, ToInteger, ToFloat, Sign}
 use Rattle.rv_full.specs.Rows.{Kind, Row, Absent, Does, Takes, fits, row_takes}
-use Rattle.rv_full.specs.Steps.{Goes, Asks, row_next}
-use Rattle.rv_full.specs.Units.{FullValues, AreUnits, AnswerFits, full_at}
-use Rattle.rv_code.specs.FullValues.{SameFull}
+use Rattle.rv_full.specs.Steps.{Goes, Asks, fiter, row_next}
+use Rattle.rv_full.specs.Units.{FullState, FullValues, IsFullState, AreUnits, AnswerFits, full_at, values_of}
+use Rattle.rv_code.specs.FullValues.{SameFull, SameFullBut}
+use Rattle.rv_code.specs.Sites.{Site, IsPlacedAt}
 
 -- the listing's values and the machine's after an operation that left these of the machine's as they were: the memory and the setting
 pub record Agree (w x y : FullValues) : Type 0 where
@@ -100,3 +101,17 @@ pub record RowAsks (pc : ℕ) (x y : Row) (answers : List Answer) : Type 0 where
   pub gives : Answer → FullValues
   pub takes : x ≡ Takes kind gives
   pub asks : row_next pc y answers ≡ Asks
+
+-- In some steps the machine with all units comes to the end of an instruction's parts, with values that are these, declared temporaries
+-- apart. It took these answers, and left the setting and the code.
+pub record FullComesOut (site : Site) (after : ℕ) (free : List ℕ) (made : FullValues) (took : List Answer) (b : FullState) : Type 0 where
+  pub steps : ℕ
+  pub state : FullState
+  pub ran : fiter site.context.flags steps b ≡ Some state
+  pub pc : state.state.pc ≡ wrap (site.base + after)
+  pub same : SameFullBut free made (values_of state)
+  pub are_values : AreValues made.ints
+  pub is_state : IsFullState state
+  pub answers : b.answers ≡ took ++ state.answers
+  pub setting : state.units.setting ≡ b.units.setting
+  pub placed : IsPlacedAt site state.state.values.mem

@@ -1,0 +1,45 @@
+-- Lines that are not of the integer core: what comes of each of them on the machine with all units.
+use Rattle.std.proofs.Common.{◌≡◌, ℕ, Bool, true, false, Some, refl}
+use Rattle.std.specs.Prelude.{◌&&◌, not, slice_get}
+use Rattle.rv_inst.specs.Core.{is_integer, is_integer_family}
+use Rattle.rv_inst.specs.declared.code.Code.{Code}
+use Rattle.rv_inst.specs.declared.inst.Inst.{Inst}
+use Rattle.rv_inst.specs.declared.inst.Inst.TheVariants.{Nop0, Mov}
+use Rattle.rv_inst.specs.declared.inst.Line.TheVariants.{Inst as Put}
+use Rattle.rv_inst.specs.declared.job.Job.{Job}
+use Rattle.rv_inst.specs.Families.{family_of}
+use Rattle.rv_inst.specs.Operands.{is_float, operands_of}
+use Rattle.rv_inst.proofs.UnitWords.{is_unit}
+use Rattle.rv_full.specs.Units.{FullState, FullValues}
+use Rattle.rv_asm.specs.FullSimulation.{StandsAt}
+use Rattle.rv_asm.specs.Placed.{Addresses}
+use Rattle.rv_asm.specs.Simulation.{At}
+use Rattle.rv_asm.proofs.FloatMoves.{move_comes}
+use Rattle.rv_asm.proofs.FullRuns.{UnitLines}
+use Rattle.rv_asm.proofs.LinesJoin.{Known, IsThreaded}
+use Rattle.rv_asm.proofs.OneComes.{OneComes}
+use Rattle.rv_asm.proofs.UnitLines.{unit_comes}
+
+not_false : (a : Bool) → (true && not a) ≡ false → a ≡ true
+not_false true e = refl
+not_false false e = absurd (cc)
+
+-- by no family of integers, or by the registers that it moves
+by_family : (family floats : Bool) → floats ≡ false → (family && not floats) ≡ false → family ≡ false
+by_family true true none e = absurd (cc)
+by_family true false none e = absurd (cc)
+by_family false floats none e = refl
+
+pub other_lines : (job : Job) (code : Code) (known : Known) → IsThreaded job code known → UnitLines job code
+other_lines job code known t base symbols slots i inst v b listed other s = by inst listed other
+  where
+    Comes : Type 0
+    Comes = OneComes (record { job = job; code = code; base = base; symbols = symbols; slots = slots }) (At i) v b
+
+    of_unit : (inst : Inst) → slice_get job.lines i ≡ Some (Put inst) → (operands_of inst).floats ≡ false → is_integer inst ≡ false → Comes
+    of_unit inst listed none other = unit_comes job code known t base symbols slots i inst (is_unit inst (by_family (is_integer_family (family_of inst)) (operands_of inst).floats none other)) v b listed s
+
+    by : (inst : Inst) → slice_get job.lines i ≡ Some (Put inst) → is_integer inst ≡ false → Comes
+    by (Mov rd rm type) listed other = move_comes job code known t base symbols slots i rd rm type v b listed s (not_false (is_float rd.reg) other)
+    by Nop0 listed other = of_unit Nop0 listed refl other
+    by inst listed other = of_unit inst listed refl other
