@@ -10,7 +10,6 @@ use Rattle.rv_base.specs.Regs.{class_of, number_of}
 use Rattle.rv_ops.specs.declared.float_fields.FpuOPWidth.{FpuOPWidth}
 use Rattle.rv_ops.specs.declared.float_fields.FpuOPWidth.TheVariants.{D}
 use Rattle.rv_ops.specs.FloatFields.{format_of, width_of}
-use Rattle.rv_inst.specs.Context.{context_of}
 use Rattle.rv_inst.specs.declared.code.Code.{Code}
 use Rattle.rv_inst.specs.declared.inst.Inst.{Inst}
 use Rattle.rv_inst.specs.declared.inst.Inst.TheVariants.{Mov}
@@ -28,8 +27,8 @@ use Rattle.rv_code.specs.InstParts.{slots_alone}
 use Rattle.rv_code.specs.Pieces.{Do, op_of, slots_of}
 use Rattle.rv_code.specs.Sites.{Site, PartsStand}
 use Rattle.rv_code.specs.UnitRuns.{FullComesOut}
-use Rattle.rv_code.specs.Usable.{IsMove}
-use Rattle.rv_emit.proofs.Laws.{keeps, move_kept, real_number, same_but, shape_agrees, stands_alone}
+use Rattle.rv_inst.proofs.Sequences.{number_below}
+use Rattle.rv_emit.proofs.Laws.{same_but, shape_agrees, stands_alone}
 use Rattle.rv_asm.specs.FullMeaning.{FullMeaning, answers_of, meaning_of, move_row, of_float_move, of_integers}
 use Rattle.rv_asm.specs.FullSimulation.{Placing, StandsAt, environment_at}
 use Rattle.rv_asm.specs.Placed.{Addresses}
@@ -105,13 +104,12 @@ module _ (job : Job) (code : Code) (known : Known) (t : IsThreaded job code know
           (ap (λ (m : FullMeaning). m.takes env v (m.own_of [])) means ∙ ap (λ c. row_takes (move_row (if c then None else Some (move_op env.flags (class_of rd.reg) type to from)) v) []) test))
       by false test =
           let p = parts false test in
-          let m = move_kept rd rm type (keeps (context_of job) inst (t.ruled i (Put inst) listed)) in
           row_line_comes job code known t base symbols slots i inst v b listed s d (record {
             has = stands_alone site start d None end p;
             long = refl;
             ends = let e = p.2 in omega arith;
             none = refl;
-            agree = shape_agrees d v (values_of b) s.same s.are_values s.is_state.state.values s.is_state.units Sign (format_of (unwrap_or (width_of type) D)) (real_number rd.reg m.to);
+            agree = shape_agrees d v (values_of b) s.same s.are_values s.is_state.state.values s.is_state.units Sign (format_of (unwrap_or (width_of type) D)) (number_below rd.reg);
             means = means ∙ (λ k. record {
               takes = λ env v answers. row_takes (move_row (if test k then None else Some (move_op env.flags (class k) type to from)) v) answers;
               writes = λ env v answers. [];

@@ -10,7 +10,7 @@ use Rattle.rv_inst.specs.declared.code.Code.{Code}
 use Rattle.rv_inst.specs.declared.inst.Family.{Family}
 use Rattle.rv_inst.specs.declared.inst.Family.TheVariants.{Pseudo, Integer, Memory, Control, Loop, Symbols, Calls, Float}
 use Rattle.rv_inst.specs.declared.inst.Inst.{Inst}
-use Rattle.rv_inst.specs.declared.inst.Inst.TheVariants.{Nop0, Mov}
+use Rattle.rv_inst.specs.declared.inst.Inst.TheVariants.{Nop0, Mov, Select}
 use Rattle.rv_inst.specs.declared.inst.Line.{Line}
 use Rattle.rv_inst.specs.declared.inst.Line.TheVariants.{Inst as Put, Bind}
 use Rattle.rv_inst.specs.declared.job.Job.{Job}
@@ -22,7 +22,7 @@ use Rattle.rv_full.specs.Steps.{fiter}
 use Rattle.rv_full.specs.Units.{FullState, FullValues, put}
 use Rattle.rv_full.proofs.LargerMachine.{integer_run}
 use Rattle.rv_full.proofs.Runs.{fiter_none, fiter_after}
-use Rattle.rv_asm.specs.FullMeaning.{FullMeaning, of_integers, of_integer, of_float_move, meaning_by, meaning_of}
+use Rattle.rv_asm.specs.FullMeaning.{FullMeaning, of_integers, of_integer, of_float_move, of_choice, meaning_by, meaning_of}
 use Rattle.rv_asm.specs.FullSimulation.{Placing, StandsAt, LineAt, OneFullLine, OneMore, Lines, Reached, Stops, IsOn, Overwrites, IsExit, ComesThere, WantsAnswer, WritesOnCode, RunsOn, IsEntry, FullRuns, environment_at, meaning_at}
 use Rattle.rv_asm.specs.Placed.{Addresses}
 use Rattle.rv_asm.specs.Simulation.{Point, At, Returned, Out, End, Stop, Trapped, InData, Entry, AtStart, AtReturn, IsBack, Leads, next_point, environment_of, exit_from, effect_from, Comes, RunsAsListed}
@@ -37,6 +37,11 @@ integer_is_of_integers : (entry : Entry) (inst : Inst) → not (operands_of inst
 integer_is_of_integers entry (Mov rd rm type) other = by (is_float rd.reg) other
   where
     by : (c : Bool) → not c ≡ true → (if c then of_float_move (Mov rd rm type) else of_integers entry (Put (Mov rd rm type))) ≡ of_integers entry (Put (Mov rd rm type))
+    by true e = absurd (cc)
+    by false e = refl
+integer_is_of_integers entry (Select info) other = by (operands_of (Select info)).floats other
+  where
+    by : (c : Bool) → not c ≡ true → (if c then of_choice info else of_integers entry (Put (Select info))) ≡ of_integers entry (Put (Select info))
     by true e = absurd (cc)
     by false e = refl
 integer_is_of_integers entry Nop0 other = refl

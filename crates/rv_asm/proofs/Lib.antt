@@ -42,4 +42,5 @@ mod LinesComeOut
 mod RowLines
 mod UnitLines
 mod FloatMoves
+mod FloatChoices
 mod OtherLines

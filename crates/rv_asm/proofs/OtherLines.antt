@@ -4,7 +4,7 @@ use Rattle.std.specs.Prelude.{◌&&◌, not, slice_get}
 use Rattle.rv_inst.specs.Core.{is_integer, is_integer_family}
 use Rattle.rv_inst.specs.declared.code.Code.{Code}
 use Rattle.rv_inst.specs.declared.inst.Inst.{Inst}
-use Rattle.rv_inst.specs.declared.inst.Inst.TheVariants.{Nop0, Mov}
+use Rattle.rv_inst.specs.declared.inst.Inst.TheVariants.{Nop0, Mov, Select}
 use Rattle.rv_inst.specs.declared.inst.Line.TheVariants.{Inst as Put}
 use Rattle.rv_inst.specs.declared.job.Job.{Job}
 use Rattle.rv_inst.specs.Families.{family_of}
@@ -15,6 +15,7 @@ use Rattle.rv_asm.specs.FullSimulation.{StandsAt}
 use Rattle.rv_asm.specs.Placed.{Addresses}
 use Rattle.rv_asm.specs.Simulation.{At}
 use Rattle.rv_asm.proofs.FloatMoves.{move_comes}
+use Rattle.rv_asm.proofs.FloatChoices.{choice_line_comes}
 use Rattle.rv_asm.proofs.FullRuns.{UnitLines}
 use Rattle.rv_asm.proofs.LinesJoin.{Known, IsThreaded}
 use Rattle.rv_asm.proofs.OneComes.{OneComes}
@@ -41,5 +42,6 @@ other_lines job code known t base symbols slots i inst v b listed other s = by i
 
     by : (inst : Inst) → slice_get job.lines i ≡ Some (Put inst) → is_integer inst ≡ false → Comes
     by (Mov rd rm type) listed other = move_comes job code known t base symbols slots i rd rm type v b listed s (not_false (is_float rd.reg) other)
+    by (Select info) listed other = choice_line_comes job code known t base symbols slots i info v b listed s (not_false (operands_of (Select info)).floats other)
     by Nop0 listed other = of_unit Nop0 listed refl other
     by inst listed other = of_unit inst listed refl other

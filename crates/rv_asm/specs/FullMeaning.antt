@@ -1,25 +1,26 @@
 -- What a line means on the machine with all units: what it makes of the values with the units' answers. Each family of instructions is
 -- a case: those of integers take no answer, and leave the units as they were; a float operation does what its row does. A move of a
--- floating-point register does what its operation's row does.
+-- floating-point register does what its operation's row does, and a choice copies its registers exactly, of any class.
 use Rattle.std.specs.Prelude.{ℕ, ◌&&◌, Bool, true, if◌then◌else◌, List, [], ◌∷◌, Option, Some, None}
 use Rattle.rv_inst.specs.Context.{context_by}
 use Rattle.rv_inst.specs.Core.{is_integer_line}
 use Rattle.rv_inst.specs.declared.inst.Family.{Family}
 use Rattle.rv_inst.specs.declared.inst.Family.TheVariants.{Pseudo, Integer, Memory, Control, Loop, Symbols, Calls, Float}
 use Rattle.rv_inst.specs.declared.inst.Inst.{Inst}
-use Rattle.rv_inst.specs.declared.inst.Inst.TheVariants.{Mov}
+use Rattle.rv_inst.specs.declared.inst.Inst.TheVariants.{Mov, Select}
+use Rattle.rv_inst.specs.declared.inst.SelectInfo.{SelectInfo}
 use Rattle.rv_inst.specs.declared.inst.Line.{Line}
 use Rattle.rv_inst.specs.declared.inst.Line.TheVariants.{Inst as Put, Bind}
 use Rattle.rv_inst.specs.Families.{family_of}
 use Rattle.rv_inst.specs.Meaning.{Environment, writes_of}
-use Rattle.rv_inst.specs.Operands.{is_float}
+use Rattle.rv_inst.specs.Operands.{is_float, operands_of}
 use Rattle.rv_inst.specs.Sizes.{operation_of}
 use Rattle.rv_machine.specs.declared.decoding.Decoded.{Decoded}
 use Rattle.rv_full.specs.declared.answer.Answer.{Answer}
 use Rattle.rv_full.specs.Rows.{Row, Absent, Does, Takes, row_takes}
 use Rattle.rv_full.specs.UnitRows.{unit_row}
 use Rattle.rv_full.specs.Units.{FullValues}
-pub use Rattle.rv_code.specs.FullValues.{SameFull, SameFullBut}
+pub use Rattle.rv_code.specs.FullValues.{SameFull, SameFullBut, chosen}
 use Rattle.rv_asm.specs.Simulation.{Entry, AtStart, AtReturn, effect_from}
 
 -- What a line means from where it is entered: the values that come of values and answers, with the answers that are left; the addresses
@@ -82,9 +83,19 @@ of_float_move inst = record {
   own_of = λ took. took;
 }
 
--- of the instructions that write integer registers, one moves floating-point registers as well
+-- a choice of values of any class is exact
+abbrev pub of_choice : SelectInfo → FullMeaning
+of_choice info = record {
+  takes = λ env v answers. Some (chosen info v, answers);
+  writes = λ env v answers. [];
+  own_answers = λ env v. 0;
+  own_of = λ took. took;
+}
+
+-- of the instructions that write integer registers, moves and choices write floating-point registers as well
 abbrev pub of_integer : Entry → Inst → FullMeaning
 of_integer entry (Mov rd rm type) = if is_float rd.reg then of_float_move (Mov rd rm type) else of_integers entry (Put (Mov rd rm type))
+of_integer entry (Select info) = if (operands_of (Select info)).floats then of_choice info else of_integers entry (Put (Select info))
 of_integer entry inst = of_integers entry (Put inst)
 
 abbrev pub meaning_by : Family → Entry → Inst → FullMeaning

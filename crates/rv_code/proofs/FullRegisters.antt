@@ -110,7 +110,7 @@ put_fits Vector u v n m hu hv low = hv
 
 -- ---- two registers, one after the other
 
-abbrev in_turn : (c d : RegClass) (v : FullValues) (r s a b : ℕ) → FullValues
+abbrev pub in_turn : (c d : RegClass) (v : FullValues) (r s a b : ℕ) → FullValues
 in_turn c d v r s a b = put_in d (put_in c v r (value_in c v a)) s (value_in d (put_in c v r (value_in c v a)) b)
 
 -- both at once, where the first isn't read for the second

@@ -75,5 +75,6 @@ pub mod MadeOfPieces
 pub mod UnitRuns
 mod FullRegisters
 mod FullPieces
+pub mod FullChoices
 pub mod UnitRules
 pub mod UnitWordRuns

@@ -116,7 +116,7 @@ keeps context inst e = record {
 -- ---- moves
 
 -- the registers of a move have one class
-one_class : (r s : RegClass) → not (same_class r s) ≡ false → s ≡ r
+pub one_class : (r s : RegClass) → not (same_class r s) ≡ false → s ≡ r
 one_class Int Int h = refl
 one_class Int Float h = absurd (cc)
 one_class Int Vector h = absurd (cc)
@@ -127,7 +127,7 @@ one_class Vector Int h = absurd (cc)
 one_class Vector Float h = absurd (cc)
 one_class Vector Vector h = refl
 
-is_real : (r : Reg) → is_virtual r ≡ false → IsRealRegister r
+pub is_real : (r : Reg) → is_virtual r ≡ false → IsRealRegister r
 is_real (Real p) e = refl
 is_real (AVirtual class index) e = absurd (cc)
 

@@ -6,7 +6,6 @@ use Rattle.std.proofs.lemmas.Bool.{or_parts}
 use Rattle.rv_base.specs.declared.condcodes.IntCC.{IntCC}
 use Rattle.rv_base.specs.declared.ir_type.IrType.{IrType}
 use Rattle.rv_base.specs.declared.regs.Reg.{Reg}
-use Rattle.rv_base.specs.declared.regs.Reg.TheVariants.{Real, Virtual as AVirtual}
 use Rattle.rv_base.specs.declared.regs.RegClass.{RegClass}
 use Rattle.rv_base.specs.declared.regs.RegClass.TheVariants.{Int, Float, Vector}
 use Rattle.rv_base.specs.declared.value_regs.ValueRegs.{ValueRegs}
@@ -19,6 +18,7 @@ use Rattle.rv_inst.specs.Meaning.{Next, alu_rri, compares, set_regs}
 use Rattle.rv_inst.specs.Generators.{canonical_type}
 use Rattle.rv_inst.specs.Operands.{all_of, inst_registers, written_in}
 use Rattle.rv_inst.specs.Rules.{is_int_class, is_other_class}
+use Rattle.rv_inst.proofs.Sequences.{number_below}
 use Rattle.rv_inst.specs.SameValues.{Same, SameBut, is_among}
 use Rattle.rv_inst.specs.declared.inst.SelectInfo.{SelectInfo}
 use Rattle.rv_inst.specs.declared.inst.Inst.TheVariants.{Select}
@@ -34,7 +34,7 @@ use Rattle.rv_code.proofs.ChoiceRules.{AreBelow, AreOrdered, IsMovable, IsChoice
 use Rattle.rv_code.proofs.Exits.{same_but}
 use Rattle.rv_code.proofs.InstTraps.{complement_holds}
 use Rattle.rv_code.proofs.OperationActs.{plus_none, set_own}
-use Rattle.rv_code.proofs.Operands.{Keeps}
+use Rattle.rv_code.proofs.Operands.{Keeps, none_of_both}
 use Rattle.rv_code.proofs.Reaching.{Reaches, goes_on, reaches_such, pieces_out}
 use Rattle.rv_code.proofs.Registers.{are_values_set, reads_other}
 use Rattle.rv_code.proofs.SetRegisters.{differ, set_kept, set_mem, set_own_all, set_are_values, all_set, read_same, read_kept, same_lists}
@@ -86,10 +86,6 @@ move_range Int type rd rs low = (low, refl, lit< tt)
 move_range Float type rd rs low = low
 move_range Vector type rd rs low = (low, refl, lit< tt)
 
-pub number_low : (r : Reg) → number_of r < 32
-number_low (Real p) = p.in_file
-number_low (AVirtual class index) = lit< tt
-
 -- registers of any class
 pub moves_range : (rds sources : List Reg) (more : List Piece) → AreInRange more → AreInRange (moves_then rds sources more)
 moves_range [] sources more range = range
@@ -101,7 +97,7 @@ moves_range (rd ∷ rds) (rs ∷ sources) more range = by (nat_eq (number_of rd)
 
     by : (own : Bool) → AreInRange (moves_then rds sources more) → AreInRange ((if own then [] else Do (move_action (class_of rd) type (number_of rd) (number_of rs)) ∷ []) ++ moves_then rds sources more)
     by true range = range
-    by false range = (move_range (class_of rd) type (number_of rd) (number_of rs) (number_low rd), range)
+    by false range = (move_range (class_of rd) type (number_of rd) (number_of rs) (number_below rd), range)
 
 -- ---- a choice
 
@@ -208,7 +204,7 @@ select_runs site setting info placed k = record {
   run = λ start after s v e clear.
       let rds = written_in info.dst in
       subst (λ xs. ComesOut site start after Next [] (set_regs v (numbers rds) xs) s) (read_numbers v (compares info.condition v) info.x info.y)
-      (chosen_out rds (all_of info.x) (all_of info.y) info.condition.kind (number_of info.condition.rs1) (number_of info.condition.rs2) (are_of_int rds (info.condition.rs1 ∷ info.condition.rs2 ∷ all_of info.x ++ all_of info.y) placed) (is_choice info.dst info.condition info.x info.y placed k) e);
+      (chosen_out rds (all_of info.x) (all_of info.y) info.condition.kind (number_of info.condition.rs1) (number_of info.condition.rs2) (are_of_int rds (info.condition.rs1 ∷ info.condition.rs2 ∷ all_of info.x) (none_of_both is_other_class (rds ++ info.condition.rs1 ∷ info.condition.rs2 ∷ all_of info.x) (all_of info.y) placed).0) (is_choice info.dst info.condition info.x info.y placed k) e);
 }
   where
     of_int : (r : Reg) → is_other_class r ≡ false → class_of r ≡ Int

@@ -128,6 +128,19 @@ abbrev pub select_clash : ValueRegs (Writable Reg) → List Reg → List Reg →
 select_clash (One r) compared values = is_one_of r.reg compared
 select_clash (Two r s) compared values = clash (r.reg ∷ s.reg ∷ []) (compared ++ values)
 
+-- whether registers at one place differ in class, of the places that both values have
+abbrev pub differ_at_places : List Reg → List Reg → Bool
+differ_at_places [] ss = false
+differ_at_places (r ∷ rs) [] = false
+differ_at_places (r ∷ rs) (s ∷ ss) = differ_in_class r s || differ_at_places rs ss
+
+abbrev pub is_vector : Reg → Bool
+is_vector r = is_vector_class (class_of r)
+
+-- whether values of which one is chosen differ in class at a place, or have a vector register
+abbrev pub values_differ : List Reg → List Reg → List Reg → Bool
+values_differ results xs ys = differ_at_places results xs || (differ_at_places results ys || (differ_at_places xs ys || list_any is_vector (results ++ xs ++ ys)))
+
 -- sp
 abbrev pub is_stack : Reg → Bool
 is_stack r = is_real_x 2 r
@@ -301,8 +314,8 @@ count_faults sum tmp step rs type = record (has_other_class (list_any is_other_c
 abbrev pub unit_faults : UnitWord → Faults
 unit_faults w = record (has_other_class (list_any is_out_of_place w.places)) { rounding = not w.rounding; width = not w.width }
 
--- A register's place asks the class Int, but those of a unit's word; the two of a pair or of a move have one class, and a result on
--- the stack that of its type. A move has a type of its registers' class: integers of at most 64 bits, or floating-point numbers of at
+-- A register's place asks the class Int, but those of a unit's word; the two of a pair or of a move have one class, those at one place of
+-- the values of a choice one that is no vector's, and a result on the stack that of its type. A move has a type of its registers' class: integers of at most 64 bits, or floating-point numbers of at
 -- most 64; a result on the stack has an integer type of at most 64 bits. Of others none is built. Data has four or eight bytes.
 abbrev pub faults_of : Inst → Faults
 faults_of Nop0 = has_other_class false
@@ -323,7 +336,7 @@ faults_of (AluRRImm12 op rd rs imm) = record (has_other_class (list_any is_other
 faults_of (Mov rd rm type) = record (has_other_class (differ_in_class rd.reg rm)) { type = not (is_movable (class_of rm) type) }
 faults_of (MovFromPReg rd rm) = has_other_class (is_other_class rd.reg || not (is_stack_or_frame rm))
 faults_of (Extend rd rn signed from_bits to_bits) = record (has_other_class (list_any is_other_class (rd.reg ∷ rn ∷ []))) { range = not (nat_le 1 from_bits && nat_le from_bits 64) }
-faults_of (Select info) = record (has_other_class (list_any is_other_class (written_in info.dst ++ info.condition.rs1 ∷ info.condition.rs2 ∷ all_of info.x ++ all_of info.y))) { clashing = is_uneven info.dst info.x info.y || select_clash info.dst (info.condition.rs1 ∷ info.condition.rs2 ∷ []) (all_of info.x ++ all_of info.y) }
+faults_of (Select info) = record (has_other_class (list_any is_other_class (info.condition.rs1 ∷ info.condition.rs2 ∷ []) || values_differ (written_in info.dst) (all_of info.x) (all_of info.y))) { clashing = is_uneven info.dst info.x info.y || select_clash info.dst (info.condition.rs1 ∷ info.condition.rs2 ∷ []) (all_of info.x ++ all_of info.y) }
 faults_of (Load rd op flags from) = record (has_other_class (list_any is_other_class (rd.reg ∷ registers_of from))) { zeroed = is_none (base_of from) && is_zero rd.reg; range = is_distant (own_offset from) }
 faults_of (Store src op flags to) = record (has_other_class (list_any is_other_class (src ∷ registers_of to))) { range = is_distant (own_offset to) }
 faults_of (LoadAddr rd mem) = record (has_other_class (list_any is_other_class (rd.reg ∷ registers_of mem))) { zeroed = is_zero rd.reg; clashing = is_base rd.reg (base_of mem); range = is_distant (own_offset mem) }
