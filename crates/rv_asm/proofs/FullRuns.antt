@@ -4,7 +4,7 @@ use Rattle.std.proofs.Common.{◌≡◌, ◌⊎◌, ℕ, zero, suc, ◌+◌, ◌
 use Rattle.std.specs.Prelude.{slice_get, slice_index, nat_lt, is_some, not, if◌then◌else◌, Option}
 use Rattle.std.proofs.lemmas.Bool.{and_parts, ltb-true, ltb-false}
 use Rattle.std.proofs.lemmas.Option.{slice_get_within}
-use Rattle.rv_inst.specs.Operands.{Return, operands_of, return_of}
+use Rattle.rv_inst.specs.Operands.{Return, operands_of, return_of, is_float}
 use Rattle.rv_machine.specs.declared.ops.FloatFormat.{FloatFormat}
 use Rattle.rv_ops.specs.Memory.{load_format, store_format}
 use Rattle.rv_inst.specs.Core.{is_integer_family, is_integer, is_integer_line}
@@ -12,7 +12,7 @@ use Rattle.rv_inst.specs.declared.code.Code.{Code}
 use Rattle.rv_inst.specs.declared.inst.Family.{Family}
 use Rattle.rv_inst.specs.declared.inst.Family.TheVariants.{Pseudo, Integer, Memory, Control, Loop, Symbols, Calls, Float}
 use Rattle.rv_inst.specs.declared.inst.Inst.{Inst}
-use Rattle.rv_inst.specs.declared.inst.Inst.TheVariants.{Load, Store}
+use Rattle.rv_inst.specs.declared.inst.Inst.TheVariants.{Load, Store, Nop0, Mov, Select}
 use Rattle.rv_inst.specs.declared.inst.Line.{Line}
 use Rattle.rv_inst.specs.declared.inst.Line.TheVariants.{Inst as Put, Bind}
 use Rattle.rv_inst.specs.declared.job.Job.{Job}
@@ -24,7 +24,7 @@ use Rattle.rv_full.specs.Steps.{fiter}
 use Rattle.rv_full.specs.Units.{FullState, FullValues, put}
 use Rattle.rv_full.proofs.LargerMachine.{integer_run}
 use Rattle.rv_full.proofs.Runs.{fiter_none, fiter_after}
-use Rattle.rv_asm.specs.FullMeaning.{FullMeaning, of_integers, of_access, of_float_load, of_float_store, of_memory, meaning_by, meaning_of}
+use Rattle.rv_asm.specs.FullMeaning.{FullMeaning, of_integers, of_access, of_float_load, of_float_store, of_memory, meaning_by, meaning_of, of_integer, of_float_move, of_choice}
 use Rattle.rv_asm.specs.FullSimulation.{Placing, StandsAt, LineAt, OneFullLine, OneMore, Lines, Reached, Stops, IsOn, Overwrites, IsExit, ComesThere, WantsAnswer, WritesOnCode, RunsOn, IsEntry, FullRuns, environment_at, meaning_at}
 use Rattle.rv_asm.specs.Placed.{Addresses}
 use Rattle.rv_asm.specs.Simulation.{Point, At, Returned, Out, End, Stop, Trapped, InData, Entry, AtStart, AtReturn, IsBack, Leads, next_point, environment_of, exit_from, effect_from, Comes, RunsAsListed}
@@ -44,9 +44,24 @@ memory_is_of_integers entry (Load rd op flags from) core = access_is_of_integers
 memory_is_of_integers entry (Store src op flags to) core = access_is_of_integers (store_format op) (λ format. of_float_store format src to) (of_integers entry (Put (Store src op flags to))) core
 memory_is_of_integers entry _ core = refl
 
+-- no floating-point register is moved
+integer_is_of_integers : (entry : Entry) (inst : Inst) → not (operands_of inst).floats ≡ true → of_integer entry inst ≡ of_integers entry (Put inst)
+integer_is_of_integers entry (Mov rd rm type) other = by (is_float rd.reg) other
+  where
+    by : (c : Bool) → not c ≡ true → (if c then of_float_move (Mov rd rm type) else of_integers entry (Put (Mov rd rm type))) ≡ of_integers entry (Put (Mov rd rm type))
+    by true e = absurd (cc)
+    by false e = refl
+integer_is_of_integers entry (Select info) other = by (operands_of (Select info)).floats other
+  where
+    by : (c : Bool) → not c ≡ true → (if c then of_choice info else of_integers entry (Put (Select info))) ≡ of_integers entry (Put (Select info))
+    by true e = absurd (cc)
+    by false e = refl
+integer_is_of_integers entry Nop0 other = refl
+integer_is_of_integers entry inst other = refl
+
 family_is_of_integers : (family : Family) (entry : Entry) (inst : Inst) → is_integer_family family ≡ true → not (operands_of inst).floats ≡ true → meaning_by family entry inst ≡ of_integers entry (Put inst)
 family_is_of_integers Pseudo entry inst core other = refl
-family_is_of_integers Integer entry inst core other = refl
+family_is_of_integers Integer entry inst core other = integer_is_of_integers entry inst other
 family_is_of_integers Memory entry inst core other = memory_is_of_integers entry inst other
 family_is_of_integers Control entry inst core other = refl
 family_is_of_integers Loop entry inst core other = refl

@@ -39,6 +39,9 @@ mod IslandEnds
 mod FullRuns
 mod OneComes
 mod LinesComeOut
+mod RowLines
 mod UnitLines
 mod FloatLines
+mod FloatMoves
+mod FloatChoices
 mod OtherLines

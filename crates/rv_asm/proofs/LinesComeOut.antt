@@ -86,7 +86,6 @@ module _ (job : Job) (code : Code) (known : Known) (t : IsThreaded job code know
       } in
       let led = reaches job code known t base symbols slots b.state.values.mem s.placed i (slice_get_within job.lines i (Put inst) listed) free made.ints c.state Next tt e in
       let r = led.reached in
-      let moved = g.moved in
       record {
         steps = r.steps + g.steps;
         state = put r.state c;
@@ -101,7 +100,7 @@ module _ (job : Job) (code : Code) (known : Known) (t : IsThreaded job code know
           effect = record { ints = r.same; units = g.same.units };
           leads = subst (λ x. Leads job.lines code i x led.point) (sym exit) led.leads;
         };
-        moved = λ back. omega arith;
+        moved = λ back. let moved = r.moved back in omega arith;
         answers = g.answers;
         stands = record {
           pc = r.stands;

@@ -1,7 +1,8 @@
 -- What a line means on the machine with all units: what it makes of the values with the units' answers. Each family of instructions is
 -- a case: those of integers take no answer, and leave the units as they were; a float operation does what its row does. A load or a store
--- of a floating-point register takes no answer either.
-use Rattle.std.specs.Prelude.{ℕ, ◌&&◌, Bool, true, List, [], ◌∷◌, Option, Some, None}
+-- of a floating-point register takes no answer either. A move of a floating-point register does what its operation's row does, and a choice
+-- copies its registers exactly, of any class.
+use Rattle.std.specs.Prelude.{ℕ, ◌&&◌, Bool, true, if◌then◌else◌, List, [], ◌∷◌, Option, Some, None}
 use Rattle.rv_base.specs.declared.amode.AMode.{AMode}
 use Rattle.rv_base.specs.declared.regs.Reg.{Reg}
 use Rattle.rv_base.specs.Regs.{number_of}
@@ -10,11 +11,13 @@ use Rattle.rv_inst.specs.Core.{is_integer_line}
 use Rattle.rv_inst.specs.declared.inst.Family.{Family}
 use Rattle.rv_inst.specs.declared.inst.Family.TheVariants.{Pseudo, Integer, Memory, Control, Loop, Symbols, Calls, Float}
 use Rattle.rv_inst.specs.declared.inst.Inst.{Inst}
-use Rattle.rv_inst.specs.declared.inst.Inst.TheVariants.{Load, Store}
+use Rattle.rv_inst.specs.declared.inst.Inst.TheVariants.{Load, Store, Mov, Select}
 use Rattle.rv_inst.specs.declared.inst.Line.{Line}
 use Rattle.rv_inst.specs.declared.inst.Line.TheVariants.{Inst as Put, Bind}
 use Rattle.rv_inst.specs.Families.{family_of}
 use Rattle.rv_inst.specs.Meaning.{Environment, address_of, addresses_from, writes_of}
+use Rattle.rv_inst.specs.declared.inst.SelectInfo.{SelectInfo}
+use Rattle.rv_inst.specs.Operands.{is_float, operands_of}
 use Rattle.rv_inst.specs.Sizes.{operation_of}
 use Rattle.rv_machine.specs.declared.decoding.Decoded.{Decoded}
 use Rattle.rv_machine.specs.declared.ops.FloatFormat.{FloatFormat}
@@ -25,7 +28,7 @@ use Rattle.rv_full.specs.Rows.{Row, Absent, Does, Takes, row_takes}
 use Rattle.rv_full.specs.UnitRows.{unit_row}
 use Rattle.rv_full.specs.Units.{FullValues}
 pub use Rattle.rv_code.specs.FloatAccesses.{float_loaded, float_stored}
-pub use Rattle.rv_code.specs.FullValues.{SameFull, SameFullBut}
+pub use Rattle.rv_code.specs.FullValues.{SameFull, SameFullBut, chosen}
 use Rattle.rv_asm.specs.Simulation.{Entry, AtStart, AtReturn, effect_from}
 
 -- What a line means from where it is entered: the values that come of values and answers, with the answers that are left; the addresses
@@ -93,6 +96,28 @@ of_float_store format src to = record {
   own_of = λ took. took;
 }
 
+-- a move of a floating-point register does nothing where it is one to itself, and else the row of its operation
+abbrev pub move_row : Option Decoded → FullValues → Row
+move_row None v = Does v
+move_row (Some d) v = unit_row d v
+
+abbrev pub of_float_move : Inst → FullMeaning
+of_float_move inst = record {
+  takes = λ env v answers. row_takes (move_row (operation_of (context_by env.flags env.frame []) inst) v) answers;
+  writes = λ env v answers. [];
+  own_answers = λ env v. answers_of (move_row (operation_of (context_by env.flags env.frame []) inst) v);
+  own_of = λ took. took;
+}
+
+-- a choice of values of any class is exact
+abbrev pub of_choice : SelectInfo → FullMeaning
+of_choice info = record {
+  takes = λ env v answers. Some (chosen info v, answers);
+  writes = λ env v answers. [];
+  own_answers = λ env v. 0;
+  own_of = λ took. took;
+}
+
 -- by the format of the register, where it is a floating-point one; else as of integers
 abbrev pub of_access : Option FloatFormat → (FloatFormat → FullMeaning) → FullMeaning → FullMeaning
 of_access None of_float integers = integers
@@ -103,9 +128,15 @@ of_memory entry (Load rd op flags from) = of_access (load_format op) (λ format.
 of_memory entry (Store src op flags to) = of_access (store_format op) (λ format. of_float_store format src to) (of_integers entry (Put (Store src op flags to)))
 of_memory entry inst = of_integers entry (Put inst)
 
+-- of the instructions that write integer registers, moves and choices write floating-point registers as well
+abbrev pub of_integer : Entry → Inst → FullMeaning
+of_integer entry (Mov rd rm type) = if is_float rd.reg then of_float_move (Mov rd rm type) else of_integers entry (Put (Mov rd rm type))
+of_integer entry (Select info) = if (operands_of (Select info)).floats then of_choice info else of_integers entry (Put (Select info))
+of_integer entry inst = of_integers entry (Put inst)
+
 abbrev pub meaning_by : Family → Entry → Inst → FullMeaning
 meaning_by Pseudo entry inst = of_integers entry (Put inst)
-meaning_by Integer entry inst = of_integers entry (Put inst)
+meaning_by Integer entry inst = of_integer entry inst
 meaning_by Memory entry inst = of_memory entry inst
 meaning_by Control entry inst = of_integers entry (Put inst)
 meaning_by Loop entry inst = of_integers entry (Put inst)

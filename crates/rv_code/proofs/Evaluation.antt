@@ -16,9 +16,9 @@ use Rattle.rv_ops.specs.declared.alu.AluOPRRI.{AluOPRRI}
 use Rattle.rv_ops.specs.Operations.{rri_op}
 use Rattle.rv_encode.specs.Operations.{load_op, store_op}
 use Rattle.rv_inst.specs.Meaning.{alu_rrr, alu_rri}
-use Rattle.rv_code.specs.Evaluation.{Point, at as points, to, address, effect, wrote, AllOutside, next, and_then, evaluate, StandIn, IsAtPoint, ComesToPoint}
+use Rattle.rv_code.specs.Evaluation.{Point, at as points, to, address, is_of_integers, effect, wrote, AllOutside, next, and_then, evaluate, StandIn, IsAtPoint, ComesToPoint}
 use Rattle.rv_code.specs.Operations.{short_jump}
-use Rattle.rv_code.specs.Pieces.{Action, Rrr, Rri, Lui, Load, Store, Piece, Do, Branch, Jump, New, Bind, Go, Trap, branches, op_of, slots_of, piece_size, trap_bytes, after, IsInRange, AreInRange}
+use Rattle.rv_code.specs.Pieces.{Action, Rrr, Rri, Lui, Load, Store, Copy, Piece, Do, Branch, Jump, New, Bind, Go, Trap, branches, op_of, slots_of, piece_size, trap_bytes, after, IsInRange, AreInRange}
 use Rattle.rv_code.specs.Sites.{Site, CodeHas, IsPlacedAt, StandsIn}
 use Rattle.rv_code.specs.Slots.{own_label, between}
 use Rattle.rv_code.proofs.CodeSteps.{istep_here, at_next, aims_at}
@@ -39,14 +39,16 @@ action_sized flags (Rri op rd rs imm) = rri_sized flags op rd rs imm
 action_sized flags (Lui rd imm) = lui_sized flags rd imm
 action_sized flags (Load op rd base offset) = load_sized flags op rd base offset
 action_sized flags (Store op base src offset) = store_sized flags op base src offset
+action_sized flags (Copy width rd rs) = record { even = refl; some = lit< tt; few = lit≤ tt }
 
--- in whatever form it stands
-action_acts : (flags : IsaFlags) (a : Action) (s : State) → IsInRange a → IsState s → act (op_of flags a) s ≡ Some (at (wrap (s.pc + (op_of flags a).len)) (effect a s.values))
-action_acts flags (Rrr op rd a b) s h is = rrr_acts flags op rd a b s is
-action_acts flags (Rri op rd rs imm) s h is = rri_acts flags op rd rs imm s h.1 is
-action_acts flags (Lui rd imm) s h is = lui_acts flags rd imm s is
-action_acts flags (Load op rd base offset) s h is = load_acts flags op rd base offset s h.1 is
-action_acts flags (Store op base src offset) s h is = store_acts flags op base src offset s h is
+-- one of integers, in whatever form it stands
+action_acts : (flags : IsaFlags) (a : Action) (s : State) → is_of_integers a ≡ true → IsInRange a → IsState s → act (op_of flags a) s ≡ Some (at (wrap (s.pc + (op_of flags a).len)) (effect a s.values))
+action_acts flags (Rrr op rd a b) s e h is = rrr_acts flags op rd a b s is
+action_acts flags (Rri op rd rs imm) s e h is = rri_acts flags op rd rs imm s h.1 is
+action_acts flags (Lui rd imm) s e h is = lui_acts flags rd imm s is
+action_acts flags (Load op rd base offset) s e h is = load_acts flags op rd base offset s h.1 is
+action_acts flags (Store op base src offset) s e h is = store_acts flags op base src offset s h is
+action_acts flags (Copy width rd rs) s e h is = absurd (cc)
 
 pub effect_values : (a : Action) (v : Values) → IsInRange a → AreValues v → AreValues (effect a v)
 effect_values (Rrr op rd a b) v h hv = are_values_set v rd (alu_rrr op (reg v a) (reg v b)) hv h (rrr_fits op (reg v a) (reg v b) (hv.fits a) (hv.fits b))
@@ -54,6 +56,7 @@ effect_values (Rri op rd rs imm) v h hv = are_values_set v rd (alu_rri op (reg v
 effect_values (Lui rd imm) v h hv = are_values_set v rd (wrap (low64 imm * 2 ^ 12)) hv h (omega arith)
 effect_values (Load op rd base offset) v h hv = are_values_set v rd (load_result (load_op op) v.mem (address v base offset)) hv h.0 (load_fits (load_op op) v.mem (address v base offset) hv.bytes)
 effect_values (Store op base src offset) v h hv = put_values v (address v base offset) (store_bytes (store_op op) (reg v src)) hv (stored_bytes op (reg v src))
+effect_values (Copy width rd rs) v h hv = hv
 
 -- it leaves the code as it was
 effect_placed : (site : Site) (a : Action) (v : Values) (m : List (List ℕ)) → AllOutside site (wrote a v m) → IsPlacedAt site v.mem → IsPlacedAt site (effect a v).mem
@@ -62,6 +65,7 @@ effect_placed site (Rri op rd rs imm) v m out placed = placed
 effect_placed site (Lui rd imm) v m out placed = placed
 effect_placed site (Load op rd base offset) v m out placed = placed
 effect_placed site (Store op base src offset) v m out placed = placed_after site v.mem (address v base offset) (store_bytes (store_op op) (reg v src)) placed out.0
+effect_placed site (Copy width rd rs) v m out placed = placed
 
 -- what was written before is outside, too
 wrote_earlier : (site : Site) (a : Action) (v : Values) (m : List (List ℕ)) → AllOutside site (wrote a v m) → AllOutside site m
@@ -70,6 +74,7 @@ wrote_earlier site (Rri op rd rs imm) v m out = out
 wrote_earlier site (Lui rd imm) v m out = out
 wrote_earlier site (Load op rd base offset) v m out = out
 wrote_earlier site (Store op base src offset) v m out = out.1
+wrote_earlier site (Copy width rd rs) v m out = out
 
 -- ---- a branch
 
@@ -104,7 +109,7 @@ piece_even flags (Go l) = let e = window_long flags in let h = least_even flags 
 piece_even flags (Trap code) = trap_even flags
 
 -- what stands after the first piece
-rest : {site : Site} {allocated start end : ℕ} (p : Piece) (ps : List Piece) → StandIn site allocated start end (p ∷ ps) → StandIn site allocated (start + piece_size site.context.flags p) end ps
+pub rest : {site : Site} {allocated start end : ℕ} (p : Piece) (ps : List Piece) → StandIn site allocated start end (p ∷ ps) → StandIn site allocated (start + piece_size site.context.flags p) end ps
 rest {site} {allocated} {start} {end} p ps k = record {
   stand = by p k.stand;
   even = let a = k.even in let b = piece_even site.context.flags p in omega arith;
@@ -175,15 +180,15 @@ steps_once : {site : Site} {allocated start end : ℕ} {p : Point} {s : State} (
 steps_once {site} {s = s} t e h = record { state = t; steps = 1; few = lit≤ tt; ran = iter_one site.context.flags s t e; there = h }
 
 -- an operation is done
-does : {site : Site} {allocated start end : ℕ} {ps : List Piece} {v : Values} {m : List (List ℕ)} {s : State} (a : Action) → AllOutside site (wrote a v m) → IsAtPoint site allocated start end (points (Do a ∷ ps) v m) s → ComesToPoint 1 site allocated start end (points ps (effect a v) (wrote a v m)) s
-does {site} {allocated} {start} {end} {ps} {v} {m} {s} a out h =
+does : {site : Site} {allocated start end : ℕ} {ps : List Piece} {v : Values} {m : List (List ℕ)} {s : State} (a : Action) → is_of_integers a ≡ true → AllOutside site (wrote a v m) → IsAtPoint site allocated start end (points (Do a ∷ ps) v m) s → ComesToPoint 1 site allocated start end (points ps (effect a v) (wrote a v m)) s
+does {site} {allocated} {start} {end} {ps} {v} {m} {s} a of out h =
     let flags = site.context.flags in
     let d = op_of flags a in
     let t = at (wrap (s.pc + d.len)) (effect a s.values) in
     let sized = action_sized flags a in
     let some = sized.some in
     let within = h.within in
-    steps_once t (istep_here d [] t h.here (omega arith) h.stand.stand.0 (action_acts flags a s h.stand.ranges.0 h.is_state)) (record {
+    steps_once t (istep_here d [] t h.here (omega arith) h.stand.stand.0 (action_acts flags a s of h.stand.ranges.0 h.is_state)) (record {
       offset = h.offset + d.len;
       within = omega arith;
       here = at_next d.len t h.here sized.even refl (effect_placed site a s.values m (subst (λ w. AllOutside site (wrote a w m)) (sym h.values) out) h.here.placed);
@@ -224,10 +229,13 @@ passes {site} {allocated} {start} {end} {ps} {s = s} p none h = stays (record {
   values = h.values;
 })
 
-one : {site : Site} {allocated start end : ℕ} (whole : List Piece) → StandIn site allocated start end whole → (ps : List Piece) (v : Values) (m : List (List ℕ)) (q : Point) (s : State) → next whole ps v m ≡ Some q → AllOutside site q.written → IsAtPoint site allocated start end (points ps v m) s → ComesToPoint 1 site allocated start end q s
+pub one : {site : Site} {allocated start end : ℕ} (whole : List Piece) → StandIn site allocated start end whole → (ps : List Piece) (v : Values) (m : List (List ℕ)) (q : Point) (s : State) → next whole ps v m ≡ Some q → AllOutside site q.written → IsAtPoint site allocated start end (points ps v m) s → ComesToPoint 1 site allocated start end q s
 one whole k [] v m q s e out h = absurd (cc)
-one {site} {allocated} {start} {end} whole k (Do a ∷ ps) v m q s e out h =
-    subst (λ q. ComesToPoint 1 site allocated start end q s) (same_Some _ q e) (does a (subst (λ (p : Point). AllOutside site p.written) (sym (same_Some _ q e)) out) h)
+one {site} {allocated} {start} {end} whole k (Do a ∷ ps) v m q s e out h = by (is_of_integers a) refl e
+  where
+    by : (c : Bool) → is_of_integers a ≡ c → (if c then Some (points ps (effect a v) (wrote a v m)) else None) ≡ Some q → ComesToPoint 1 site allocated start end q s
+    by true of e = subst (λ q. ComesToPoint 1 site allocated start end q s) (same_Some _ q e) (does a of (subst (λ (p : Point). AllOutside site p.written) (sym (same_Some _ q e)) out) h)
+    by false of e = absurd (cc)
 one {site} {allocated} {start} {end} whole k (Branch how a b j ∷ ps) v m q s e out h = by (holds how (reg s.values a) (reg s.values b)) refl (ap (λ w. if holds how (reg w a) (reg w b) then to (after j whole) v m else Some (points ps v m)) h.values ∙ e)
   where
     aim : StandsIn site allocated h.offset (slots_of site.context.flags (Branch how a b j ∷ ps))
@@ -274,7 +282,11 @@ one whole k (Trap code ∷ ps) v m q s e out h = absurd (cc)
 -- what was written before is outside, where all is
 one_earlier : (site : Site) (whole ps : List Piece) (v : Values) (m : List (List ℕ)) (q : Point) → next whole ps v m ≡ Some q → AllOutside site q.written → AllOutside site m
 one_earlier site whole [] v m q e out = absurd (cc)
-one_earlier site whole (Do a ∷ ps) v m q e out = wrote_earlier site a v m (subst (λ (p : Point). AllOutside site p.written) (sym (same_Some _ q e)) out)
+one_earlier site whole (Do a ∷ ps) v m q e out = by (is_of_integers a) e
+  where
+    by : (c : Bool) → (if c then Some (points ps (effect a v) (wrote a v m)) else None) ≡ Some q → AllOutside site m
+    by true e = wrote_earlier site a v m (subst (λ (p : Point). AllOutside site p.written) (sym (same_Some _ q e)) out)
+    by false e = absurd (cc)
 one_earlier site whole (Branch how a b k ∷ ps) v m q e out = by (holds how (reg v a) (reg v b)) (after k whole) e
   where
     by : (c : Bool) (o : Option (List Piece)) → (if c then to o v m else Some (points ps v m)) ≡ Some q → AllOutside site m

@@ -58,7 +58,6 @@ exact_out {site} {start} {after} {d} {made = made} {b = b} y w fit =
     record {
       steps = 1 + y.goes.steps;
       state = full_at pc w.after b.answers;
-      moved = omega arith;
       ran = fiter_after flags 1 y.goes.steps b c (integer_run flags y.goes.steps t b y.goes.ran) ∙ fiter_one flags c (full_at pc w.after b.answers) next;
       pc = omega arith;
       same = record { ints = same_but [] w.same.ints; units = w.same.units };

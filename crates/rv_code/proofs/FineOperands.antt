@@ -8,7 +8,7 @@ use Rattle.rv_inst.specs.UnitWords.{unit_of}
 use Rattle.rv_inst.specs.declared.inst.Inst.{Inst}
 use Rattle.rv_inst.specs.declared.inst.Inst.TheVariants.{Nop0, Nop4, EBreak, SequencePoint, Args, Rets, DummyUse, EmitIsland, RawData, Lui, Auipc, LoadInlineConst, AluRRR, AluRRImm12, Mov, MovFromPReg, Extend, Select, Load, Store, LoadAddr, LabelAddress, Ret, TrapIf, Jal, CondBr, BrTable, Udf, Jalr, Popcnt, Cltz, Brev8, StackProbeLoop, LoadExtNameGot, LoadExtNameNear, LoadExtNameFar, Call, CallInd, ReturnCall, ReturnCallInd, Unwind}
 use Rattle.rv_code.specs.Usable.{IsFine}
-use Rattle.rv_code.proofs.Operands.{Keeps, keeps, are_usable, data_kept, constant_kept, move_usable, preg_usable, trap_if_usable, call_usable, not_false, listed, listed_targets, listed_try}
+use Rattle.rv_code.proofs.Operands.{Keeps, keeps, are_usable, data_kept, constant_kept, move_kept, preg_usable, trap_if_usable, call_usable, not_false, listed, listed_targets, listed_try}
 use Rattle.rv_code.proofs.AddressOperands.{load_fine, store_fine, load_addr_fine, label_address_fine}
 use Rattle.rv_code.proofs.UnitRules.{unit_fine}
 use Rattle.rv_code.proofs.CallRules.{call_kept, call_ind_kept}
@@ -37,7 +37,7 @@ fine context inst e = kept inst (keeps context inst e) (breaks_none context inst
     kept (LoadInlineConst rd type imm) k there = (constant_kept rd type imm k).usable.0
     kept (AluRRR op rd rs1 rs2) k there = let all = are_usable (rd.reg ∷ rs1 ∷ rs2 ∷ []) k.real k.placed k.free in (all.0.0, all.1.0.0, all.1.1.0.0)
     kept (AluRRImm12 op rd rs imm) k there = let all = are_usable (rd.reg ∷ rs ∷ []) k.real k.placed k.free in (all.0.0, all.1.0.0)
-    kept (Mov rd rm type) k there = let both = move_usable rd rm type k in (both.0.0, both.1.0)
+    kept (Mov rd rm type) k there = move_kept rd rm type k
     kept (MovFromPReg rd rm) k there = let both = preg_usable rd rm k in (both.0.0, both.1.0)
     kept (Extend rd rn signed from_bits to_bits) k there = let h = extend_kept rd rn signed from_bits to_bits k in (h.0.0, h.1.0, h.2, h.3)
     kept (Select info) k there = select_fine info.dst info.condition info.x info.y k

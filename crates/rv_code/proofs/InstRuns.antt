@@ -29,6 +29,7 @@ use Rattle.rv_code.proofs.InstConstants.{constant_runs}
 use Rattle.rv_code.proofs.PopcntRuns.{popcnt_runs}
 use Rattle.rv_code.proofs.CountRules.{is_count}
 use Rattle.rv_code.proofs.ExtendRuns.{extend_runs}
+use Rattle.rv_code.proofs.ChoiceRules.{all_integers}
 use Rattle.rv_code.proofs.SelectRuns.{select_runs}
 use Rattle.rv_code.proofs.ZerosRuns.{zeros_runs}
 use Rattle.rv_code.proofs.ReverseRuns.{reverse_runs}
@@ -71,10 +72,10 @@ kept_runs site setting (Auipc rd imm) core k r = auipc_runs site setting rd imm 
 kept_runs site setting (LoadInlineConst rd type imm) core k r = let c = constant_kept rd type imm k in constant_runs site setting rd type imm c.usable c.counted c.typed
 kept_runs site setting (AluRRR op rd rs1 rs2) core k r = let all = are_usable (rd.reg ∷ rs1 ∷ rs2 ∷ []) k.real k.placed k.free in alu_rrr_runs site setting op rd rs1 rs2 all.0 all.1.0 all.1.1.0
 kept_runs site setting (AluRRImm12 op rd rs imm) core k r = let all = are_usable (rd.reg ∷ rs ∷ []) k.real k.placed k.free in alu_rri_runs site setting op rd rs imm all.0 all.1.0 k.ranged
-kept_runs site setting (Mov rd rm type) core k r = let both = move_usable rd rm type k in mov_runs site setting rd rm type both.0 both.1
+kept_runs site setting (Mov rd rm type) core k r = let both = move_usable rd rm type core k in mov_runs site setting rd rm type both.0 both.1
 kept_runs site setting (MovFromPReg rd rm) core k r = let both = preg_usable rd rm k in mov_from_preg_runs site setting rd rm both.0 both.1
 kept_runs site setting (Extend rd rn signed from_bits to_bits) core k r = extend_runs site setting rd rn signed from_bits to_bits k
-kept_runs site setting (Select info) core k r = select_runs site setting info k
+kept_runs site setting (Select info) core k r = select_runs site setting info (all_integers info core k) k
 kept_runs site setting (Load rd op flags from) core k r = let integer = not_true (is_float_load op) core in let a = load_kept site.context.frame rd op flags from integer k in load_runs site setting rd op flags from integer a.usable a.based a.real
 kept_runs site setting (Store src op flags to) core k r = let integer = not_true (is_float_store op) core in let a = store_kept site.context.frame to op flags src integer k in store_runs site setting to op flags src integer a.0 a.1
 kept_runs site setting (LoadAddr rd mem) core k r = let a = load_addr_kept site.context.frame rd mem k in load_addr_runs site setting rd mem a.usable a.real a.based a.apart

@@ -4,9 +4,10 @@ use Rattle.std.specs.Prelude.{nat_eq, if◌then◌else◌}
 use Rattle.rv_base.specs.declared.ir_type.IrType.{IrType}
 use Rattle.rv_base.specs.declared.regs.PReg.{PReg}
 use Rattle.rv_base.specs.declared.regs.Reg.{Reg}
-use Rattle.rv_base.specs.declared.regs.Reg.TheVariants.{Real}
+use Rattle.rv_base.specs.declared.regs.Reg.TheVariants.{Real, Virtual as AVirtual}
+use Rattle.rv_base.specs.declared.regs.RegClass.TheVariants.{Int}
 use Rattle.rv_base.specs.declared.regs.Writable.{Writable}
-use Rattle.rv_base.specs.Regs.{number_of}
+use Rattle.rv_base.specs.Regs.{class_of, number_of}
 use Rattle.rv_imms.specs.declared.imm12.Imm12.{Imm12}
 use Rattle.rv_imms.specs.declared.imm20.Imm20.{Imm20}
 use Rattle.rv_ops.specs.declared.alu.AluOPRRR.{AluOPRRR}
@@ -30,6 +31,8 @@ use Rattle.rv_code.specs.Usable.{IsUsable}
 use Rattle.rv_code.specs.Pieces.{Rri, Do, slots_of}
 use Rattle.rv_code.specs.Slots.{Op, Part}
 use Rattle.rv_code.specs.Sites.{Site}
+use Rattle.rv_code.specs.Choices.{move_pieces}
+use Rattle.rv_encode.specs.Registers.{IsIntRegister}
 use Rattle.rv_code.specs.InstParts.{slots_alone}
 use Rattle.rv_code.specs.InstRuns.{Enters, Arrives, ComesOut, RunsIn, least_steps}
 use Rattle.rv_code.proofs.Chains.{goes_none, goes_at_least}
@@ -101,6 +104,10 @@ auipc_runs site setting rd imm h = record {
       h.1 (omega arith);
 }
 
+int_class : (r : Reg) → IsIntRegister r → class_of r ≡ Int
+int_class (Real p) h = h
+int_class (AVirtual class index) h = absurd h
+
 -- a move, by whether it is one to itself
 move_out : {site : Site} {start after : ℕ} {s : State} {v : Values} (own : Bool) (rd rs : ℕ) → nat_eq rd rs ≡ own → rd < 30 → rs < 30 → Enters site start after (slots_alone (slots_of site.context.flags (if own then [] else Do (Rri Addi rd rs (pos 0)) ∷ []))) s v → ComesOut site start after Next [] (set_reg v rd (reg v rs)) s
 move_out {site} {start} {after} {s} {v} true rd rs test h h1 e =
@@ -114,7 +121,11 @@ move_out {site} {start} {after} {s} {v} false rd rs test h h1 e =
     h (e.are_values.fits rs)
 
 pub mov_runs : (site : Site) (setting : EmitVState) (rd : Writable Reg) (rm : Reg) (type : IrType) → IsUsable rd.reg → IsUsable rm → RunsIn site setting (Mov rd rm type)
-mov_runs site setting rd rm type h h1 = record { run = λ start after s v e clear. move_out (nat_eq (number_of rd.reg) (number_of rm)) (number_of rd.reg) (number_of rm) refl h.1 h1.1 e }
+mov_runs site setting rd rm type h h1 = record {
+  run = λ start after s v e clear.
+      let n = number_of rd.reg in let x = number_of rm in
+      move_out (nat_eq n x) n x refl h.1 h1.1 (subst (λ c. Enters site start after (slots_alone (slots_of site.context.flags (move_pieces c type n x))) s v) (int_class rd.reg h.0) e);
+}
 
 pub mov_from_preg_runs : (site : Site) (setting : EmitVState) (rd : Writable Reg) (rm : PReg) → IsUsable rd.reg → IsUsable (Real rm) → RunsIn site setting (MovFromPReg rd rm)
 mov_from_preg_runs site setting rd rm h h1 = record { run = λ start after s v e clear. move_out (nat_eq (number_of rd.reg) rm.number) (number_of rd.reg) rm.number refl h.1 h1.1 e }

@@ -78,6 +78,9 @@ mod Reaching
 pub mod ClosedPieces
 pub mod MadeOfPieces
 pub mod UnitRuns
+mod FullRegisters
+mod FullPieces
+pub mod FullChoices
 pub mod UnitRules
 pub mod UnitWordRuns
 pub mod ExactRows
@@ -87,4 +90,3 @@ pub mod FloatAccessRuns
 mod FullStackRuns
 pub mod FullCallRuns
 pub mod FullReturnRuns
-pub mod MovedRegisters

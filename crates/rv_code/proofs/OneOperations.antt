@@ -1,8 +1,11 @@
 -- An instruction of one machine word becomes one operation, which is read where it starts.
 use Rattle.std.proofs.Common.{◌≡◌, ℕ, ◌+◌, Bool, true, false, List, [], ◌∷◌, ◌++◌, Option, Some, None, pos, refl, ap, subst, lit<}
-use Rattle.std.specs.Prelude.{nat_eq, if◌then◌else◌}
+use Rattle.std.specs.Prelude.{nat_eq, if◌then◌else◌, not}
 use Rattle.std.proofs.lemmas.Option.{same_Some}
-use Rattle.rv_base.specs.Regs.{number_of}
+use Rattle.rv_base.specs.Regs.{class_of, number_of}
+use Rattle.rv_base.specs.declared.ir_type.IrType.{IrType}
+use Rattle.rv_base.specs.declared.regs.RegClass.{RegClass}
+use Rattle.rv_base.specs.declared.regs.RegClass.TheVariants.{Int, Float, Vector}
 use Rattle.rv_base.specs.declared.flags.IsaFlags.{IsaFlags}
 use Rattle.rv_base.specs.declared.trap.TrapCode.{TrapCode}
 use Rattle.rv_machine.specs.declared.decoding.Decoded.{Decoded}
@@ -21,9 +24,11 @@ use Rattle.rv_inst.specs.UnitWords.{unit_of}
 use Rattle.rv_inst.specs.declared.inst.Inst.{Inst}
 use Rattle.rv_inst.specs.declared.inst.Inst.TheVariants.{Nop0, Nop4, EBreak, SequencePoint, Args, Rets, DummyUse, EmitIsland, RawData, Lui, Auipc, LoadInlineConst, AluRRR, AluRRImm12, Mov, MovFromPReg, Extend, Select, Load, Store, LoadAddr, LabelAddress, Ret, TrapIf, Jal, CondBr, BrTable, Udf, Jalr, Popcnt, Cltz, Brev8, StackProbeLoop, LoadExtNameGot, LoadExtNameNear, LoadExtNameFar, Call, CallInd, ReturnCall, ReturnCallInd, Unwind}
 use Rattle.rv_inst.specs.Context.{Context}
-use Rattle.rv_inst.specs.Sizes.{is_byte, address_operation, load_operation, store_operation, load_line_operation, store_line_operation, operation_of}
+use Rattle.rv_inst.specs.Sizes.{is_byte, address_operation, load_operation, store_operation, load_line_operation, store_line_operation, operation_of, move_operation}
 use Rattle.rv_code.specs.declared.state.EmitVState.{EmitVState}
 use Rattle.rv_code.specs.InstParts.{slots_alone, access_slots, address_slots, half_load_slots, half_store_slots, load_slots, load_line_slots, store_slots, store_line_slots, parts_of}
+use Rattle.rv_inst.specs.Operands.{is_float_class}
+use Rattle.rv_code.specs.Choices.{move_action, move_pieces}
 use Rattle.rv_code.specs.Pieces.{Action, Rri, Piece, Do, op_of, slots_of}
 use Rattle.rv_code.specs.Slots.{Slot, Op, Part}
 use Rattle.rv_code.specs.Sites.{Site, IsPlacedAt, CodeHas, PartsStand}
@@ -59,6 +64,18 @@ of_unit {d} trap x e = record { trap = trap; only = ap (λ (y : Decoded). slots_
 unless : {core : Bool} {d : Decoded} (flags : IsaFlags) (c : Bool) (a : Action) → is_integer_op (op_of flags a).op ≡ true → (if c then None else Some (op_of flags a)) ≡ Some d → IsAlone core (slots_alone (slots_of flags (if c then [] else Do a ∷ []))) d
 unless flags true a integer e = absurd (cc)
 unless flags false a integer e = alone (op_of flags a) integer e
+
+moves : {d : Decoded} (flags : IsaFlags) (class : RegClass) (type : IrType) (rd rs : ℕ) → move_operation flags class type rd rs ≡ Some d → IsAlone (not (is_float_class class)) (slots_alone (slots_of flags (move_pieces class type rd rs))) d
+moves flags Int type rd rs e = unless flags (nat_eq rd rs) (Rri Addi rd rs (pos 0)) (does_integer (short_rri_does flags Addi rd rs (pos 0))) e
+moves {d} flags Float type rd rs e = by (nat_eq rd rs) e
+  where
+    a : Action
+    a = move_action Float type rd rs
+
+    by : (c : Bool) → (if c then None else Some (op_of flags a)) ≡ Some d → IsAlone false (slots_alone (slots_of flags (if c then [] else Do a ∷ []))) d
+    by true e = absurd (cc)
+    by false e = of_unit None (op_of flags a) e
+moves flags Vector type rd rs e = unless flags (nat_eq rd rs) (Rri Addi rd rs (pos 0)) (does_integer (short_rri_does flags Addi rd rs (pos 0))) e
 
 only_where : {core : Bool} {d : Decoded} (flags : IsaFlags) (c : Bool) (a : Action) (others : List Piece) → is_integer_op (op_of flags a).op ≡ true → (if c then Some (op_of flags a) else None) ≡ Some d → IsAlone core (slots_alone (slots_of flags (if c then Do a ∷ [] else others))) d
 only_where flags true a others integer e = alone (op_of flags a) integer e
@@ -113,7 +130,7 @@ one_slot context setting (Auipc rd imm) d e = alone _ refl e
 one_slot context setting (LoadInlineConst rd type imm) d e = absurd (cc)
 one_slot context setting (AluRRR op rd rs1 rs2) d e = alone _ (does_integer (short_rrr_does context.flags op (number_of rd.reg) (number_of rs1) (number_of rs2))) e
 one_slot context setting (AluRRImm12 op rd rs imm) d e = alone _ (does_integer (short_rri_does context.flags op (number_of rd.reg) (number_of rs) imm.value)) e
-one_slot context setting (Mov rd rm type) d e = unless context.flags (nat_eq (number_of rd.reg) (number_of rm)) (Rri Addi (number_of rd.reg) (number_of rm) (pos 0)) (does_integer (short_rri_does context.flags Addi (number_of rd.reg) (number_of rm) (pos 0))) e
+one_slot context setting (Mov rd rm type) d e = moves context.flags (class_of rd.reg) type (number_of rd.reg) (number_of rm) e
 one_slot context setting (MovFromPReg rd rm) d e = unless context.flags (nat_eq (number_of rd.reg) rm.number) (Rri Addi (number_of rd.reg) rm.number (pos 0)) (does_integer (short_rri_does context.flags Addi (number_of rd.reg) rm.number (pos 0))) e
 one_slot context setting (Extend rd rn signed from_bits to_bits) d e = only_where context.flags (is_byte signed from_bits) (Rri Andi (number_of rd.reg) (number_of rn) (pos 255)) _ (does_integer (short_rri_does context.flags Andi (number_of rd.reg) (number_of rn) (pos 255))) e
 one_slot context setting (Select info) d e = absurd (cc)

@@ -1,5 +1,5 @@
 -- What an instruction that breaks no rule gives: integer registers below x30, numbers in range, and branches with a target.
-use Rattle.std.proofs.Common.{◌≡◌, ◌⊎◌, inl, inr, ℕ, ◌<◌, Bool, true, false, List, [], ◌∷◌, ◌++◌, length, Option, Some, None, arith, refl, ap, eqb-true}
+use Rattle.std.proofs.Common.{◌≡◌, ◌⊎◌, inl, inr, ℕ, ◌<◌, Bool, true, false, List, [], ◌∷◌, ◌++◌, length, Option, Some, None, arith, refl, sym, ap, subst, eqb-true}
 use Rattle.std.specs.Prelude.{nat_le, ◌||◌, ◌&&◌, ◌==◌, not}
 use Rattle.std.specs.List.{list_any}
 use Rattle.std.proofs.lemmas.Bool.Decides.{nat_tests}
@@ -21,16 +21,22 @@ use Rattle.rv_inst.specs.declared.inst.Inst.{Inst}
 use Rattle.rv_inst.specs.declared.inst.Inst.TheVariants.{RawData, LoadInlineConst, Mov, MovFromPReg, TrapIf, CallInd}
 use Rattle.rv_inst.specs.declared.inst.CondBrTarget.{CondBrTarget}
 use Rattle.rv_inst.specs.declared.inst.CondBrTarget.TheVariants.{Label as ToLabel, Fallthrough}
+use Rattle.rv_encode.specs.Registers.{IsRealRegister}
 use Rattle.rv_inst.specs.Context.{Context}
+use Rattle.rv_inst.specs.Core.{is_integer}
 use Rattle.rv_inst.proofs.Rules.{breaks_none}
 use Rattle.rv_inst.specs.declared.error.Rule.TheVariants as rule
-use Rattle.rv_inst.specs.Operands.{inst_registers, labels_of, targets_of, table_of, target_labels, try_call_of, try_labels}
-use Rattle.rv_inst.specs.Rules.{is_int_class, is_virtual, is_other_class, is_reserved, same_class, is_stack_or_frame, is_zero, is_misplaced, has_zero, has_clash, is_int_type, is_word_type, has_bad_type, is_out_of_range, has_bad_rounding, has_bad_width, has_empty_table, lacks_target, has_bad_size, is_buffer_label, inst_rule}
-use Rattle.rv_code.specs.Usable.{IsUsable, IsListed, IsFineTarget, IsFineTry}
+use Rattle.rv_inst.specs.Operands.{is_float_class, inst_registers, labels_of, targets_of, table_of, target_labels, try_call_of, try_labels}
+use Rattle.rv_inst.specs.Rules.{is_int_class, is_virtual, is_other_class, is_reserved, same_class, is_stack_or_frame, is_zero, is_misplaced, has_zero, has_clash, is_int_type, is_movable, is_word_type, has_bad_type, is_out_of_range, has_bad_rounding, has_bad_width, has_empty_table, lacks_target, has_bad_size, is_buffer_label, inst_rule}
+use Rattle.rv_code.specs.Usable.{IsMove, IsUsable, IsListed, IsFineTarget, IsFineTry}
 
 abbrev pub AreUsable : List Reg → Type 0
 AreUsable [] = Unit {0}
 AreUsable (r ∷ rs) = IsUsable r × AreUsable rs
+
+pub not_false : (a : Bool) → not a ≡ false → a ≡ true
+not_false true e = refl
+not_false false e = absurd (cc)
 
 pub or_left : (a b : Bool) → (a || b) ≡ false → a ≡ false
 or_left true b e = e
@@ -109,27 +115,43 @@ keeps context inst e = record {
 
 -- ---- moves
 
--- the registers of a move are usable: both have one class, and that of the source is Int
-class_usable : (r s : RegClass) → not (same_class r s) ≡ false → is_int_class s ≡ true → not (is_int_class r) ≡ false
-class_usable Int Int h g = refl
-class_usable Float Int h g = absurd (cc)
-class_usable Vector Int h g = absurd (cc)
-class_usable r Float h g = absurd (cc)
-class_usable r Vector h g = absurd (cc)
+-- the registers of a move have one class
+pub one_class : (r s : RegClass) → not (same_class r s) ≡ false → s ≡ r
+one_class Int Int h = refl
+one_class Int Float h = absurd (cc)
+one_class Int Vector h = absurd (cc)
+one_class Float Int h = absurd (cc)
+one_class Float Float h = refl
+one_class Float Vector h = absurd (cc)
+one_class Vector Int h = absurd (cc)
+one_class Vector Float h = absurd (cc)
+one_class Vector Vector h = refl
 
-not_and : (a b : Bool) → not (a && b) ≡ false → a ≡ true
-not_and true b e = refl
-not_and false b e = absurd (cc)
+pub is_real : (r : Reg) → is_virtual r ≡ false → IsRealRegister r
+is_real (Real p) e = refl
+is_real (AVirtual class index) e = absurd (cc)
 
-not_true : (a : Bool) → a ≡ true → not a ≡ false
-not_true true e = refl
-not_true false e = absurd (cc)
+pub move_kept : (rd : Writable Reg) (rm : Reg) (type : IrType) → Keeps (Mov rd rm type) → IsMove rd.reg rm type
+move_kept rd rm type k =
+    let class = one_class (class_of rd.reg) (class_of rm) k.placed in
+    record {
+      to = is_real rd.reg (or_left (is_virtual rd.reg) _ k.real);
+      from = is_real rm (or_left (is_virtual rm) _ (or_right (is_virtual rd.reg) _ k.real));
+      class = class;
+      typed = subst (λ c. is_movable c type ≡ true) class (not_false (is_movable (class_of rm) type) k.typed);
+    }
 
-pub move_usable : (rd : Writable Reg) (rm : Reg) (type : IrType) → Keeps (Mov rd rm type) → IsUsable rd.reg × IsUsable rm
-move_usable rd rm type k =
-    let int = not_and (is_int_class (class_of rm)) (is_int_type type) k.typed in
-    let others = class_usable (class_of rd.reg) (class_of rm) k.placed int in
-    let all = are_usable (rd.reg ∷ rm ∷ []) k.real (both others (not_true (is_int_class (class_of rm)) int)) k.free in
+-- where it is no floating-point register, it is an integer register
+int_class : (c : RegClass) (type : IrType) → not (is_float_class c) ≡ true → is_movable c type ≡ true → not (is_int_class c) ≡ false
+int_class Int type e h = refl
+int_class Float type e h = absurd (cc)
+int_class Vector type e h = absurd (cc)
+
+pub move_usable : (rd : Writable Reg) (rm : Reg) (type : IrType) → is_integer (Mov rd rm type) ≡ true → Keeps (Mov rd rm type) → IsUsable rd.reg × IsUsable rm
+move_usable rd rm type core k =
+    let m = move_kept rd rm type k in
+    let int = int_class (class_of rd.reg) type core m.typed in
+    let all = are_usable (rd.reg ∷ rm ∷ []) k.real (both int (subst (λ c. not (is_int_class c) ≡ false) (sym m.class) int)) k.free in
     (all.0, all.1.0)
   where
     both : {a b : Bool} → a ≡ false → b ≡ false → (a || (b || false)) ≡ false
@@ -160,10 +182,6 @@ size_kept n false false four eight e = absurd (cc)
 -- data has four or eight bytes
 pub data_kept : (bytes : List ℕ) → Keeps (RawData bytes) → (length bytes ≡ 4) ⊎ (length bytes ≡ 8)
 data_kept bytes k = size_kept (length bytes) (length bytes == 4) (length bytes == 8) refl refl k.sized
-
-pub not_false : (a : Bool) → not a ≡ false → a ≡ true
-not_false true e = refl
-not_false false e = absurd (cc)
 
 -- an integer register that isn't x0
 pub not_zero : (r : Reg) → IsUsable r → is_zero r ≡ false → 0 < number_of r

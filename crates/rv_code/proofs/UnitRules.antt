@@ -43,7 +43,7 @@ are_of_class (p ∷ places) e = (one_class (class_of p.reg) p.class (or_left (is
 pub unit_fine : (w : UnitWord) → list_any is_virtual (registers_in w.places) ≡ false → list_any is_out_of_place w.places ≡ false → not w.rounding ≡ false → not w.width ≡ false → IsFineUnit w
 unit_fine w real placed rounded wide = (are_real (registers_in w.places) real, are_of_class w.places placed, not_false w.rounding rounded, not_false w.width wide)
 
-below_30 : (n : ℕ) → nat_le 30 n ≡ false → n < 30
+pub below_30 : (n : ℕ) → nat_le 30 n ≡ false → n < 30
 below_30 n h = grind (arith, nat_tests)
 
 -- a register of the machine that has the class asked, and isn't x30 or x31

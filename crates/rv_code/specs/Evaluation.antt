@@ -1,5 +1,5 @@
 -- What pieces compute: values alone, with labels as places in the list.
-use Rattle.std.specs.Prelude.{◌≡◌, ℕ, ℤ, zero, suc, ◌+◌, ◌%◌, ◌*◌, ◌^◌, ◌≤◌, if◌then◌else◌, List, [], ◌∷◌, length, Option, Some, None}
+use Rattle.std.specs.Prelude.{◌≡◌, Bool, true, false, ℕ, ℤ, zero, suc, ◌+◌, ◌%◌, ◌*◌, ◌^◌, ◌≤◌, if◌then◌else◌, List, [], ◌∷◌, length, Option, Some, None}
 use Rattle.rv_base.specs.CondCodes.{holds}
 use Rattle.rv_machine.specs.Memory.{load_result, store_bytes}
 use Rattle.rv_machine.specs.State.{State, IsState, Values, reg, set_reg, wrap, low64}
@@ -7,7 +7,7 @@ use Rattle.rv_machine.specs.Steps.{iter}
 use Rattle.rv_encode.specs.Operations.{load_op, store_op}
 use Rattle.rv_inst.specs.Meaning.{alu_rrr, alu_rri, put_bytes, addresses_from, AreOutside}
 use Rattle.rv_code.specs.Chains.{IsAt}
-use Rattle.rv_code.specs.Pieces.{Action, Rrr, Rri, Lui, Load, Store, Piece, Do, Branch, Jump, New, Bind, Go, Trap, after, slots_of, pieces_size, AreInRange}
+use Rattle.rv_code.specs.Pieces.{Action, Rrr, Rri, Lui, Load, Store, Copy, Piece, Do, Branch, Jump, New, Bind, Go, Trap, after, slots_of, pieces_size, AreInRange}
 use Rattle.rv_code.specs.Sites.{Site, StandsIn}
 
 -- ---- values
@@ -16,6 +16,15 @@ use Rattle.rv_code.specs.Sites.{Site, StandsIn}
 abbrev pub address : Values → ℕ → ℤ → ℕ
 address v base offset = wrap (reg v base + low64 offset)
 
+-- whether an operation is one of integers; of any other the machine with all units alone says what it does
+abbrev pub is_of_integers : Action → Bool
+is_of_integers (Rrr op rd a b) = true
+is_of_integers (Rri op rd rs imm) = true
+is_of_integers (Lui rd imm) = true
+is_of_integers (Load op rd base offset) = true
+is_of_integers (Store op base src offset) = true
+is_of_integers (Copy width rd rs) = false
+
 -- what an operation makes of the values
 abbrev pub effect : Action → Values → Values
 effect (Rrr op rd a b) v = set_reg v rd (alu_rrr op (reg v a) (reg v b))
@@ -23,6 +32,7 @@ effect (Rri op rd rs imm) v = set_reg v rd (alu_rri op (reg v rs) imm)
 effect (Lui rd imm) v = set_reg v rd (wrap (low64 imm * 2 ^ 12))
 effect (Load op rd base offset) v = set_reg v rd (load_result (load_op op) v.mem (address v base offset))
 effect (Store op base src offset) v = put_bytes v (address v base offset) (store_bytes (store_op op) (reg v src))
+effect (Copy width rd rs) v = v
 
 -- the addresses that were written, store by store, once it writes its own
 abbrev pub wrote : Action → Values → List (List ℕ) → List (List ℕ)
@@ -31,6 +41,7 @@ wrote (Rri op rd rs imm) v m = m
 wrote (Lui rd imm) v m = m
 wrote (Load op rd base offset) v m = m
 wrote (Store op base src offset) v m = addresses_from (address v base offset) (length (store_bytes (store_op op) (reg v src))) ∷ m
+wrote (Copy width rd rs) v m = m
 
 -- the pieces that are still ahead, the values, and the addresses that were written
 pub record Point : Type 0 where
@@ -49,10 +60,10 @@ abbrev pub to : Option (List Piece) → Values → List (List ℕ) → Option Po
 to None v m = None
 to (Some ps) v m = Some (at ps v m)
 
--- one piece of a whole; none where it leads out of it
+-- one piece of a whole; none where it leads out of it, or is no operation of integers
 abbrev pub next : List Piece → List Piece → Values → List (List ℕ) → Option Point
 next whole [] v m = None
-next whole (Do a ∷ ps) v m = Some (at ps (effect a v) (wrote a v m))
+next whole (Do a ∷ ps) v m = if is_of_integers a then Some (at ps (effect a v) (wrote a v m)) else None
 next whole (Branch how a b k ∷ ps) v m = if holds how (reg v a) (reg v b) then to (after k whole) v m else Some (at ps v m)
 next whole (Jump k ∷ ps) v m = to (after k whole) v m
 next whole (New ∷ ps) v m = Some (at ps v m)

@@ -14,7 +14,9 @@ use Rattle.rv_base.specs.declared.regs.Reg.{Reg}
 use Rattle.rv_base.specs.declared.trap.TrapCode.{TrapCode}
 use Rattle.rv_base.specs.Frame.{sp_to_fp_of}
 use Rattle.rv_base.specs.IrType.{bits_of}
-use Rattle.rv_base.specs.Regs.{number_of}
+use Rattle.rv_base.specs.Regs.{class_of, number_of}
+use Rattle.rv_base.specs.declared.ir_type.IrType.TheVariants.{I64}
+use Rattle.rv_base.specs.declared.regs.RegClass.TheVariants.{Int}
 use Rattle.rv_ops.specs.declared.alu.AluOPRRR.TheVariants as rrr
 use Rattle.rv_ops.specs.declared.alu.AluOPRRI.TheVariants as rri
 use Rattle.rv_ops.specs.declared.memory.LoadOP.{LoadOP}
@@ -313,8 +315,8 @@ parts_of context setting (Auipc rd imm) = slots_alone (Op (decoded (Base base.Au
 parts_of context setting (LoadInlineConst rd type imm) = slots_alone (constant_slots context.flags (number_of rd.reg) type imm)
 parts_of context setting (AluRRR op rd rs1 rs2) = slots_alone (Op (short_rrr context.flags op (number_of rd.reg) (number_of rs1) (number_of rs2)) ∷ [])
 parts_of context setting (AluRRImm12 op rd rs imm) = slots_alone (Op (short_rri context.flags op (number_of rd.reg) (number_of rs) imm.value) ∷ [])
-parts_of context setting (Mov rd rm type) = slots_alone (slots_of context.flags (move_pieces (number_of rd.reg) (number_of rm)))
-parts_of context setting (MovFromPReg rd rm) = slots_alone (slots_of context.flags (move_pieces (number_of rd.reg) rm.number))
+parts_of context setting (Mov rd rm type) = slots_alone (slots_of context.flags (move_pieces (class_of rd.reg) type (number_of rd.reg) (number_of rm)))
+parts_of context setting (MovFromPReg rd rm) = slots_alone (slots_of context.flags (move_pieces Int I64 (number_of rd.reg) rm.number))
 parts_of context setting (Extend rd rn signed from_bits to_bits) = slots_alone (slots_of context.flags (extend_pieces (number_of rd.reg) (number_of rn) signed from_bits))
 parts_of context setting (Select info) = slots_alone (slots_of context.flags (select_pieces info))
 parts_of context setting (Load rd op flags from) = slots_alone (load_line_slots context.flags (number_of rd.reg) op flags.trap (location_of context.frame from))

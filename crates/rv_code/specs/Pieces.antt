@@ -6,6 +6,9 @@ use Rattle.rv_base.specs.declared.label.MachLabel.{MachLabel}
 use Rattle.rv_base.specs.declared.trap.TrapCode.{TrapCode}
 use Rattle.rv_ops.specs.declared.alu.AluOPRRR.{AluOPRRR}
 use Rattle.rv_ops.specs.declared.alu.AluOPRRI.{AluOPRRI}
+use Rattle.rv_ops.specs.declared.float_fields.FRM.TheVariants.{RNE}
+use Rattle.rv_ops.specs.declared.float_fields.FpuOPWidth.{FpuOPWidth}
+use Rattle.rv_ops.specs.declared.fpu.FpuOPRRR.TheVariants.{Fsgnj}
 use Rattle.rv_ops.specs.declared.memory.LoadOP.{LoadOP}
 use Rattle.rv_ops.specs.declared.memory.StoreOP.{StoreOP}
 use Rattle.rv_ops.specs.Compare.{branch_of, is_reversed}
@@ -14,7 +17,7 @@ use Rattle.rv_ops.specs.Operations.{immediate_of, shift_limit}
 use Rattle.rv_machine.specs.declared.decoding.Decoded.{Decoded}
 use Rattle.rv_machine.specs.declared.ops.MOp.TheVariants.{Base}
 use Rattle.rv_machine.specs.State.{low64}
-use Rattle.rv_encode.specs.Operations.{decoded, branch_op}
+use Rattle.rv_encode.specs.Operations.{decoded, branch_op, decoded_fpu_rrr}
 use Rattle.rv_inst.specs.Forms.{jump_kind, short_rrr, short_rri, short_lui, short_load, short_store}
 use Rattle.rv_inst.specs.LabelUse.{marks_of}
 use Rattle.rv_inst.specs.Rules.{is_beyond}
@@ -24,13 +27,14 @@ use Rattle.rv_code.specs.Operations.{short_jump}
 use Rattle.rv_code.specs.Slots.{Slot, Label, Own, Op, Aim, Data, Notes, Allocate, Here}
 
 -- an operation of the machine after which the next one is done: of two registers, or of a register and an immediate; an upper immediate
--- in a register; or a load or a store, at a register plus an offset
+-- in a register; a load or a store, at a register plus an offset; or the move of a floating-point register, of a number of some width
 pub data Action : Type 0 where
   Rrr : AluOPRRR → ℕ → ℕ → ℕ → Action
   Rri : AluOPRRI → ℕ → ℕ → ℤ → Action
   Lui : ℕ → ℤ → Action
   Load : LoadOP → ℕ → ℕ → ℤ → Action
   Store : StoreOP → ℕ → ℕ → ℤ → Action
+  Copy : FpuOPWidth → ℕ → ℕ → Action
 
 -- such an operation; a branch to an own label where two registers compare so, and a jump to one; an own label that is allocated, and one
 -- that is bound here; a jump to a label of the listing; or a trap
@@ -52,6 +56,7 @@ op_of flags (Rri op rd rs imm) = short_rri flags op rd rs imm
 op_of flags (Lui rd imm) = short_lui flags rd imm
 op_of flags (Load op rd base offset) = short_load flags op rd base offset
 op_of flags (Store op base src offset) = short_store flags op base src offset
+op_of flags (Copy width rd rs) = decoded_fpu_rrr Fsgnj width RNE rd rs rs
 
 -- the branch by a distance, where two registers compare so
 abbrev pub branches : IntCC → ℕ → ℕ → ℤ → Decoded
@@ -114,6 +119,7 @@ IsInRange (Rri op rd rs imm) = (rd < 32) × (is_beyond (shift_limit (immediate_o
 IsInRange (Lui rd imm) = rd < 32
 IsInRange (Load op rd base offset) = (rd < 32) × (is_float_load op ≡ false)
 IsInRange (Store op base src offset) = is_float_store op ≡ false
+IsInRange (Copy width rd rs) = rd < 32
 
 abbrev pub AreInRange : List Piece → Type 0
 AreInRange [] = Unit {0}

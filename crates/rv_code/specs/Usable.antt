@@ -9,6 +9,7 @@ use Rattle.rv_base.specs.declared.call.TryCallInfo.{TryCallInfo}
 use Rattle.rv_base.specs.declared.constant.Constant.{Constant}
 use Rattle.rv_base.specs.declared.amode.AMode.TheVariants.{RegOffset, SPOffset, FPOffset, SlotOffset, IncomingArg, Const, Label as ToLabel}
 use Rattle.rv_base.specs.AMode.{IsNear, base_of}
+use Rattle.rv_base.specs.declared.ir_type.IrType.{IrType}
 use Rattle.rv_base.specs.declared.regs.PReg.{PReg}
 use Rattle.rv_base.specs.declared.regs.Reg.{Reg}
 use Rattle.rv_base.specs.Regs.{class_of, number_of}
@@ -26,9 +27,10 @@ use Rattle.rv_inst.specs.UnitWords.{UnitWord, registers_in, unit_of}
 use Rattle.rv_inst.specs.declared.units.PlacedReg.{PlacedReg}
 use Rattle.rv_inst.specs.declared.inst.Inst.{Inst}
 use Rattle.rv_inst.specs.declared.inst.Inst.TheVariants.{Nop0, Nop4, EBreak, SequencePoint, Args, Rets, DummyUse, EmitIsland, RawData, Lui, Auipc, LoadInlineConst, AluRRR, AluRRImm12, Mov, MovFromPReg, Extend, Select, Load, Store, LoadAddr, LabelAddress, Ret, TrapIf, Jal, CondBr, BrTable, Udf, Jalr, Popcnt, Cltz, Brev8, StackProbeLoop, LoadExtNameGot, LoadExtNameNear, LoadExtNameFar, Call, CallInd, ReturnCall, ReturnCallInd, Unwind}
+use Rattle.rv_inst.specs.Generators.{canonical_type}
 use Rattle.rv_inst.specs.Operands.{all_of, written_in}
 use Rattle.rv_inst.specs.Returns.{result_load}
-use Rattle.rv_inst.specs.Rules.{is_int_type}
+use Rattle.rv_inst.specs.Rules.{is_int_type, is_movable}
 use Rattle.rv_inst.specs.declared.inst.CondBrTarget.{CondBrTarget}
 use Rattle.rv_inst.specs.declared.inst.CondBrTarget.TheVariants.{Label, Fallthrough}
 
@@ -85,18 +87,25 @@ abbrev pub IsApart : Reg → Option Reg → Type 0
 IsApart r None = Unit {0}
 IsApart r (Some base) = number_of r ≢ number_of base
 
--- one of these integer registers, or two
-abbrev pub AreInt : List Reg → Type 0
-AreInt [] = Unit {0}
-AreInt (r ∷ rs) = IsIntRegister r × AreInt rs
+-- one register that is moved to another of its class, as one of a type
+pub record IsMove (rd rm : Reg) (type : IrType) : Type 0 where
+  pub to : IsRealRegister rd
+  pub from : IsRealRegister rm
+  pub class : class_of rm ≡ class_of rd
+  pub typed : is_movable (class_of rd) type ≡ true
 
--- values in as many integer registers
+-- whole registers, each to its own
+abbrev pub AreMoves : List Reg → List Reg → Type 0
+AreMoves [] sources = Unit {0}
+AreMoves (rd ∷ rds) [] = Unit {0}
+AreMoves (rd ∷ rds) (rs ∷ sources) = IsMove rd rs (canonical_type (class_of rd)) × AreMoves rds sources
+
+-- values in as many registers, and a comparison of integer registers
 pub record IsFineChoice (to : ValueRegs (Writable Reg)) (condition : IntegerCompare) (first second : ValueRegs Reg) : Type 0 where
-  pub dst : AreInt (written_in to)
   pub rs1 : IsIntRegister condition.rs1
   pub rs2 : IsIntRegister condition.rs2
-  pub x : AreInt (all_of first)
-  pub y : AreInt (all_of second)
+  pub x : AreMoves (written_in to) (all_of first)
+  pub y : AreMoves (written_in to) (all_of second)
   pub x_count : count_of to ≡ count_of first
   pub y_count : count_of to ≡ count_of second
 
@@ -128,7 +137,7 @@ IsFine constants (Auipc rd imm) = IsIntRegister rd.reg
 IsFine constants (LoadInlineConst rd type imm) = IsIntRegister rd.reg
 IsFine constants (AluRRR op rd rs1 rs2) = IsIntRegister rd.reg × IsIntRegister rs1 × IsIntRegister rs2
 IsFine constants (AluRRImm12 op rd rs imm) = IsIntRegister rd.reg × IsIntRegister rs
-IsFine constants (Mov rd rm type) = IsIntRegister rd.reg × IsIntRegister rm
+IsFine constants (Mov rd rm type) = IsMove rd.reg rm type
 IsFine constants (MovFromPReg rd rm) = IsIntRegister rd.reg × IsIntRegister (Real rm)
 IsFine constants (Extend rd rn signed from_bits to_bits) = IsIntRegister rd.reg × IsIntRegister rn × (1 ≤ from_bits) × (from_bits ≤ 64)
 IsFine constants (Select info) = IsFineChoice info.dst info.condition info.x info.y

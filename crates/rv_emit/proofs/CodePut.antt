@@ -27,7 +27,9 @@ use Rattle.rv_emit.specs.Emission.{PutsAlone, PutsSlots}
 use Rattle.rv_code.specs.InstParts.{branch_to}
 use Rattle.rv_emit.specs.Puts.{Puts, IsPatchable}
 use Rattle.rv_code.specs.Slots.{Label, own_label}
-use Rattle.rv_code.specs.Choices.{move_pieces}
+use Rattle.rv_base.specs.declared.ir_type.IrType.{IrType}
+use Rattle.rv_base.specs.declared.regs.RegClass.{RegClass}
+use Rattle.rv_code.specs.Choices.{move_action, move_pieces}
 use Rattle.rv_code.specs.Pieces.{Action, Rri, Piece, Do, Branch, branches, slots_for, slots_of, pieces_most}
 use Rattle.rv_emit.specs.Code.{shown, pieces_of, AreSound, IsLabelled, IsUsableAt, IsBaseFor, IsNext}
 use Rattle.rv_emit.specs.declared.code.CodePiece.{CodePiece}
@@ -64,10 +66,13 @@ move_kept flags allocated f kept s t true a put = ap f put
 move_kept flags allocated f kept s t false a put = ap f (put.2 ∙ put.1.3) ∙ kept put.1.0 s
 
 -- whatever labels were allocated before
-pub move_puts : {flags : IsaFlags} (allocated rd rs : ℕ) (old new : Buffer) → PutsAlone flags (slots_of flags (move_pieces rd rs)) old new → Puts flags allocated (slots_of flags (move_pieces rd rs)) (shape_of old) (shape_of new)
-move_puts {flags} allocated rd rs old new p = subst (λ (b : Buffer). Puts flags allocated (slots_of flags (move_pieces rd rs)) (shape_of old) (shape_of b)) (sym p.2) (by (nat_eq rd rs) p.1.puts)
+pub move_puts : {flags : IsaFlags} (allocated : ℕ) (class : RegClass) (type : IrType) (rd rs : ℕ) (old new : Buffer) → PutsAlone flags (slots_of flags (move_pieces class type rd rs)) old new → Puts flags allocated (slots_of flags (move_pieces class type rd rs)) (shape_of old) (shape_of new)
+move_puts {flags} allocated class type rd rs old new p = subst (λ (b : Buffer). Puts flags allocated (slots_of flags (move_pieces class type rd rs)) (shape_of old) (shape_of b)) (sym p.2) (by (nat_eq rd rs) p.1.puts)
   where
-    by : (own : Bool) → Puts flags (allocated_of old) (slots_of flags (if own then [] else Do (Rri Addi rd rs (pos 0)) ∷ [])) (shape_of old) (shape_of p.0) → Puts flags allocated (slots_of flags (if own then [] else Do (Rri Addi rd rs (pos 0)) ∷ [])) (shape_of old) (shape_of p.0)
+    a : Action
+    a = move_action class type rd rs
+
+    by : (own : Bool) → Puts flags (allocated_of old) (slots_of flags (if own then [] else Do a ∷ [])) (shape_of old) (shape_of p.0) → Puts flags allocated (slots_of flags (if own then [] else Do a ∷ [])) (shape_of old) (shape_of p.0)
     by true put = put
     by false put = put
 

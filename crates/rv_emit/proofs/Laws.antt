@@ -54,10 +54,11 @@ pub use Rattle.rv_emit.proofs.PlacedBytes.{window_byte, window_length}
 -- the operation of an instruction of one machine word, where it starts, in its own form
 pub use Rattle.rv_code.proofs.OneOperations.{IsAlone, one_slot, stands_alone, has_operation, reads_operation}
 -- a step at a unit's operation, and what it does
-pub use Rattle.rv_code.proofs.UnitRuns.{fiter_one, unit_next_at, row_comes}
+pub use Rattle.rv_code.proofs.UnitRuns.{fiter_one, unit_next_at, row_comes, shape_agrees}
+-- a choice of registers of any class
+pub use Rattle.rv_code.proofs.FullChoices.{full_select}
 pub use Rattle.rv_code.proofs.UnitRules.{are_usable_in}
 pub use Rattle.rv_code.proofs.AddressOperands.{full_load_kept, full_store_kept}
-pub use Rattle.rv_code.proofs.MovedRegisters.{moves_integers, chooses_integers}
 pub use Rattle.rv_code.proofs.FloatAccessRuns.{full_load, full_store}
 pub use Rattle.rv_code.proofs.UnitWordRuns.{IsUnitOperation, parts_are, unit_operation}
 -- how long the operations of a jump by a register are

@@ -28,7 +28,11 @@ use Rattle.rv_emit.specs.Emission.{PutsAlone, PutsSlots}
 use Rattle.rv_code.specs.Slots.{Label, Slot, Op, Aim}
 use Rattle.rv_emit.specs.Puts.{PutsSlot}
 use Rattle.rv_code.specs.InstParts.{jump_to, wide_jump_to, branch_to, branch_slots}
-use Rattle.rv_code.specs.Choices.{move_pieces}
+use Rattle.rv_base.specs.declared.ir_type.IrType.{IrType}
+use Rattle.rv_base.specs.declared.regs.RegClass.{RegClass}
+use Rattle.rv_inst.specs.Sizes.{move_op}
+use Rattle.rv_code.specs.Choices.{move_action, move_pieces}
+use Rattle.rv_code.proofs.ChoicePieces.{move_by}
 use Rattle.rv_code.specs.Pieces.{Rri, Do, slots_of}
 use Rattle.rv_emit.proofs.OwnForms.{own_word}
 use Rattle.rv_emit.proofs.Encoded.{word_encodes, jump_patchable, half_jump_patchable, branch_patchable}
@@ -85,15 +89,16 @@ branch_and_jump {flags} kind t f old mid new x y =
     record { puts = (shape_of mid, subst (PutsSlot flags (allocated_of old) (branch_to kind (Label t)) (shape_of old)) (sym p.2) p.1, y.puts); sound = y.sound }
 
 -- no move to the same register, and a move to another
-pub move_same : (flags : IsaFlags) (rd rs : ℕ) (b : Buffer) → IsSoundBuffer b → rd ≡ rs → PutsAlone flags (slots_of flags (move_pieces rd rs)) b b
-move_same flags rd rs b sound same =
+pub move_same : (flags : IsaFlags) (class : RegClass) (type : IrType) (rd rs : ℕ) (b : Buffer) → IsSoundBuffer b → rd ≡ rs → PutsAlone flags (slots_of flags (move_pieces class type rd rs)) b b
+move_same flags class type rd rs b sound same =
     let e : nat_eq rd rs ≡ true = grind (arith, nat_tests) in
-    subst (λ c. PutsAlone flags (slots_of flags (if c then [] else Do (Rri Addi rd rs (pos 0)) ∷ [])) b b) (sym e) (none_put flags b sound)
+    subst (λ c. PutsAlone flags (slots_of flags (if c then [] else Do (move_action class type rd rs) ∷ [])) b b) (sym e) (none_put flags b sound)
 
-pub move_other : {flags : IsaFlags} (rd rs : ℕ) (old new : Buffer) → rd ≢ rs → PutsAlone flags (Op (short_rri flags Addi rd rs (pos 0)) ∷ []) old new → PutsAlone flags (slots_of flags (move_pieces rd rs)) old new
-move_other {flags} rd rs old new other p =
+pub move_other : {flags : IsaFlags} (class : RegClass) (type : IrType) (rd rs : ℕ) (old new : Buffer) → rd ≢ rs → PutsAlone flags (Op (move_op flags class type rd rs) ∷ []) old new → PutsAlone flags (slots_of flags (move_pieces class type rd rs)) old new
+move_other {flags} class type rd rs old new other p =
     let e : nat_eq rd rs ≡ false = grind (arith, nat_tests) in
-    subst (λ c. PutsAlone flags (slots_of flags (if c then [] else Do (Rri Addi rd rs (pos 0)) ∷ [])) old new) (sym e) p
+    subst (λ c. PutsAlone flags (slots_of flags (if c then [] else Do (move_action class type rd rs) ∷ [])) old new) (sym e)
+    (subst (λ d. PutsAlone flags (Op d ∷ []) old new) (move_by flags class type rd rs) p)
 
 -- ---- a branch by its targets
 

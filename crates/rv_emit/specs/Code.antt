@@ -1,8 +1,9 @@
 -- The code of an instruction as a value: the pieces that it is, and what these ask of the buffer into which they are put.
 use Rattle.std.specs.Prelude.{◌≡◌, ℕ, ◌+◌, ◌<◌, false, List, [], ◌∷◌, ◌++◌, None}
-use Rattle.rv_base.specs.Regs.{number_of}
+use Rattle.rv_base.specs.Regs.{class_of, number_of}
 use Rattle.mach_labels.specs.Table.{first_inner}
 use Rattle.rv_encode.specs.Registers.{IsIntRegister}
+use Rattle.rv_inst.specs.Generators.{canonical_type}
 use Rattle.rv_inst.specs.SameValues.{is_among}
 use Rattle.rv_inst.specs.declared.label_use.LabelUse.{LabelUse}
 use Rattle.mach_buffer.specs.Shape.{Shape, IsKnown}
@@ -10,13 +11,14 @@ use Rattle.rv_emit.specs.declared.code.CodePiece.{CodePiece}
 use Rattle.rv_emit.specs.declared.code.OwnLabels.{OwnLabels}
 use Rattle.rv_emit.specs.declared.code.CodePiece.TheVariants as code
 use Rattle.rv_code.specs.Choices.{move_pieces}
+use Rattle.rv_code.specs.Usable.{IsMove}
 use Rattle.rv_code.specs.Pieces.{Piece, Rrr, Rri, Do, Branch, Jump, New, Bind, Trap}
 
 -- the pieces that it is: one, but of a move of a register to itself none
 abbrev pub shown : CodePiece → List Piece
 shown (code.Rrr op rd rs1 rs2) = Do (Rrr op (number_of rd.reg) (number_of rs1) (number_of rs2)) ∷ []
 shown (code.Rri op rd rs imm) = Do (Rri op (number_of rd.reg) (number_of rs) imm.value) ∷ []
-shown (code.Move rd rs) = move_pieces (number_of rd.reg) (number_of rs)
+shown (code.Move rd rs) = move_pieces (class_of rd.reg) (canonical_type (class_of rd.reg)) (number_of rd.reg) (number_of rs)
 shown (code.Branch kind label) = Branch kind.kind (number_of kind.rs1) (number_of kind.rs2) label ∷ []
 shown (code.Jump label) = Jump label ∷ []
 shown code.New = New ∷ []
@@ -27,11 +29,11 @@ abbrev pub pieces_of : List CodePiece → List Piece
 pieces_of [] = []
 pieces_of (p ∷ ps) = shown p ++ pieces_of ps
 
--- integer registers
+-- integer registers, and two of one class in a move
 abbrev pub IsSound : CodePiece → Type 0
 IsSound (code.Rrr op rd rs1 rs2) = IsIntRegister rd.reg × IsIntRegister rs1 × IsIntRegister rs2
 IsSound (code.Rri op rd rs imm) = IsIntRegister rd.reg × IsIntRegister rs
-IsSound (code.Move rd rs) = IsIntRegister rd.reg × IsIntRegister rs
+IsSound (code.Move rd rs) = IsMove rd.reg rs (canonical_type (class_of rd.reg))
 IsSound (code.Branch kind label) = IsIntRegister kind.rs1 × IsIntRegister kind.rs2
 IsSound (code.Jump label) = Unit {0}
 IsSound code.New = Unit {0}

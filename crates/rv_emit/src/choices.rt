@@ -2,16 +2,17 @@
 
 ghost use Rattle.std.specs.Prelude.{◌≡◌, [], ◌∷◌, ◌+◌, ◌-◌, ◌<◌, ◌≤◌, ◌^◌, length, map, pos, OnOk, OnErr, true};
 ghost use Rattle.rv_base.specs.LabelUse.{code_limit};
-ghost use Rattle.rv_base.specs.Regs.{number_of};
+ghost use Rattle.rv_base.specs.Regs.{class_of, number_of};
 ghost use Rattle.rv_ops.specs.declared.alu.AluOPRRI.TheVariants.{Andi, Slli};
 ghost use Rattle.rv_encode.specs.Registers.{IsIntRegister};
 ghost use Rattle.mach_uses.specs.Labels.{inner_count};
 ghost use Rattle.mach_buffer.specs.Buffer.{bytes_of, allocated_of, spoiled_of};
+ghost use Rattle.rv_inst.specs.Generators.{canonical_type};
 ghost use Rattle.rv_inst.specs.Operands.{all_of, written_in};
 ghost use Rattle.rv_inst.specs.Sizes as sizes;
 ghost use Rattle.rv_code.specs.Choices.{choice_pieces, chosen_pieces, extend_pieces, same_numbers};
 ghost use Rattle.rv_code.specs.Pieces.{Rri, Do, slots_of};
-ghost use Rattle.rv_code.specs.Usable.{IsFineChoice};
+ghost use Rattle.rv_code.specs.Usable.{IsFineChoice, IsMove};
 ghost use Rattle.rv_emit.specs.Code.{pieces_of, AreSound, IsLabelled};
 ghost use Rattle.rv_emit.specs.Emitted.{IsSoundBuffer};
 ghost use Rattle.rv_emit.specs.Emission.{PutsAlone};
@@ -129,7 +130,7 @@ pub(crate) fn put_select(
     requires allocated { allocated_of sink.old < 2 ^ 29 }
     requires room { length (bytes_of sink.old) + 24 < code_limit }
     requires sound { IsSoundBuffer sink.old }
-    ensures slots { OnOk result (PutsAlone flags (slots_of flags (chosen_pieces (map number_of (written_in dst)) condition.kind (number_of condition.rs1) (number_of condition.rs2) (map number_of (all_of x)) (map number_of (all_of y)))) sink.old sink.new) }
+    ensures slots { OnOk result (PutsAlone flags (slots_of flags (chosen_pieces (written_in dst) condition.kind (number_of condition.rs1) (number_of condition.rs2) (all_of x) (all_of y))) sink.old sink.new) }
     ensures refused { OnErr result (spoiled_of sink.new ≡ true) }
 {
     if are_results(y, dst) {
@@ -166,7 +167,7 @@ fn put_choice(
     requires allocated { allocated_of sink.old < 2 ^ 29 }
     requires room { length (bytes_of sink.old) + 24 < code_limit }
     requires sound { IsSoundBuffer sink.old }
-    ensures slots { OnOk result (PutsAlone flags (slots_of flags (choice_pieces (map number_of (written_in dst)) (map number_of (all_of first)) (map number_of (all_of second)) skip.kind (number_of skip.rs1) (number_of skip.rs2))) sink.old sink.new) }
+    ensures slots { OnOk result (PutsAlone flags (slots_of flags (choice_pieces (written_in dst) (all_of first) (all_of second) skip.kind (number_of skip.rs1) (number_of skip.rs2))) sink.old sink.new) }
     ensures refused { OnErr result (spoiled_of sink.new ≡ true) }
 {
     match (dst, first, second) {
@@ -181,12 +182,11 @@ fn put_choice(
 }
 
 fn choice_of_one(rd: WritableReg, skip: IntegerCompare, r: Reg, s: Reg) -> [CodePiece; 5]
-    requires rd { IsIntRegister rd.reg }
     requires rs1 { IsIntRegister skip.rs1 }
     requires rs2 { IsIntRegister skip.rs2 }
-    requires r { IsIntRegister r }
-    requires s { IsIntRegister s }
-    ensures pieces { pieces_of result ≡ choice_pieces (number_of rd.reg ∷ []) (number_of r ∷ []) (number_of s ∷ []) skip.kind (number_of skip.rs1) (number_of skip.rs2) }
+    requires r { IsMove rd.reg r (canonical_type (class_of rd.reg)) }
+    requires s { IsMove rd.reg s (canonical_type (class_of rd.reg)) }
+    ensures pieces { pieces_of result ≡ choice_pieces (rd.reg ∷ []) (r ∷ []) (s ∷ []) skip.kind (number_of skip.rs1) (number_of skip.rs2) }
     ensures registers { AreSound result }
     ensures labels { IsLabelled 0 [] result }
 {
@@ -208,15 +208,13 @@ fn choice_of_two(
     t: Reg,
     u: Reg,
 ) -> [CodePiece; 7]
-    requires rd { IsIntRegister rd.reg }
-    requires sd { IsIntRegister sd.reg }
     requires rs1 { IsIntRegister skip.rs1 }
     requires rs2 { IsIntRegister skip.rs2 }
-    requires r { IsIntRegister r }
-    requires s { IsIntRegister s }
-    requires t { IsIntRegister t }
-    requires u { IsIntRegister u }
-    ensures pieces { pieces_of result ≡ choice_pieces (number_of rd.reg ∷ number_of sd.reg ∷ []) (number_of r ∷ number_of s ∷ []) (number_of t ∷ number_of u ∷ []) skip.kind (number_of skip.rs1) (number_of skip.rs2) }
+    requires r { IsMove rd.reg r (canonical_type (class_of rd.reg)) }
+    requires s { IsMove sd.reg s (canonical_type (class_of sd.reg)) }
+    requires t { IsMove rd.reg t (canonical_type (class_of rd.reg)) }
+    requires u { IsMove sd.reg u (canonical_type (class_of sd.reg)) }
+    ensures pieces { pieces_of result ≡ choice_pieces (rd.reg ∷ sd.reg ∷ []) (r ∷ s ∷ []) (t ∷ u ∷ []) skip.kind (number_of skip.rs1) (number_of skip.rs2) }
     ensures registers { AreSound result }
     ensures labels { IsLabelled 0 [] result }
 {

@@ -3,6 +3,7 @@
 ghost use Rattle.std.specs.Prelude.{◌≡◌, ℕ, [], ◌∷◌, ◌+◌, ◌<◌, ◌≤◌, ◌^◌, length, None, IfOk, OnOk, OnErr, true};
 ghost use Rattle.rv_base.specs.declared.flags.IsaFlags.{IsaFlags};
 ghost use Rattle.rv_base.specs.LabelUse.{code_limit};
+ghost use Rattle.rv_base.specs.Regs.{class_of, number_of};
 ghost use Rattle.rv_encode.specs.Registers.{IsIntRegister};
 ghost use Rattle.mach_labels.specs.Table.{first_inner};
 ghost use Rattle.mach_uses.specs.Labels.{inner_count};
@@ -11,6 +12,9 @@ ghost use Rattle.mach_buffer.specs.Shape.{IsKnown, with_allocated, with_label};
 ghost use Rattle.rv_emit.specs.Code.{shown, pieces_of, IsSound, AreSound, IsLabelled, IsUsableAt, IsBaseFor, IsNext};
 ghost use Rattle.rv_emit.specs.Emitted.{IsSoundBuffer};
 ghost use Rattle.rv_emit.specs.Emission.{PutsAlone, PutsSlots};
+ghost use Rattle.rv_inst.specs.Generators.{canonical_type};
+ghost use Rattle.rv_code.specs.Choices.{move_pieces};
+ghost use Rattle.rv_code.specs.Usable.{IsMove};
 ghost use Rattle.rv_code.specs.InstParts.{jump_to};
 ghost use Rattle.rv_code.specs.Pieces.{slots_of, pieces_most};
 ghost use Rattle.rv_emit.specs.Puts.{Puts};
@@ -18,13 +22,14 @@ ghost use Rattle.rv_code.specs.Slots.{Label};
 ghost use Rattle.rv_emit.specs.declared.code.CodePiece.TheVariants as code;
 
 use crate::expansions::put_trap;
-use crate::sequence::{put_compare, put_move, put_wide_jump};
+use crate::moves::put_move;
+use crate::sequence::{put_compare, put_wide_jump};
 use crate::shortest::{put_rri, put_rrr};
 use mach_buffer::MachBuffer;
 use rv_base::{IsaFlags, MachLabel, OutOfMemory, Reg, TrapCode, WritableReg};
 use rv_encode::encode_cj_type;
 use rv_imms::Imm12;
-use rv_inst::LabelUse;
+use rv_inst::{Inst, LabelUse};
 use rv_ops::{AluOPRRI, AluOPRRR, CjOp, IntegerCompare};
 
 /// A piece of an instruction's code. A label is one of the sequence's own, by its number among those.
@@ -42,7 +47,7 @@ pub(crate) enum CodePiece {
         rs: Reg,
         imm: Imm12,
     },
-    /// None to the same register.
+    /// Of a whole register to another of its class; none to the same one.
     Move {
         rd: WritableReg,
         rs: Reg,
@@ -156,13 +161,30 @@ fn put_piece(
     match piece {
         CodePiece::Rrr { op, rd, rs1, rs2 } => put_rrr(sink, flags, op, rd, rs1, rs2),
         CodePiece::Rri { op, rd, rs, imm } => put_rri(sink, flags, op, rd, rs, imm),
-        CodePiece::Move { rd, rs } => put_move(sink, flags, rd, rs),
+        CodePiece::Move { rd, rs } => put_whole_move(sink, flags, rd, rs),
         CodePiece::Branch { kind, label } => put_compare(sink, kind, own_label(base, label)),
         CodePiece::Jump { label } => put_own_jump(sink, flags, own_label(base, label)),
         CodePiece::New => put_unused(sink),
         CodePiece::Bind { label } => put_bind(sink, own_label(base, label)),
         CodePiece::Trap { code } => put_trap(sink, flags, code),
     }
+}
+
+/// A move of a whole register.
+fn put_whole_move(
+    sink: &mut MachBuffer<LabelUse>,
+    flags: IsaFlags,
+    rd: WritableReg,
+    rs: Reg,
+) -> Result<(), OutOfMemory>
+    requires fine { IsMove rd.reg rs (canonical_type (class_of rd.reg)) }
+    requires room { length (bytes_of sink.old) + 4 < code_limit }
+    requires sound { IsSoundBuffer sink.old }
+    ensures slots { OnOk result (PutsAlone flags (slots_of flags (move_pieces (class_of rd.reg) (canonical_type (class_of rd.reg)) (number_of rd.reg) (number_of rs))) sink.old sink.new) }
+    ensures refused { OnErr result (spoiled_of sink.new ≡ true) }
+{
+    let ty = Inst::canonical_type_for_rc(rd.reg.class());
+    put_move(sink, flags, rd, rs, ty)
 }
 
 /// A label of the sequence's own.
@@ -266,10 +288,9 @@ pub(crate) fn rrr(op: AluOPRRR, rd: WritableReg, rs1: Reg, rs2: Reg) -> CodePiec
     CodePiece::Rrr { op, rd, rs1, rs2 }
 }
 
-/// A move of one register to another; none to itself.
+/// A move of one whole register to another of its class; none to itself.
 pub(crate) fn copy(rd: WritableReg, rs: Reg) -> CodePiece
-    requires rd { IsIntRegister rd.reg }
-    requires rs { IsIntRegister rs }
+    requires fine { IsMove rd.reg rs (canonical_type (class_of rd.reg)) }
     ensures is { result ≡ code.Move rd rs }
     ensures sound { IsSound result }
 {

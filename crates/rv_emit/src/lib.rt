@@ -13,6 +13,7 @@ mod emit;
 mod expansions;
 mod island;
 mod memory;
+mod moves;
 mod numbers;
 mod probes;
 mod results;

@@ -23,7 +23,6 @@ ghost use Rattle.rv_code.specs.Usable.{IsFine, IsFineBranch};
 ghost use Rattle.rv_emit.specs.Emitted.{IsSoundBuffer};
 ghost use Rattle.rv_emit.specs.Emission.{PutsAlone, PutsSlots, Emits, EmitsAnyhow};
 ghost use Rattle.rv_emit.specs.StackMaps.{with_map};
-ghost use Rattle.rv_code.specs.Choices.{move_pieces};
 ghost use Rattle.rv_code.specs.Pieces.{slots_of};
 ghost use Rattle.rv_code.specs.Slots.{Label, Op};
 ghost use Rattle.rv_code.specs.InstParts.{jump_to, wide_jump_to, branch_to, branch_slots};
@@ -40,6 +39,7 @@ use crate::compressed::number;
 use crate::counts::{put_popcnt, put_zeros};
 use crate::expansions::{put_bytes, put_constant, put_trap, put_trap_if};
 use crate::memory::{put_address, put_label_address, put_load, put_store, resolved_address};
+use crate::moves::put_move;
 use crate::probes::put_probe_loop;
 use crate::reverse::put_reverse;
 use crate::shortest::{put_ebreak, put_jalr, put_lui, put_rri, put_rrr};
@@ -47,7 +47,7 @@ use crate::symbols::{put_far_symbol, put_near_symbol, put_slot_load, put_unwind}
 use crate::units::put_unit;
 use mach_buffer::MachBuffer;
 use rv_base::{
-    FrameLayout, IsaFlags, MachLabel, OutOfMemory, Reg, UserStackMap, WritableReg, link_reg,
+    FrameLayout, IrType, IsaFlags, MachLabel, OutOfMemory, Reg, UserStackMap, WritableReg, link_reg,
     writable_zero_reg, zero_reg,
 };
 use rv_encode::{enc_auipc, encode_alu_rr_imm12, encode_branch, encode_cj_type, encode_jal};
@@ -156,8 +156,8 @@ fn put_integer(
             rs,
             imm12,
         } => put_rri(sink, flags, *alu_op, *rd, *rs, *imm12),
-        Inst::Mov { rd, rm, ty: _ } => put_move(sink, flags, *rd, *rm),
-        Inst::MovFromPReg { rd, rm } => put_move(sink, flags, *rd, Reg::Real(*rm)),
+        Inst::Mov { rd, rm, ty } => put_move(sink, flags, *rd, *rm, *ty),
+        Inst::MovFromPReg { rd, rm } => put_move(sink, flags, *rd, Reg::Real(*rm), IrType::I64),
         Inst::Extend {
             rd,
             rn,
@@ -171,26 +171,6 @@ fn put_integer(
         }
         _ => Ok(()),
     }
-}
-
-/// A move of one integer register to another; none to itself.
-pub(crate) fn put_move(
-    sink: &mut MachBuffer<LabelUse>,
-    flags: IsaFlags,
-    rd: WritableReg,
-    rm: Reg,
-) -> Result<(), OutOfMemory>
-    requires rd { IsIntRegister rd.reg }
-    requires rm { IsIntRegister rm }
-    requires room { length (bytes_of sink.old) + 4 < code_limit }
-    requires sound { IsSoundBuffer sink.old }
-    ensures slots { OnOk result (PutsAlone flags (slots_of flags (move_pieces (number_of rd.reg) (number_of rm))) sink.old sink.new) }
-    ensures refused { OnErr result (spoiled_of sink.new ≡ true) }
-{
-    if number(rd.reg) == number(rm) {
-        return Ok(());
-    }
-    put_rri(sink, flags, AluOPRRI::Addi, rd, rm, Imm12::ZERO)
 }
 
 fn put_control(

@@ -33,7 +33,7 @@ use Rattle.rv_inst.specs.declared.targets.Targets.TheVariants.{Nowhere}
 use Rattle.rv_inst.specs.Operands.{inst_registers, inst_labels, tail_call_of, target_labels, labels_of, address_targets}
 use Rattle.rv_inst.specs.Addresses.{is_distant}
 use Rattle.rv_inst.specs.Context.{Context}
-use Rattle.rv_inst.specs.Rules.{is_virtual, is_other_class, is_reserved, is_int_class, same_class, is_not_of, differ_in_class, is_int_type, is_buffer_label, is_beyond, is_fallthrough, has_other_class, faults_of, is_zero, lacks_named, lacks_constant, exceeds_arguments, every_rule, breaks}
+use Rattle.rv_inst.specs.Rules.{is_virtual, is_other_class, is_reserved, is_int_class, same_class, is_not_of, differ_in_class, is_int_type, is_buffer_label, is_beyond, is_fallthrough, has_other_class, faults_of, is_zero, lacks_named, lacks_constant, exceeds_arguments, every_rule, breaks, is_movable}
 use Rattle.rv_inst.specs.Sizes.{inst_sum}
 use Rattle.rv_inst.specs.Plain.{is_usable, is_plain_address, IsPlain, is_plain}
 
@@ -77,13 +77,13 @@ one_class r s e = both (class_of r) (class_of s) (not_other r (and_left _ _ e)) 
     both Vector d e f = absurd (cc)
 
 -- an integer register has the class that a move takes
-int_moved : (r : Reg) (type : IrType) → is_usable r ≡ true → is_int_type type ≡ true → not (is_int_class (class_of r) && is_int_type type) ≡ false
-int_moved r type e f = by (is_int_class (class_of r)) (is_int_type type) (not_other r e) f
+int_moved : (r : Reg) (type : IrType) → is_usable r ≡ true → is_int_type type ≡ true → not (is_movable (class_of r) type) ≡ false
+int_moved r type e f = by (class_of r) (not_other r e)
   where
-    by : (a b : Bool) → not a ≡ false → b ≡ true → not (a && b) ≡ false
-    by true true e f = refl
-    by true false e f = absurd (cc)
-    by false b e f = absurd (cc)
+    by : (c : RegClass) → not (is_int_class c) ≡ false → not (is_movable c type) ≡ false
+    by Int e = ap not f
+    by Float e = absurd (cc)
+    by Vector e = absurd (cc)
 
 -- and is in its place, where none of floating-point numbers is asked for
 int_placed : (r : Reg) (float : Bool) → float ≡ false → is_usable r ≡ true → is_not_of (if float then Float else Int) r ≡ false

@@ -27,7 +27,7 @@ use Rattle.rv_inst.proofs.ImmediateSums.{offset_sums, address_sums}
 
 -- ---- registers
 
-number_below : (r : Reg) → number_of r < 32
+pub number_below : (r : Reg) → number_of r < 32
 number_below (Real p) = p.in_file
 number_below (Virtual class index) = lit< tt
 

@@ -130,6 +130,19 @@ abbrev pub select_clash : ValueRegs (Writable Reg) → List Reg → List Reg →
 select_clash (One r) compared values = is_one_of r.reg compared
 select_clash (Two r s) compared values = clash (r.reg ∷ s.reg ∷ []) (compared ++ values)
 
+-- whether registers at one place differ in class, of the places that both values have
+abbrev pub differ_at_places : List Reg → List Reg → Bool
+differ_at_places [] ss = false
+differ_at_places (r ∷ rs) [] = false
+differ_at_places (r ∷ rs) (s ∷ ss) = differ_in_class r s || differ_at_places rs ss
+
+abbrev pub is_vector : Reg → Bool
+is_vector r = is_vector_class (class_of r)
+
+-- whether values of which one is chosen differ in class at a place, or have a vector register
+abbrev pub values_differ : List Reg → List Reg → List Reg → Bool
+values_differ results xs ys = differ_at_places results xs || (differ_at_places results ys || (differ_at_places xs ys || list_any is_vector (results ++ xs ++ ys)))
+
 -- sp
 abbrev pub is_stack : Reg → Bool
 is_stack r = is_real_x 2 r
@@ -212,6 +225,24 @@ is_int_type F64 = false
 is_int_type F128 = false
 is_int_type (VectorOf v) = false
 
+abbrev pub is_float_type : IrType → Bool
+is_float_type I8 = false
+is_float_type I16 = false
+is_float_type I32 = false
+is_float_type I64 = false
+is_float_type I128 = false
+is_float_type F16 = true
+is_float_type F32 = true
+is_float_type F64 = true
+is_float_type F128 = false
+is_float_type (VectorOf v) = false
+
+-- whether a register of a class is moved as one of a type; vectors are moved by none
+abbrev pub is_movable : RegClass → IrType → Bool
+is_movable Int type = is_int_type type
+is_movable Float type = is_float_type type
+is_movable Vector type = false
+
 -- whether a result is on the stack, and of a type that is loaded from there: an integer of at most 64 bits, f32 or f64
 abbrev pub is_loaded_from : RetLocation → Bool
 is_loaded_from (InReg s) = false
@@ -285,8 +316,10 @@ count_faults sum tmp step rs type = record (has_other_class (list_any is_other_c
 abbrev pub unit_faults : UnitWord → Faults
 unit_faults w = record (has_other_class (list_any is_out_of_place w.places)) { rounding = not w.rounding; width = not w.width }
 
--- A register's place asks the class Int, but those of a unit's word, and what a load or a store of a floating-point register moves; the two of a pair or of a move have one class, and a result on
--- the stack that of its type. A move of an integer register, and a result on the stack, have an integer type of at most 64 bits; of others none is built. Data has four or eight bytes.
+-- A register's place asks the class Int, but those of a unit's word, and what a load or a store of a floating-point register moves; the two
+-- of a pair or of a move have one class, those at one place of the values of a choice one that is no vector's, and a result on the stack that
+-- of its type. A move has a type of its registers' class: integers of at most 64 bits, or floating-point numbers of at most 64; a result on
+-- the stack has a type that is loaded from there. Of others none is built. Data has four or eight bytes.
 abbrev pub faults_of : Inst → Faults
 faults_of Nop0 = has_other_class false
 faults_of Nop4 = has_other_class false
@@ -303,10 +336,10 @@ faults_of (Auipc rd imm) = has_other_class (list_any is_other_class (rd.reg ∷ 
 faults_of (LoadInlineConst rd type imm) = record (has_other_class (list_any is_other_class (rd.reg ∷ []))) { zeroed = list_any is_zero (rd.reg ∷ []); type = not (is_word_type type) }
 faults_of (AluRRR op rd rs1 rs2) = has_other_class (list_any is_other_class (rd.reg ∷ rs1 ∷ rs2 ∷ []))
 faults_of (AluRRImm12 op rd rs imm) = record (has_other_class (list_any is_other_class (rd.reg ∷ rs ∷ []))) { range = is_beyond (shift_limit (immediate_of op)) imm.value }
-faults_of (Mov rd rm type) = record (has_other_class (differ_in_class rd.reg rm)) { type = not (is_int_class (class_of rm) && is_int_type type) }
+faults_of (Mov rd rm type) = record (has_other_class (differ_in_class rd.reg rm)) { type = not (is_movable (class_of rm) type) }
 faults_of (MovFromPReg rd rm) = has_other_class (is_other_class rd.reg || not (is_stack_or_frame rm))
 faults_of (Extend rd rn signed from_bits to_bits) = record (has_other_class (list_any is_other_class (rd.reg ∷ rn ∷ []))) { range = not (nat_le 1 from_bits && nat_le from_bits 64) }
-faults_of (Select info) = record (has_other_class (list_any is_other_class (written_in info.dst ++ info.condition.rs1 ∷ info.condition.rs2 ∷ all_of info.x ++ all_of info.y))) { clashing = is_uneven info.dst info.x info.y || select_clash info.dst (info.condition.rs1 ∷ info.condition.rs2 ∷ []) (all_of info.x ++ all_of info.y) }
+faults_of (Select info) = record (has_other_class (list_any is_other_class (info.condition.rs1 ∷ info.condition.rs2 ∷ []) || values_differ (written_in info.dst) (all_of info.x) (all_of info.y))) { clashing = is_uneven info.dst info.x info.y || select_clash info.dst (info.condition.rs1 ∷ info.condition.rs2 ∷ []) (all_of info.x ++ all_of info.y) }
 faults_of (Load rd op flags from) = record (has_other_class (is_not_of (load_class op) rd.reg || list_any is_other_class (registers_of from))) { zeroed = is_none (base_of from) && is_zero rd.reg; range = is_distant (own_offset from) }
 faults_of (Store src op flags to) = record (has_other_class (is_not_of (store_class op) src || list_any is_other_class (registers_of to))) { range = is_distant (own_offset to) }
 faults_of (LoadAddr rd mem) = record (has_other_class (list_any is_other_class (rd.reg ∷ registers_of mem))) { zeroed = is_zero rd.reg; clashing = is_base rd.reg (base_of mem); range = is_distant (own_offset mem) }

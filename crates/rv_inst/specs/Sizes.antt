@@ -1,10 +1,14 @@
 -- How many bytes an instruction puts, which operation stands for one of one machine word, and how many bytes it counts for.
-use Rattle.std.specs.Prelude.{ℕ, ◌+◌, ◌-◌, ◌/◌, length, nat_eq, if◌then◌else◌, Option, Some, None, pos, negsuc, ◌*◌, ◌==◌, Bool, true, false, not, ◌&&◌, List, [], ◌∷◌, map, count_by, ℤ, ◌-ℤ◌, ◌++◌}
+use Rattle.std.specs.Prelude.{ℕ, ◌+◌, ◌-◌, ◌/◌, length, nat_eq, if◌then◌else◌, Option, Some, None, pos, negsuc, ◌*◌, ◌==◌, Bool, true, false, not, ◌&&◌, List, [], ◌∷◌, map, count_by, ℤ, ◌-ℤ◌, ◌++◌, unwrap_or}
 use Rattle.std.specs.Int.{cast_signed, w64}
 use Rattle.std.proofs.Common.{refl}
 use Rattle.rv_base.specs.IrType.{bits_of}
-use Rattle.rv_base.specs.Regs.{number_of}
+use Rattle.rv_base.specs.Regs.{class_of, number_of}
+use Rattle.rv_base.specs.declared.ir_type.IrType.{IrType}
+use Rattle.rv_base.specs.declared.ir_type.IrType.TheVariants.{I64}
 use Rattle.rv_base.specs.declared.regs.Reg.{Reg}
+use Rattle.rv_base.specs.declared.regs.RegClass.{RegClass}
+use Rattle.rv_base.specs.declared.regs.RegClass.TheVariants.{Int, Float, Vector}
 use Rattle.rv_base.specs.declared.regs.Writable.{Writable}
 use Rattle.rv_base.specs.declared.value_regs.ValueRegs.{ValueRegs}
 use Rattle.rv_base.specs.declared.call.TryCallInfo.{TryCallInfo}
@@ -13,17 +17,22 @@ use Rattle.rv_base.specs.declared.frame.FrameLayout.{FrameLayout}
 use Rattle.rv_ops.specs.declared.alu.AluOPRRR.TheVariants as rrr
 use Rattle.rv_ops.specs.declared.alu.AluOPRRI.{AluOPRRI}
 use Rattle.rv_ops.specs.declared.alu.AluOPRRI.TheVariants as rri
+use Rattle.rv_ops.specs.declared.float_fields.FRM.TheVariants.{RNE}
+use Rattle.rv_ops.specs.declared.float_fields.FpuOPWidth.TheVariants.{D}
+use Rattle.rv_ops.specs.declared.fpu.FpuOPRRR.TheVariants.{Fsgnj}
+use Rattle.rv_ops.specs.FloatFields.{width_of}
 use Rattle.rv_ops.specs.declared.memory.LoadOP.{LoadOP}
 use Rattle.rv_ops.specs.declared.memory.StoreOP.{StoreOP}
 use Rattle.rv_ops.specs.declared.memory.StoreOP.TheVariants.{Sb}
 use Rattle.rv_machine.specs.declared.decoding.Decoded.{Decoded}
 use Rattle.rv_machine.specs.declared.ops.MOp.TheVariants.{Base}
 use Rattle.rv_machine.specs.declared.ops.BaseOp.TheVariants.{Auipc as AuipcOp}
-use Rattle.rv_encode.specs.Operations.{decoded, decoded_rri, has_load, has_store}
+use Rattle.rv_encode.specs.Operations.{decoded, decoded_rri, has_load, has_store, decoded_fpu_rrr}
 use Rattle.rv_machine.specs.State.{low64}
 use Rattle.rv_machine.specs.Arithmetic.{low_word}
-use Rattle.rv_inst.specs.Addresses.{Location, Based, AtLabel, AtConstant, location_of, is_near, is_splittable, inline_size, far_size, address_size, load_size_at}
+use Rattle.rv_inst.specs.Addresses.{Location, Based, AtLabel, AtConstant, location_of, is_near, is_splittable, inline_size, far_size, address_size, load_size_at, store_size_at, load_own_size, store_own_size}
 use Rattle.rv_inst.specs.Halves.{load_line_size, load_line_own_size, store_line_size, store_line_own_size, is_moved_first}
+use Rattle.rv_inst.specs.Generators.{canonical_type}
 use Rattle.rv_inst.specs.Forms.{short_rrr, short_rri, short_lui, short_jalr, short_ebreak, short_load, short_store, jump_size}
 use Rattle.rv_base.specs.declared.reloc.Reloc.TheVariants.{RiscvCallPlt, RiscvGotHi20, RiscvPCRelHi20, Abs8}
 use Rattle.mach_records.specs.declared.records.Event.TheVariants as event
@@ -52,9 +61,16 @@ pub data Extent : Type 0 where
   After : ℕ → ℕ → ℕ → Extent
   Around : ℕ → ℕ → ℕ → Extent
 
--- addi of 0; a move to the same register has no instruction
-abbrev pub move_size : IsaFlags → ℕ → ℕ → ℕ
-move_size flags rd rs = if nat_eq rd rs then 0 else (short_rri flags rri.Addi rd rs (pos 0)).len
+-- The operation that moves a register: addi of 0, or of floating-point numbers fsgnj of equal sources, which has no short form. Vectors
+-- are moved by none, and stand with the integers; a type that is no floating-point number's, which is no such move's, with doubles.
+abbrev pub move_op : IsaFlags → RegClass → IrType → ℕ → ℕ → Decoded
+move_op flags Int type rd rs = short_rri flags rri.Addi rd rs (pos 0)
+move_op flags Float type rd rs = decoded_fpu_rrr Fsgnj (unwrap_or (width_of type) D) RNE rd rs rs
+move_op flags Vector type rd rs = short_rri flags rri.Addi rd rs (pos 0)
+
+-- a move to the same register has none
+abbrev pub move_size : IsaFlags → RegClass → IrType → ℕ → ℕ → ℕ
+move_size flags class type rd rs = if nat_eq rd rs then 0 else (move_op flags class type rd rs).len
 
 -- a branch, and a jump where the comparison doesn't hold
 abbrev pub branch_size : IsaFlags → CondBrTarget → CondBrTarget → ℕ
@@ -96,15 +112,15 @@ extend_size flags rd rn signed bits =
     if is_byte signed bits then (short_rri flags rri.Andi rd rn (pos 255)).len else
     (short_rri flags rri.Slli rd rn (pos (64 - bits))).len + (short_rri flags (right_shift signed) rd rd (pos (64 - bits))).len
 
--- moves of registers, each to its own
-abbrev pub moves_size : IsaFlags → List ℕ → List ℕ → ℕ
+-- moves of whole registers, each to its own
+abbrev pub moves_size : IsaFlags → List Reg → List Reg → ℕ
 moves_size flags [] sources = 0
 moves_size flags (rd ∷ rds) [] = 0
-moves_size flags (rd ∷ rds) (rs ∷ sources) = move_size flags rd rs + moves_size flags rds sources
+moves_size flags (rd ∷ rds) (rs ∷ sources) = move_size flags (class_of rd) (canonical_type (class_of rd)) (number_of rd) (number_of rs) + moves_size flags rds sources
 
 -- Of two values one is moved, and then the other, unless a branch leads over it.
 abbrev pub select_size : IsaFlags → ValueRegs (Writable Reg) → ValueRegs Reg → ValueRegs Reg → ℕ
-select_size flags dst x y = moves_size flags (map number_of (written_in dst)) (map number_of (all_of x)) + 4 + moves_size flags (map number_of (written_in dst)) (map number_of (all_of y))
+select_size flags dst x y = moves_size flags (written_in dst) (all_of x) + 4 + moves_size flags (written_in dst) (all_of y)
 
 -- the shift by which a bit moves on, to the one below or to the one above
 abbrev pub bit_shift : Bool → AluOPRRI
@@ -219,9 +235,9 @@ table_space labels = 4 * (12 + 2 * (labels - 1))
 
 -- ---- the operation of one machine word
 
--- a move is addi of 0; there is none to the same register
-abbrev pub move_operation : IsaFlags → ℕ → ℕ → Option Decoded
-move_operation flags rd rs = if nat_eq rd rs then None else Some (short_rri flags rri.Addi rd rs (pos 0))
+-- a move to the same register has none
+abbrev pub move_operation : IsaFlags → RegClass → IrType → ℕ → ℕ → Option Decoded
+move_operation flags class type rd rs = if nat_eq rd rs then None else Some (move_op flags class type rd rs)
 
 -- an address, a load or a store whose offset is in its own instruction
 abbrev pub address_operation : IsaFlags → ℕ → Location → Option Decoded
@@ -293,8 +309,8 @@ inst_code context (Auipc rd imm) = one_word (decoded (Base AuipcOp) (number_of r
 inst_code context (LoadInlineConst rd type imm) = words (inline_size context.flags (bits_of type / 8))
 inst_code context (AluRRR op rd rs1 rs2) = one_word (short_rrr context.flags op (number_of rd.reg) (number_of rs1) (number_of rs2))
 inst_code context (AluRRImm12 op rd rs imm) = one_word (short_rri context.flags op (number_of rd.reg) (number_of rs) imm.value)
-inst_code context (Mov rd rm type) = record (words (move_size context.flags (number_of rd.reg) (number_of rm))) { operation = move_operation context.flags (number_of rd.reg) (number_of rm) }
-inst_code context (MovFromPReg rd rm) = record (words (move_size context.flags (number_of rd.reg) rm.number)) { operation = move_operation context.flags (number_of rd.reg) rm.number }
+inst_code context (Mov rd rm type) = record (words (move_size context.flags (class_of rd.reg) type (number_of rd.reg) (number_of rm))) { operation = move_operation context.flags (class_of rd.reg) type (number_of rd.reg) (number_of rm) }
+inst_code context (MovFromPReg rd rm) = record (words (move_size context.flags Int I64 (number_of rd.reg) rm.number)) { operation = move_operation context.flags Int I64 (number_of rd.reg) rm.number }
 inst_code context (Extend rd rn signed from_bits to_bits) = record (words (extend_size context.flags (number_of rd.reg) (number_of rn) signed from_bits)) { operation = extend_operation context.flags (number_of rd.reg) (number_of rn) signed from_bits }
 inst_code context (Select info) = words (select_size context.flags info.dst info.x info.y)
 inst_code context (Load rd op flags from) = record (words (load_line_size context.flags op (number_of rd.reg) (location_of context.frame from))) { operation = load_line_operation context.flags op (number_of rd.reg) (location_of context.frame from); records = λ start end. access_records (end - load_line_own_size context.flags op (number_of rd.reg) (location_of context.frame from)) flags.trap }

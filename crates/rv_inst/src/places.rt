@@ -1,26 +1,27 @@
 //! Whether each register has the class that its place asks.
 
-ghost use Rattle.std.specs.Prelude.{◌≡◌, ◌||◌};
+ghost use Rattle.std.specs.Prelude.{◌≡◌, [], ◌∷◌, ◌++◌, ◌||◌};
 ghost use Rattle.std.specs.List.{list_any};
 ghost use Rattle.rv_base.specs.declared.call.ArgPair.{ArgPair};
 ghost use Rattle.rv_base.specs.declared.call.RetPair.{RetPair};
 ghost use Rattle.rv_base.specs.declared.call.CallArgPair.{CallArgPair};
 ghost use Rattle.rv_base.specs.declared.call.CallRetPair.{CallRetPair};
-ghost use Rattle.rv_inst.specs.Rules.{differ_in_class, is_stack_or_frame, is_fifth, class_for, is_outside, location_differs, call_differs, is_misplaced};
+ghost use Rattle.rv_inst.specs.Rules.{differ_in_class, is_stack_or_frame, is_fifth, class_for, is_outside, location_differs, call_differs, is_misplaced, is_other_class, is_vector, differ_at_places, values_differ};
 ghost use Rattle.rv_inst.specs.declared.inst.Family.TheVariants.{Pseudo, Integer, Memory, Calls};
+ghost use Rattle.rv_inst.specs.Operands.{all_of, written_in};
 ghost use Rattle.rv_inst.specs.Families.{family_of};
 
 use crate::addresses::address_has;
 use crate::clashes::same_class;
-use crate::inst::{Family, Inst};
+use crate::inst::{Family, Inst, SelectInfo};
 use crate::registers::{
-    RegisterTest, control_has, integer_has, is_other_class, is_real_x, loop_has, memory_has,
+    RegisterTest, compare_has, control_has, integer_has, is_other_class, is_real_x, loop_has, memory_has,
     symbol_has,
 };
 use crate::units::{is_not_of, unit_misplaced};
 use rv_base::{
     ArgPair as Arg, CallArgPair as Use, CallRetPair as Def, IrType, PReg, Reg, RegClass,
-    RetLocation, RetPair as Ret,
+    RetLocation, RetPair as Ret, ValueRegs, WritableReg,
 };
 
 /// Returns whether two registers are of different classes.
@@ -78,12 +79,88 @@ fn pseudo_misplaced(inst: &Inst) -> bool
     }
 }
 
+fn is_vector(reg: Reg) -> bool
+    ensures { result ≡ is_vector reg }
+{
+    match reg.class() {
+        RegClass::Int | RegClass::Float => false,
+        RegClass::Vector => true,
+    }
+}
+
+fn any_is_vector(registers: &[Reg]) -> bool
+    ensures { result ≡ list_any is_vector registers.now }
+{
+    registers.iter().any(|r| is_vector(*r))
+}
+
+/// The registers that are written.
+fn written(value: ValueRegs<WritableReg>) -> ValueRegs<Reg>
+    ensures { all_of result ≡ written_in value }
+{
+    match value {
+        ValueRegs::One(r) => ValueRegs::One(r.reg),
+        ValueRegs::Two(r, s) => ValueRegs::Two(r.reg, s.reg),
+    }
+}
+
+fn value_has_vector(value: ValueRegs<Reg>) -> bool
+    ensures { result ≡ list_any is_vector (all_of value) }
+{
+    match value {
+        ValueRegs::One(r) => any_is_vector(&[r]),
+        ValueRegs::Two(r, s) => any_is_vector(&[r, s]),
+    }
+}
+
+fn either_has_vector(x: ValueRegs<Reg>, y: ValueRegs<Reg>) -> bool
+    ensures { result ≡ list_any is_vector (all_of x ++ all_of y) }
+{
+    value_has_vector(x) || value_has_vector(y)
+}
+
+fn any_has_vector(dst: ValueRegs<Reg>, x: ValueRegs<Reg>, y: ValueRegs<Reg>) -> bool
+    ensures { result ≡ list_any is_vector (all_of dst ++ all_of x ++ all_of y) }
+{
+    value_has_vector(dst) || either_has_vector(x, y)
+}
+
+/// Returns whether registers at one place differ in class, of the places that both values have.
+fn differ_at_places(first: ValueRegs<Reg>, second: ValueRegs<Reg>) -> bool
+    ensures { result ≡ differ_at_places (all_of first) (all_of second) }
+{
+    match (first, second) {
+        (ValueRegs::One(r), ValueRegs::One(t)) => differ_in_class(r, t),
+        (ValueRegs::One(r), ValueRegs::Two(t, _)) => differ_in_class(r, t),
+        (ValueRegs::Two(r, _), ValueRegs::One(t)) => differ_in_class(r, t),
+        (ValueRegs::Two(r, s), ValueRegs::Two(t, u)) => {
+            differ_in_class(r, t) || differ_in_class(s, u)
+        }
+    }
+}
+
+/// Returns whether values of which one is chosen differ in class at a place, or have a vector register.
+fn values_differ(dst: ValueRegs<Reg>, x: ValueRegs<Reg>, y: ValueRegs<Reg>) -> bool
+    ensures { result ≡ values_differ (all_of dst) (all_of x) (all_of y) }
+{
+    differ_at_places(dst, x)
+        || (differ_at_places(dst, y) || (differ_at_places(x, y) || any_has_vector(dst, x, y)))
+}
+
+fn select_misplaced(info: &SelectInfo) -> bool
+    ensures { result ≡ (list_any is_other_class (info.now.condition.rs1 ∷ info.now.condition.rs2 ∷ []) || values_differ (written_in info.now.dst) (all_of info.now.x) (all_of info.now.y)) }
+{
+    compare_has(RegisterTest::OtherClass, info.condition)
+        || values_differ(written(info.dst), info.x, info.y)
+}
+
 fn integer_misplaced(inst: &Inst) -> bool
     ensures { family_of inst.now ≡ Integer → result ≡ is_misplaced inst.now }
 {
     match inst {
         Inst::Mov { rd, rm, ty: _ } => differ_in_class(rd.reg, *rm),
         Inst::MovFromPReg { rd, rm } => is_other_class(rd.reg) || !is_stack_or_frame(*rm),
+        Inst::Select { info } => select_misplaced(info.as_ref()),
         _ => integer_has(RegisterTest::OtherClass, inst),
     }
 }

@@ -1,10 +1,10 @@
 //! Whether types and numbers are those that an instruction takes.
 
-ghost use Rattle.std.specs.Prelude.{◌≡◌, ◌^◌, not, nat_le, ◌&&◌, ◌||◌};
+ghost use Rattle.std.specs.Prelude.{◌≡◌, ◌^◌, not, nat_le, ◌||◌};
 ghost use Rattle.std.specs.List.{list_any};
 ghost use Rattle.rv_base.specs.Regs.{class_of};
 ghost use Rattle.rv_ops.specs.Operations.{immediate_of, shift_limit};
-ghost use Rattle.rv_inst.specs.Rules.{is_high, is_int_class, is_int_type, is_word_type, has_bad_type, is_beyond, is_out_of_range, has_empty_table, has_bad_size};
+ghost use Rattle.rv_inst.specs.Rules.{is_float_type, is_high, is_int_type, is_movable, is_word_type, has_bad_type, is_beyond, is_out_of_range, has_empty_table, has_bad_size};
 
 use crate::addresses::is_distant;
 use crate::inst::Inst;
@@ -35,12 +35,25 @@ fn is_word_type(ty: IrType) -> bool
     }
 }
 
+/// Returns whether a type is a floating-point number of at most 64 bits.
+fn is_float_type(ty: IrType) -> bool
+    ensures { result ≡ is_float_type ty }
+{
+    match ty {
+        IrType::F16 | IrType::F32 | IrType::F64 => true,
+        IrType::I8 | IrType::I16 | IrType::I32 | IrType::I64 | IrType::I128 => false,
+        IrType::F128 => false,
+        IrType::Vector(_) => false,
+    }
+}
+
 fn is_bad_move(rm: Reg, ty: IrType) -> bool
-    ensures { result ≡ not (is_int_class (class_of rm) && is_int_type ty) }
+    ensures { result ≡ not (is_movable (class_of rm) ty) }
 {
     match rm.class() {
         RegClass::Int => !is_int_type(ty),
-        RegClass::Float | RegClass::Vector => true,
+        RegClass::Float => !is_float_type(ty),
+        RegClass::Vector => true,
     }
 }
 

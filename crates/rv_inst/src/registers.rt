@@ -255,6 +255,13 @@ fn inputs_have(
     holds(test, condition.rs1) || holds(test, condition.rs2) || either_has(test, x, y)
 }
 
+/// Returns whether the test holds of a register that is compared.
+pub fn compare_has(test: RegisterTest, condition: IntegerCompare) -> bool
+    ensures { result ≡ list_any (test_of test) (condition.rs1 ∷ condition.rs2 ∷ []) }
+{
+    any_of(test, &[condition.rs1, condition.rs2])
+}
+
 fn select_has(test: RegisterTest, info: &SelectInfo) -> bool
     ensures { result ≡ list_any (test_of test) (written_in info.now.dst ++ info.now.condition.rs1 ∷ info.now.condition.rs2 ∷ all_of info.now.x ++ all_of info.now.y) }
 {

@@ -123,16 +123,8 @@ same_frame (Virtual c i) = refl
 
 -- ---- classes
 
-abbrev pub AreInt : List Reg → Type 0
-AreInt [] = Unit {0}
-AreInt (r ∷ rs) = (class_of r ≡ Int) × AreInt rs
-
 pub not_other : (r : Reg) → class_of r ≡ Int → is_other_class r ≡ false
 not_other r h = ap (λ c. not (is_int_class c)) h
-
-pub all_int : (rs : List Reg) → AreInt rs → list_any is_other_class rs ≡ false
-all_int [] h = refl
-all_int (r ∷ rs) h = either (not_other r h.0) (all_int rs h.1)
 
 class_is_same : (c : RegClass) → not (same_class c c) ≡ false
 class_is_same Int = refl

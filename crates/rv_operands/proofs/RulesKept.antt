@@ -26,14 +26,14 @@ use Rattle.rv_inst.specs.declared.inst.SelectInfo.{SelectInfo}
 use Rattle.rv_inst.specs.declared.inst.Inst.{Inst}
 use Rattle.rv_inst.specs.declared.inst.Inst.TheVariants.{Nop0, Nop4, EBreak, SequencePoint, Args, Rets, DummyUse, Unwind, EmitIsland, RawData, Lui, Auipc, LoadInlineConst, AluRRR, AluRRImm12, Mov, MovFromPReg, Extend, Select, Load, Store, LoadAddr, LabelAddress, Ret, TrapIf, Jal, CondBr, BrTable, Udf, Jalr, Popcnt, Cltz, Brev8, StackProbeLoop, LoadExtNameGot, LoadExtNameNear, LoadExtNameFar, Call, CallInd, ReturnCall, ReturnCallInd}
 use Rattle.rv_inst.specs.Operands.{all_of, written_in}
-use Rattle.rv_inst.specs.Rules.{is_virtual, is_reserved, is_misplaced, is_out_of_place, has_zero, has_clash, is_uneven, select_clash, clash, is_fifth, is_stack_or_frame, results_clash}
+use Rattle.rv_inst.specs.Rules.{is_virtual, is_reserved, is_misplaced, is_out_of_place, has_zero, has_clash, is_uneven, values_differ, select_clash, clash, is_fifth, is_stack_or_frame, results_clash}
 use Rattle.rv_inst.specs.UnitWords.{unit_of}
 use Rattle.rv_inst.specs.declared.units.PlacedReg.{PlacedReg}
 use Rattle.rv_operands.specs.Operand.{reads_at, writes_at, constraint_of}
 use Rattle.rv_operands.specs.Operands.{row_of, operands_of, unit_operands, use_operand, def_operand, select_operands}
 use Rattle.rv_operands.specs.Meeting.{chosen, definitions, AreDistinct, AreApart, AreMet, AreFree, ArePlaced, AreOfClasses, AreChosen, KeepsRules}
 use Rattle.rv_operands.proofs.ClearRegisters.{quiet, virtual_clear, reserved_clear}
-use Rattle.rv_operands.proofs.Keeping.{either, or_none, apart, absent, no_clash, same_stack, same_frame, AreInt, not_other, all_int, alike, pairs_alike, args_alike, rets_alike, uses_alike, defs_alike, both_classes, into, call_written, results_placed, no_results_clash}
+use Rattle.rv_operands.proofs.Keeping.{either, or_none, apart, absent, no_clash, same_stack, same_frame, not_other, alike, pairs_alike, args_alike, rets_alike, uses_alike, defs_alike, both_classes, into, call_written, results_placed, no_results_clash}
 
 -- the rules on classes, on x0 and on clashes
 record KeepsThree (inst : Inst) : Type 0 where
@@ -42,16 +42,6 @@ record KeepsThree (inst : Inst) : Type 0 where
   pub clash : has_clash inst ≡ (row_of inst).uneven
 
 -- ---- choices
-
-select_class : (dst : ValueRegs (Writable Reg)) (c : IntegerCompare) (x y : ValueRegs Reg) → AreOfClasses (select_operands (record { dst = dst; condition = c; x = x; y = y })) → AreInt (written_in dst ++ c.rs1 ∷ c.rs2 ∷ all_of x ++ all_of y)
-select_class (One w) c (One a) (One b) h = (h.1.1.1.1.0, (h.0, (h.1.0, (h.1.1.0, (h.1.1.1.0, tt)))))
-select_class (One w) c (One a) (Two b b2) h = (h.1.1.1.1.1.0, (h.0, (h.1.0, (h.1.1.0, (h.1.1.1.0, (h.1.1.1.1.0, tt))))))
-select_class (One w) c (Two a a2) (One b) h = (h.1.1.1.1.1.0, (h.0, (h.1.0, (h.1.1.0, (h.1.1.1.0, (h.1.1.1.1.0, tt))))))
-select_class (One w) c (Two a a2) (Two b b2) h = (h.1.1.1.1.1.1.0, (h.0, (h.1.0, (h.1.1.0, (h.1.1.1.0, (h.1.1.1.1.0, (h.1.1.1.1.1.0, tt)))))))
-select_class (Two v w) c (One a) (One b) h = (h.1.1.1.1.0, (h.1.1.1.1.1.0, (h.0, (h.1.0, (h.1.1.0, (h.1.1.1.0, tt))))))
-select_class (Two v w) c (One a) (Two b b2) h = (h.1.1.1.1.1.0, (h.1.1.1.1.1.1.0, (h.0, (h.1.0, (h.1.1.0, (h.1.1.1.0, (h.1.1.1.1.0, tt)))))))
-select_class (Two v w) c (Two a a2) (One b) h = (h.1.1.1.1.1.0, (h.1.1.1.1.1.1.0, (h.0, (h.1.0, (h.1.1.0, (h.1.1.1.0, (h.1.1.1.1.0, tt)))))))
-select_class (Two v w) c (Two a a2) (Two b b2) h = (h.1.1.1.1.1.1.0, (h.1.1.1.1.1.1.1.0, (h.0, (h.1.0, (h.1.1.0, (h.1.1.1.0, (h.1.1.1.1.0, (h.1.1.1.1.1.0, tt))))))))
 
 select_apart : (dst : ValueRegs (Writable Reg)) (c : IntegerCompare) (x y : ValueRegs Reg) → AreMet (map constraint_of (select_operands (record { dst = dst; condition = c; x = x; y = y })) ++ []) → select_clash dst (c.rs1 ∷ c.rs2 ∷ []) (all_of x ++ all_of y) ≡ false
 select_apart (One w) c (One a) (One b) m = absent w.reg (c.rs1 ∷ c.rs2 ∷ []) m.late.0
@@ -65,7 +55,7 @@ select_apart (Two v w) c (Two a a2) (Two b b2) m = no_clash (v.reg ∷ w.reg ∷
 
 select_keeps : (info : SelectInfo) → AreChosen (Select info) → KeepsThree (Select info)
 select_keeps info c = record {
-  class = all_int (written_in info.dst ++ info.condition.rs1 ∷ info.condition.rs2 ∷ all_of info.x ++ all_of info.y) (select_class info.dst info.condition info.x info.y c.classes);
+  class = (let first = not_other info.condition.rs1 c.classes.0 in let second = not_other info.condition.rs2 c.classes.1.0 in λ i. (first i || (second i || false)) || values_differ (written_in info.dst) (all_of info.x) (all_of info.y));
   zero = refl;
   clash = ap (λ b. is_uneven info.dst info.x info.y || b) (select_apart info.dst info.condition info.x info.y c.met) ∙ or_none (is_uneven info.dst info.x info.y);
 }

@@ -1,5 +1,5 @@
 -- An operand of an instruction: a register that is chosen for it, the class that its place asks, and how the instruction uses it.
-use Rattle.std.specs.Prelude.{Option, Some}
+use Rattle.std.specs.Prelude.{Option, Some, None}
 use Rattle.rv_base.specs.declared.regs.Reg.{Reg}
 use Rattle.rv_base.specs.declared.regs.RegClass.{RegClass}
 use Rattle.rv_base.specs.declared.regs.RegClass.TheVariants.{Int}
@@ -25,6 +25,9 @@ pub record Operand : Type 0 where
   pub register : Reg
   pub class : Option RegClass
   pub access : Access
+
+abbrev pub of_any : Reg → Access → Operand
+of_any r access = record { register = r; class = None; access = access }
 
 -- ---- operands that are integers, as most are
 

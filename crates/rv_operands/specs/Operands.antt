@@ -23,10 +23,10 @@ use Rattle.rv_inst.specs.declared.inst.Inst.{Inst}
 use Rattle.rv_inst.specs.declared.inst.Inst.TheVariants.{Nop0, Nop4, EBreak, SequencePoint, Args, Rets, DummyUse, Unwind, EmitIsland, RawData, Lui, Auipc, LoadInlineConst, AluRRR, AluRRImm12, Mov, MovFromPReg, Extend, Select, Load, Store, LoadAddr, LabelAddress, Ret, TrapIf, Jal, CondBr, BrTable, Udf, Jalr, Popcnt, Cltz, Brev8, StackProbeLoop, LoadExtNameGot, LoadExtNameNear, LoadExtNameFar, Call, CallInd, ReturnCall, ReturnCallInd}
 use Rattle.rv_inst.specs.declared.inst.SelectInfo.{SelectInfo}
 use Rattle.rv_inst.specs.declared.units.PlacedReg.{PlacedReg}
-use Rattle.rv_inst.specs.Operands.{unwind_registers}
-use Rattle.rv_inst.specs.Rules.{class_for, is_stack_or_frame, is_uneven}
+use Rattle.rv_inst.specs.Operands.{unwind_registers, all_of, written_in}
+use Rattle.rv_inst.specs.Rules.{class_for, is_stack_or_frame, is_uneven, values_differ}
 use Rattle.rv_inst.specs.UnitWords.{place, unit_of}
-use Rattle.rv_operands.specs.Operand.{Operand, Reads, ReadsIn, Writes, WritesIn, WritesAnywhere, of_int, reads, reads_late, writes, writes_early, scratches, reads_at, writes_at, constraint_of}
+use Rattle.rv_operands.specs.Operand.{Operand, Reads, ReadsIn, Writes, WritesIn, WritesAnywhere, of_int, reads, reads_late, writes, writes_early, scratches, reads_at, writes_at, constraint_of, WritesEarly, of_any}
 
 -- ---- parts of instructions
 
@@ -40,15 +40,15 @@ address_operands (IncomingArg o) = []
 address_operands (Const k) = []
 address_operands (Label l) = []
 
--- the registers of a value that is read
+-- the registers of a value that is read, of any class
 abbrev pub read_operands : ValueRegs Reg → List Operand
-read_operands (One r) = reads r ∷ []
-read_operands (Two r s) = reads r ∷ reads s ∷ []
+read_operands (One r) = of_any r Reads ∷ []
+read_operands (Two r s) = of_any r Reads ∷ of_any s Reads ∷ []
 
 -- those of one that is written; of two the first is written before the value of the second is read
 abbrev pub written_operands : ValueRegs (Writable Reg) → List Operand
-written_operands (One w) = writes w ∷ []
-written_operands (Two v w) = writes_early v ∷ writes_early w ∷ []
+written_operands (One w) = of_any w.reg Writes ∷ []
+written_operands (Two v w) = of_any v.reg WritesEarly ∷ of_any w.reg WritesEarly ∷ []
 
 -- those of a choice: the compared ones are read after a result may have been written
 abbrev pub select_operands : SelectInfo → List Operand
@@ -84,8 +84,8 @@ unit_operands (result ∷ sources) = map reads_at sources ++ writes_at result �
 -- ---- the table
 
 -- The operands; the registers that the instruction overwrites beside; temporaries of its own that no allocator is asked for, since who
--- makes the instruction chooses them; registers that it names by itself, and whether one of these is another than its place asks; and
--- whether lists of registers differ in length.
+-- makes the instruction chooses them; registers that it names by itself, and whether one of these is another than its place asks, or values
+-- of which one is chosen are of classes that no choice of registers mends; and whether lists of registers differ in length.
 pub record Row : Type 0 where
   pub operands : List Operand
   pub clobbers : List Constraint
@@ -116,7 +116,7 @@ row_of (AluRRImm12 op rd rs imm) = row (reads rs ∷ writes rd ∷ [])
 row_of (Mov rd rm type) = row (record { register = rm; class = Some (class_of rd.reg); access = Reads } ∷ record { register = rd.reg; class = Some (class_of rm); access = Writes } ∷ [])
 row_of (MovFromPReg rd rm) = record (row (writes rd ∷ [])) { named = Real rm ∷ []; misnamed = not (is_stack_or_frame rm) }
 row_of (Extend rd rn signed from_bits to_bits) = row (reads rn ∷ writes rd ∷ [])
-row_of (Select info) = record (row (select_operands info)) { uneven = is_uneven info.dst info.x info.y }
+row_of (Select info) = record (row (select_operands info)) { misnamed = values_differ (written_in info.dst) (all_of info.x) (all_of info.y); uneven = is_uneven info.dst info.x info.y }
 row_of (Load rd op flags from) = row (address_operands from ++ writes_at (place (load_class op) rd.reg) ∷ [])
 row_of (Store src op flags to) = row (address_operands to ++ reads_at (place (store_class op) src) ∷ [])
 row_of (LoadAddr rd mem) = row (address_operands mem ++ writes_early rd ∷ [])

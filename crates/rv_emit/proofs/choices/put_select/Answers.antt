@@ -1,4 +1,4 @@
-use Rattle.std.proofs.Common.{ap, map, sym, subst, ◌∙◌, OnOk}
+use Rattle.std.proofs.Common.{ap, sym, subst, ◌∙◌, OnOk}
 use Rattle.std.specs.Prelude.{if◌then◌else◌}
 use Rattle.rv_base.specs.CondCodes.{complement_of}
 use Rattle.rv_base.specs.Regs.{number_of}
@@ -10,9 +10,9 @@ use Rattle.rv_emit.proofs.choices.put_select.Goals as goal
 
 pub returns-then-are_results-clause-slots : goal.returns-then-are_results-clause-slots
 returns-then-are_results-clause-slots c =
-    let rds = map number_of (written_in c.args.dst) in
-    let xs = map number_of (all_of c.args.x) in
-    let ys = map number_of (all_of c.args.y) in
+    let rds = written_in c.args.dst in
+    let xs = all_of c.args.x in
+    let ys = all_of c.args.y in
     let kind = c.args.condition.kind in
     let a = number_of c.args.condition.rs1 in
     let b = number_of c.args.condition.rs2 in
@@ -22,9 +22,9 @@ returns-then-are_results-clause-slots c =
 
 pub returns-else-are_results-clause-slots : goal.returns-else-are_results-clause-slots
 returns-else-are_results-clause-slots c =
-    let rds = map number_of (written_in c.args.dst) in
-    let xs = map number_of (all_of c.args.x) in
-    let ys = map number_of (all_of c.args.y) in
+    let rds = written_in c.args.dst in
+    let xs = all_of c.args.x in
+    let ys = all_of c.args.y in
     let kind = c.args.condition.kind in
     let a = number_of c.args.condition.rs1 in
     let b = number_of c.args.condition.rs2 in
