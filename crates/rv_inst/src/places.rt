@@ -15,8 +15,8 @@ use crate::addresses::address_has;
 use crate::clashes::same_class;
 use crate::inst::{Family, Inst, SelectInfo};
 use crate::registers::{
-    RegisterTest, compare_has, control_has, integer_has, is_other_class, is_real_x, loop_has, memory_has,
-    symbol_has,
+    RegisterTest, compare_has, control_has, integer_has, is_other_class, is_real_x, loop_has,
+    memory_has, symbol_has,
 };
 use crate::units::{is_not_of, unit_misplaced};
 use rv_base::{
