@@ -39,7 +39,8 @@ use crate::choices::{put_extend, put_select};
 use crate::compressed::number;
 use crate::counts::{put_popcnt, put_zeros};
 use crate::expansions::{put_bytes, put_constant, put_trap, put_trap_if};
-use crate::memory::{put_address, put_label_address, put_load, put_store, resolved_address};
+use crate::halves::{put_load_line, put_store_line};
+use crate::memory::{put_address, put_label_address, resolved_address};
 use crate::probes::put_probe_loop;
 use crate::reverse::put_reverse;
 use crate::shortest::{put_ebreak, put_jalr, put_lui, put_rri, put_rrr};
@@ -241,7 +242,7 @@ fn put_memory(
             from,
         } => {
             let place = resolved_address(sink, frame, *from)?;
-            put_load(sink, flags, *rd, *op, access.trap_code(), place)
+            put_load_line(sink, flags, *rd, *op, access.trap_code(), place)
         }
         Inst::Store {
             to,
@@ -250,7 +251,7 @@ fn put_memory(
             src,
         } => {
             let place = resolved_address(sink, frame, *to)?;
-            put_store(sink, flags, *op, *src, access.trap_code(), place)
+            put_store_line(sink, flags, *op, *src, access.trap_code(), place)
         }
         Inst::LoadAddr { rd, mem } => {
             let place = resolved_address(sink, frame, *mem)?;
