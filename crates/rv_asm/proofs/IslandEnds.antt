@@ -28,7 +28,7 @@ use Rattle.rv_inst.specs.declared.label_use.LabelUse.TheVariants.{Jal20, PCRelLo
 use Rattle.rv_inst.specs.declared.targets.Targets.{Targets}
 use Rattle.rv_inst.specs.declared.targets.Targets.TheVariants.{Nowhere, Jumps, Branches, Refers, RefersConstant}
 use Rattle.rv_emit.specs.Emitted.{Buffer, pending, AppendsIsland}
-use Rattle.rv_emit.proofs.Laws.{Each, each_none, each_more, deadlines_as, keeps, listed, listed_targets, listed_try, pending_at}
+use Rattle.rv_emit.proofs.Laws.{Each, each_none, each_more, deadlines_as, first_use, keeps, listed, listed_targets, listed_try, pending_at}
 use Rattle.rv_asm.specs.Reported.{constants_named}
 use Rattle.rv_asm.specs.Reach.{is_island, is_island_at, first_after_island, uses_from, uses_after_island, bound_by, waiting, constants_waiting, island_after, IsDue}
 use Rattle.rv_asm.specs.LinesInBuffer.{LinesStand}
@@ -46,16 +46,19 @@ Low u = has_veneer_of u.kind ≡ true → u.label.number < first_inner
 low_uses : (context : Context) (start end : ℕ) (inst : Inst) → inst_rule context inst ≡ None → Each Low (uses_in context start end inst)
 low_uses context start end inst rule = let k = keeps context inst rule in by (try_call_of inst) k.listed_try k.listed
   where
-    on : (targets : Targets) → list_any is_buffer_label (labels_of targets) ≡ false → Each Low (target_uses context.flags start targets)
+    begin : ℕ
+    begin = first_use context inst start
+
+    on : (targets : Targets) → list_any is_buffer_label (labels_of targets) ≡ false → Each Low (target_uses context.flags begin targets)
     on Nowhere e = each_none _
-    on (Jumps label) e = each_more Low (use_at start label (jump_kind context.flags)) [] (λ served. listed label _ e) (each_none _)
+    on (Jumps label) e = each_more Low (use_at begin label (jump_kind context.flags)) [] (λ served. listed label _ e) (each_none _)
     on (Branches Fallthrough not_taken) e = each_none _
     on (Branches (Label t) Fallthrough) e = let both = listed_targets (Label t) Fallthrough e in each_more Low _ [] (λ served. both.0) (each_none _)
-    on (Branches (Label t) (Label f)) e = let both = listed_targets (Label t) (Label f) e in each_more Low _ (use_at (start + 4) f (jump_kind context.flags) ∷ []) (λ served. both.0) (each_more Low _ [] (λ served. both.1) (each_none _))
-    on (Refers label) e = each_more Low _ (use_at (start + 4) label PCRelLo12I ∷ []) (λ served. absurd (cc)) (each_more Low _ [] (λ served. absurd (cc)) (each_none _))
-    on (RefersConstant k read) e = each_more Low _ (use_at (start + 4) (constant_label k) PCRelLo12I ∷ []) (λ served. absurd (cc)) (each_more Low _ [] (λ served. absurd (cc)) (each_none _))
+    on (Branches (Label t) (Label f)) e = let both = listed_targets (Label t) (Label f) e in each_more Low _ (use_at (begin + 4) f (jump_kind context.flags) ∷ []) (λ served. both.0) (each_more Low _ [] (λ served. both.1) (each_none _))
+    on (Refers label) e = each_more Low _ (use_at (begin + 4) label PCRelLo12I ∷ []) (λ served. absurd (cc)) (each_more Low _ [] (λ served. absurd (cc)) (each_none _))
+    on (RefersConstant k read) e = each_more Low _ (use_at (begin + 4) (constant_label k) PCRelLo12I ∷ []) (λ served. absurd (cc)) (each_more Low _ [] (λ served. absurd (cc)) (each_none _))
 
-    by : (t : Option TryCallInfo) → list_any is_buffer_label (try_labels t) ≡ false → list_any is_buffer_label (labels_of (targets_of inst)) ≡ false → Each Low (uses_by context.flags start end t (targets_of inst))
+    by : (t : Option TryCallInfo) → list_any is_buffer_label (try_labels t) ≡ false → list_any is_buffer_label (labels_of (targets_of inst)) ≡ false → Each Low (uses_by context.flags begin end t (targets_of inst))
     by None first second = on (targets_of inst) second
     by (Some t) first second = each_more Low _ [] (λ served. listed_try (Some t) first) (each_none _)
 

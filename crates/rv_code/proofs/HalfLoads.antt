@@ -35,7 +35,7 @@ use Rattle.rv_code.specs.Sites.{Site, CodeHas}
 use Rattle.rv_code.specs.Slots.{Aim, Label, Op, Slot, size_of}
 use Rattle.rv_code.specs.UnitRuns.{FullComesOut}
 use Rattle.rv_code.proofs.AddressRules.{IsUsableAt}
-use Rattle.rv_code.proofs.AddressRuns.{Sets, address_even, address_fits, address_same, set_at, sets_both, sets_one, shorter, size_append, stands_split}
+use Rattle.rv_code.proofs.AddressRuns.{Sets, address_even, address_same, label_address, set_at, sets_both, sets_one, shorter, size_append, stands_split}
 use Rattle.rv_code.proofs.Chains.{goes_at_least, goes_both}
 use Rattle.rv_code.proofs.ExactRows.{IsBefore, DoesThere, before_values, exact_out}
 use Rattle.rv_code.proofs.Exits.{starts_at}
@@ -80,12 +80,12 @@ half_sets {site} {start} {after} {s} {v} (Based r o) trap based = on (is_near o)
         let long : near.len ≡ size_of (access_slots trap ++ Op near ∷ []) = (let rest = access_size trap (Op near ∷ []) in omega arith) in
         subst (λ n. Sets site.context.flags n s 31 (half_at s.values.mem (wrap (reg s.values r + low64 o)))) long (near_sets 31 r Lh o trap refl e)
     on false e = half_far (Based r o) trap based e
-half_sets {site} {s = s} (AtLabel l) trap based e =
+half_sets {site} {s = s} (AtLabel l) trap based = λ e.
     let long : 8 ≡ size_of (label_load_slots 31 31 Lh trap l) = label_long 31 31 l trap in
-    subst (λ n. Sets site.context.flags n s 31 _) long (label_sets 31 Lh l trap refl (lit< tt) (lit< tt) e)
-half_sets {site} {s = s} (AtConstant k) trap based e =
+    subst (λ n. Sets site.context.flags n s 31 (half_at s.values.mem (label_address site l))) long (label_sets 31 Lh l trap refl (lit< tt) (lit< tt) e)
+half_sets {site} {s = s} (AtConstant k) trap based = λ e.
     let long : 8 ≡ size_of (label_load_slots 31 31 Lh trap (constant_label k)) = label_long 31 31 (constant_label k) trap in
-    subst (λ n. Sets site.context.flags n s 31 _) (long ∙ omega arith) (label_sets 31 Lh (constant_label k) trap refl (lit< tt) (lit< tt) (once_named k (label_load_slots 31 31 Lh trap (constant_label k)) e))
+    subst (λ n. Sets site.context.flags n s 31 (half_at s.values.mem (label_address site (constant_label k)))) (long ∙ omega arith) (label_sets 31 Lh (constant_label k) trap refl (lit< tt) (lit< tt) (once_named k (label_load_slots 31 31 Lh trap (constant_label k)) e))
 
 -- it has an even length
 half_even : (flags : IsaFlags) (loc : Location) (trap : Option TrapCode) → size_of (load_slots flags 31 Lh trap loc) % 2 ≡ 0

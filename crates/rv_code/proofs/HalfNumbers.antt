@@ -1,9 +1,10 @@
 -- Halves that integer registers move: one with ones above it is boxed, and one that was sign-extended has the same low bytes.
 use Rattle.std.proofs.Common.{◌≡◌, ℕ, ◌+◌, ◌-◌, ◌*◌, ◌/◌, ◌%◌, ◌^◌, ◌<◌, ◌≤◌, [], ◌∷◌, arith, ap, ◌∙◌}
 use Rattle.std.specs.Int.{w16, w32}
+use Rattle.std.specs.Int.Bits.{or_zero_r}
 use Rattle.std.specs.Int.RustNames.{bit_or}
 use Rattle.std.proofs.lemmas.Int.{ints}
-use Rattle.std.proofs.lemmas.Nat.{or_block, or_lt, or_mod, or_zero_r, le_or_r}
+use Rattle.std.proofs.lemmas.Nat.{or_block, or_lt, or_mod, le_or_r}
 use Rattle.rv_machine.specs.Memory.{sign_extend}
 use Rattle.rv_machine.specs.declared.ops.FloatFormat.TheVariants.{H, S}
 use Rattle.rv_full.specs.Floats.{boxed, extended, low_part}

@@ -34,7 +34,7 @@ store_enters {z = z} {s} {v} src loc trap fits e = record {
   within = e.within;
   short = e.short;
   labels = e.labels;
-  stands = (e.stands.0, (e.stands.1.1, let ends = e.stands.2 in omega arith));
+  stands = (e.stands.0, e.stands.1.1, let ends = e.stands.2 in omega arith);
   placed = e.placed;
   pc = let pc = e.pc in omega arith;
   is_state = record { pc = omega arith; values = are_values_set s.values 30 z e.is_state.values (lit< tt) fits };

@@ -84,6 +84,7 @@ stored_bytes stores.Sb x = (omega arith, tt)
 stored_bytes stores.Sh x = (omega arith, (omega arith, tt))
 stored_bytes stores.Sw x = (omega arith, (omega arith, (omega arith, (omega arith, tt))))
 stored_bytes stores.Sd x = (omega arith, (omega arith, (omega arith, (omega arith, (omega arith, (omega arith, (omega arith, (omega arith, tt))))))))
+stored_bytes stores.Fsh x = (omega arith, (omega arith, tt))
 stored_bytes stores.Fsw x = (omega arith, (omega arith, (omega arith, (omega arith, tt))))
 stored_bytes stores.Fsd x = (omega arith, (omega arith, (omega arith, (omega arith, (omega arith, (omega arith, (omega arith, (omega arith, tt))))))))
 
@@ -92,6 +93,7 @@ stored_length stores.Sb x = refl
 stored_length stores.Sh x = refl
 stored_length stores.Sw x = refl
 stored_length stores.Sd x = refl
+stored_length stores.Fsh x = refl
 stored_length stores.Fsw x = refl
 stored_length stores.Fsd x = refl
 

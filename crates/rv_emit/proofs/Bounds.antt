@@ -31,7 +31,7 @@ use Rattle.rv_emit.specs.Emitted.{Buffer, pending, AppendsInst, AppendsBy, Appen
 use Rattle.rv_emit.proofs.CallAppends.{words_pending}
 use Rattle.rv_emit.proofs.PlainSlots.{words_long}
 use Rattle.rv_emit.proofs.MostBytes.{words_within, most_in_sequence}
-use Rattle.rv_emit.proofs.ReachAfterInst.{Each, each_none, each_more, pending_at, few_deadlines, bytes_put, pending_adds, pending_whole}
+use Rattle.rv_emit.proofs.ReachAfterInst.{Each, bytes_put, each_more, each_none, few_deadlines, first_use, pending_adds, pending_at, pending_whole, uses_late}
 
 -- ---- how far uses reach
 
@@ -62,21 +62,27 @@ HasJump flags start end (Some t) = start + jump_size flags ≤ end
 pub uses_least : (context : Context) (start end : ℕ) (inst : Inst) → HasJump context.flags start end (try_call_of inst) → Each (λ u. start + least_reach context (Put inst) ≤ deadline label_kinds u) (uses_in context start end inst)
 uses_least context start end inst room = by (try_call_of inst) room
   where
-    on : (targets : Targets) → Each (λ u. start + target_reach context.flags targets ≤ deadline label_kinds u) (target_uses context.flags start targets)
-    on Nowhere = each_none _
-    on (Jumps label) = each_more (λ u. start + target_reach context.flags (Jumps label) ≤ deadline label_kinds u) _ [] (jump_least context.flags.has_zca start) (each_none _)
-    on (Branches Fallthrough not_taken) = each_none _
-    on (Branches (Label t) Fallthrough) = each_more (λ u. start + target_reach context.flags (Branches (Label t) Fallthrough) ≤ deadline label_kinds u) _ [] (branch_least context.flags.has_zca start) (each_none _)
-    on (Branches (Label t) (Label f)) =
-        each_more (λ u. start + target_reach context.flags (Branches (Label t) (Label f)) ≤ deadline label_kinds u) _ (use_at (start + 4) f (jump_kind context.flags) ∷ []) (branch_least context.flags.has_zca start)
-        (each_more (λ u. start + target_reach context.flags (Branches (Label t) (Label f)) ≤ deadline label_kinds u) _ [] (after_least context.flags.has_zca start) (each_none _))
-    on (Refers label) =
-        each_more (λ u. start + 1048574 ≤ deadline label_kinds u) _ (use_at (start + 4) label PCRelLo12I ∷ []) (omega arith) (each_more (λ u. start + 1048574 ≤ deadline label_kinds u) _ [] (omega arith) (each_none _))
-    on (RefersConstant k read) =
-        each_more (λ u. start + 1048574 ≤ deadline label_kinds u) _ (use_at (start + 4) (constant_label k) PCRelLo12I ∷ []) (omega arith) (each_more (λ u. start + 1048574 ≤ deadline label_kinds u) _ [] (omega arith) (each_none _))
+    begin : ℕ
+    begin = first_use context inst start
 
-    by : (t : Option TryCallInfo) → HasJump context.flags start end t → Each (λ u. start + inst_reach context.flags t (targets_of inst) ≤ deadline label_kinds u) (uses_by context.flags start end t (targets_of inst))
-    by None room = on (targets_of inst)
+    on : (targets : Targets) → Each (λ u. begin + target_reach context.flags targets ≤ deadline label_kinds u) (target_uses context.flags begin targets)
+    on Nowhere = each_none _
+    on (Jumps label) = each_more (λ u. begin + target_reach context.flags (Jumps label) ≤ deadline label_kinds u) _ [] (jump_least context.flags.has_zca begin) (each_none _)
+    on (Branches Fallthrough not_taken) = each_none _
+    on (Branches (Label t) Fallthrough) = each_more (λ u. begin + target_reach context.flags (Branches (Label t) Fallthrough) ≤ deadline label_kinds u) _ [] (branch_least context.flags.has_zca begin) (each_none _)
+    on (Branches (Label t) (Label f)) =
+        each_more (λ u. begin + target_reach context.flags (Branches (Label t) (Label f)) ≤ deadline label_kinds u) _ (use_at (begin + 4) f (jump_kind context.flags) ∷ []) (branch_least context.flags.has_zca begin)
+        (each_more (λ u. begin + target_reach context.flags (Branches (Label t) (Label f)) ≤ deadline label_kinds u) _ [] (after_least context.flags.has_zca begin) (each_none _))
+    on (Refers label) =
+        each_more (λ u. begin + 1048574 ≤ deadline label_kinds u) _ (use_at (begin + 4) label PCRelLo12I ∷ []) (omega arith) (each_more (λ u. begin + 1048574 ≤ deadline label_kinds u) _ [] (omega arith) (each_none _))
+    on (RefersConstant k read) =
+        each_more (λ u. begin + 1048574 ≤ deadline label_kinds u) _ (use_at (begin + 4) (constant_label k) PCRelLo12I ∷ []) (omega arith) (each_more (λ u. begin + 1048574 ≤ deadline label_kinds u) _ [] (omega arith) (each_none _))
+
+    sooner : (reach : ℕ) (uses : List (Use LabelUse)) → Each (λ u. begin + reach ≤ deadline label_kinds u) uses → Each (λ u. start + reach ≤ deadline label_kinds u) uses
+    sooner reach uses each k u h = let far = each k u h in let late = uses_late context inst start in omega (arith, far, late)
+
+    by : (t : Option TryCallInfo) → HasJump context.flags start end t → Each (λ u. start + inst_reach context.flags t (targets_of inst) ≤ deadline label_kinds u) (uses_by context.flags begin end t (targets_of inst))
+    by None room = sooner (target_reach context.flags (targets_of inst)) (target_uses context.flags begin (targets_of inst)) (on (targets_of inst))
     by (Some t) room = each_more (λ u. start + jump_reach context.flags ≤ deadline label_kinds u) _ [] (last_least context.flags.has_zca start end room) (each_none _)
 
 -- a call that goes on has room for its jump
@@ -105,19 +111,22 @@ all_deadlines P test (u ∷ uses) each = on (test u) (each 0 u refl) (all_deadli
 pub few_ways : (context : Context) (place : ℕ → Option ℕ) (start end : ℕ) (inst : Inst) → length (deadlines (pending_at place) label_kinds (uses_in context start end inst)) ≤ length (inst_ways inst)
 few_ways context place start end inst = by (try_call_of inst)
   where
+    begin : ℕ
+    begin = first_use context inst start
+
     of_uses : (uses : List (Use LabelUse)) (most : ℕ) → length uses ≤ most → length (deadlines (pending_at place) label_kinds uses) ≤ most
     of_uses uses most le = let few = few_deadlines (pending_at place) label_kinds uses in omega arith
 
-    on : (targets : Targets) → length (deadlines (pending_at place) label_kinds (target_uses context.flags start targets)) ≤ length (ways_of targets)
+    on : (targets : Targets) → length (deadlines (pending_at place) label_kinds (target_uses context.flags begin targets)) ≤ length (ways_of targets)
     on Nowhere = omega arith
-    on (Jumps label) = of_uses (use_at start label (jump_kind context.flags) ∷ []) 1 (omega arith)
+    on (Jumps label) = of_uses (use_at begin label (jump_kind context.flags) ∷ []) 1 (omega arith)
     on (Branches Fallthrough not_taken) = omega arith
-    on (Branches (Label t) Fallthrough) = of_uses (use_at start t B12 ∷ []) 1 (omega arith)
-    on (Branches (Label t) (Label f)) = of_uses (use_at start t B12 ∷ use_at (start + 4) f (jump_kind context.flags) ∷ []) 2 (omega arith)
+    on (Branches (Label t) Fallthrough) = of_uses (use_at begin t B12 ∷ []) 1 (omega arith)
+    on (Branches (Label t) (Label f)) = of_uses (use_at begin t B12 ∷ use_at (begin + 4) f (jump_kind context.flags) ∷ []) 2 (omega arith)
     on (Refers label) = omega arith
     on (RefersConstant k read) = omega arith
 
-    by : (t : Option TryCallInfo) → length (deadlines (pending_at place) label_kinds (uses_by context.flags start end t (targets_of inst))) ≤ length (ways_by t (targets_of inst))
+    by : (t : Option TryCallInfo) → length (deadlines (pending_at place) label_kinds (uses_by context.flags begin end t (targets_of inst))) ≤ length (ways_by t (targets_of inst))
     by None = on (targets_of inst)
     by (Some t) = of_uses (use_at (end - jump_size context.flags) t.continuation (jump_kind context.flags) ∷ []) 1 (omega arith)
 

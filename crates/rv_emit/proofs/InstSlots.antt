@@ -42,7 +42,8 @@ use Rattle.rv_code.proofs.Operands.{keeps, data_kept, constant_kept}
 use Rattle.rv_inst.specs.Addresses.{AtLabel, location_of}
 use Rattle.rv_code.proofs.PlainSlots.{IsSummed}
 use Rattle.rv_emit.proofs.PlainSlots.{summed, nothing}
-use Rattle.rv_code.proofs.MemorySlots.{load_summed, store_summed, load_addr_summed, label_address_summed, load_contained, store_contained, address_contained}
+use Rattle.rv_code.proofs.LineSlots.{load_summed, store_summed, load_contained, store_contained}
+use Rattle.rv_code.proofs.MemorySlots.{load_addr_summed, label_address_summed, address_contained}
 use Rattle.rv_code.proofs.CountSlots.{popcnt_made, zeros_made, reverse_made}
 use Rattle.rv_code.proofs.MadeOfPieces.{made_contained}
 use Rattle.rv_code.proofs.TrapSlots.{udf_made, trap_if_made}

@@ -38,7 +38,7 @@ pub use Rattle.rv_emit.proofs.LabelsReached.{GoesToLabel, label_reached}
 -- ways on in the finished code
 pub use Rattle.rv_code.proofs.Ways.{comes_both, leads_here, leads_both}
 -- pending uses and their deadlines
-pub use Rattle.rv_emit.proofs.ReachAfterInst.{Each, pending_at, each_none, each_more, uses_bare, uses_kinds, few_deadlines, bytes_put, direct_never_pending, pending_still, pending_adds, calm_after}
+pub use Rattle.rv_emit.proofs.ReachAfterInst.{Each, first_use, pending_at, each_none, each_more, uses_bare, uses_kinds, few_deadlines, bytes_put, direct_never_pending, pending_still, pending_adds, calm_after}
 -- and what a sequence leaves as it was, with labels of its own or without
 pub use Rattle.rv_emit.proofs.Sequences.{no_own, low_kept, high_kept, bound_kept}
 pub use Rattle.rv_code.proofs.OwnCounts.{owns_few, asking_owns_none}

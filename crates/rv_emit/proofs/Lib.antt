@@ -13,6 +13,7 @@ mod PartsInBuffer
 mod PlacedBytes
 mod PlainSlots
 mod HalfwordCode
+mod HalvesPut
 mod OwnForms
 mod TableAppends
 mod TableCode

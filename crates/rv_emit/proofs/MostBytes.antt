@@ -23,14 +23,18 @@ use Rattle.rv_base.specs.LabelUse.{code_limit}
 use Rattle.rv_base.specs.Regs.{number_of}
 use Rattle.rv_machine.specs.Arithmetic.{low_word}
 use Rattle.rv_machine.specs.declared.decoding.Decoded.{Decoded}
-use Rattle.rv_ops.specs.declared.alu.AluOPRRR.TheVariants.{Add}
+use Rattle.rv_ops.specs.declared.alu.AluOPRRR.TheVariants.{Add, Or}
 use Rattle.rv_ops.specs.declared.alu.AluOPRRI.TheVariants.{Addi}
 use Rattle.rv_ops.specs.declared.memory.LoadOP.{LoadOP}
+use Rattle.rv_ops.specs.declared.memory.LoadOP.TheVariants.{Lh}
 use Rattle.rv_ops.specs.declared.memory.StoreOP.{StoreOP}
+use Rattle.rv_ops.specs.declared.memory.StoreOP.TheVariants.{Sh}
+use Rattle.rv_encode.specs.Operations.{has_load, has_store}
 use Rattle.rv_inst.specs.Addresses.{Location, Based, AtLabel, AtConstant, location_of, is_near, inline_size, far_address_size, address_size, load_size_at, store_size_at}
 use Rattle.rv_inst.specs.Context.{Context}
-use Rattle.rv_inst.specs.Forms.{short_rri, short_jalr, short_load, short_store}
-use Rattle.rv_inst.specs.MostBytes.{most_bytes, return_limit, call_limit, sequence_limit}
+use Rattle.rv_inst.specs.Forms.{short_lui, short_rri, short_rrr, short_jalr, short_load, short_store}
+use Rattle.rv_inst.specs.Halves.{boxing_size, high_bits, load_line_size, store_line_size}
+use Rattle.rv_inst.specs.MostBytes.{most_bytes, load_limit, store_limit, return_limit, call_limit, sequence_limit}
 use Rattle.rv_inst.specs.Returns.{StackLoad, saves_from, setup_loads, restores, frame_above, typed_loads, location_loads, result_loads, loads_unless, result_load}
 use Rattle.rv_inst.specs.Rules.{is_word_type, is_on_stack, is_stacked, inst_rule}
 use Rattle.rv_inst.specs.Sizes.{space_in, extra_in, words_in, extent_of, island_space, inst_sum, branch_size, return_size, fall, call_extent}
@@ -75,15 +79,45 @@ access_short : (flags : IsaFlags) (near : Decoded) (r : ℕ) (o : ℤ) (c : Bool
 access_short flags near r o true size = let few = size.few in omega arith
 access_short flags near r o false size = let far = far_short flags 31 o in let few = (rrr_sized flags Add 31 31 r).few in omega arith
 
-load_short : (flags : IsaFlags) (op : LoadOP) (rd : ℕ) (at : Location) → load_size_at flags op rd at ≤ 28
+pub load_short : (flags : IsaFlags) (op : LoadOP) (rd : ℕ) (at : Location) → load_size_at flags op rd at ≤ 28
 load_short flags op rd (Based r o) = access_short flags (short_load flags op rd r o) r o (is_near o) (load_sized flags op rd r o)
 load_short flags op rd (AtLabel l) = omega arith
 load_short flags op rd (AtConstant k) = omega arith
 
-store_short : (flags : IsaFlags) (op : StoreOP) (src : ℕ) (at : Location) → store_size_at flags op src at ≤ 28
+pub store_short : (flags : IsaFlags) (op : StoreOP) (src : ℕ) (at : Location) → store_size_at flags op src at ≤ 28
 store_short flags op src (Based r o) = access_short flags (short_store flags op r src o) r o (is_near o) (store_sized flags op r src o)
 store_short flags op src (AtLabel l) = omega arith
 store_short flags op src (AtConstant k) = omega arith
+
+-- a half by integer registers has three words more, or one
+load_line_short : (flags : IsaFlags) (op : LoadOP) (rd : ℕ) (at : Location) → load_line_size flags op rd at ≤ load_limit flags op
+load_line_short flags op rd at = by (has_load flags op)
+  where
+    by : (has : Bool) → (if has then load_size_at flags op rd at else load_size_at flags Lh 31 at + boxing_size flags) ≤ (if has then 28 else 28 + 12)
+    by true = load_short flags op rd at
+    by false = let one = load_short flags Lh 31 at in let lui = (lui_sized flags 30 high_bits).few in let orr = (rrr_sized flags Or 31 31 30).few in omega arith
+
+store_line_short : (flags : IsaFlags) (op : StoreOP) (src : ℕ) (at : Location) → store_line_size flags op src at ≤ store_limit flags op
+store_line_short flags op src at = by (has_store flags op)
+  where
+    by : (has : Bool) → (if has then store_size_at flags op src at else 4 + store_size_at flags Sh 30 at) ≤ (if has then 28 else 28 + 4)
+    by true = store_short flags op src at
+    by false = let one = store_short flags Sh 30 at in omega arith
+
+-- at most ten words
+load_most_bytes : (flags : IsaFlags) (op : LoadOP) → load_limit flags op ≤ 40
+load_most_bytes flags op = by (has_load flags op)
+  where
+    by : (has : Bool) → (if has then 28 else 28 + 12) ≤ 40
+    by true = lit≤ tt
+    by false = lit≤ tt
+
+store_most_bytes : (flags : IsaFlags) (op : StoreOP) → store_limit flags op ≤ 40
+store_most_bytes flags op = by (has_store flags op)
+  where
+    by : (has : Bool) → (if has then 28 else 28 + 4) ≤ 40
+    by true = lit≤ tt
+    by false = lit≤ tt
 
 branch_short : (flags : IsaFlags) (t f : CondBrTarget) → branch_size flags t f ≤ 8
 branch_short flags Fallthrough f = omega arith
@@ -189,8 +223,8 @@ words_within context (Mov rd rm type) rule small = made_short (mov_made context 
 words_within context (MovFromPReg rd rm) rule small = made_short (mov_from_preg_made context rd rm)
 words_within context (Extend rd rn signed from_bits to_bits) rule small = made_short (extend_made context rd rn signed from_bits to_bits)
 words_within context (Select info) rule small = made_short (select_made context info)
-words_within context (Load rd op flags from) rule small = load_short context.flags op (number_of rd.reg) (location_of context.frame from)
-words_within context (Store src op flags to) rule small = store_short context.flags op (number_of src) (location_of context.frame to)
+words_within context (Load rd op flags from) rule small = load_line_short context.flags op (number_of rd.reg) (location_of context.frame from)
+words_within context (Store src op flags to) rule small = store_line_short context.flags op (number_of src) (location_of context.frame to)
 words_within context (LoadAddr rd mem) rule small = address_short context.flags (number_of rd.reg) (location_of context.frame mem)
 words_within context (LabelAddress dst label) rule small = omega arith
 words_within context Ret rule small = (jalr_sized context.flags 0 1 (pos 0)).few
@@ -221,6 +255,8 @@ most_in_sequence context (Call info) asks = call_alone context.flags 8 8 info.ca
 most_in_sequence context (CallInd info) asks = call_alone context.flags 4 (short_jalr context.flags 1 (number_of info.dest) (pos 0)).len info.callee_pop_size (result_loads info.defs) info.try_call_info (lit≤ tt) asks
 most_in_sequence context (ReturnCall info) asks = absurd (cc)
 most_in_sequence context (ReturnCallInd info) asks = absurd (cc)
+most_in_sequence context (Load rd op flags from) asks = let few = load_most_bytes context.flags op in omega (arith, few)
+most_in_sequence context (Store src op flags to) asks = let few = store_most_bytes context.flags op in omega (arith, few)
 most_in_sequence context inst asks = omega arith
 
 -- with a veneer for each label to which it goes, and two islands, it counts for as many
@@ -230,7 +266,7 @@ most_counts context (CallInd info) = let counted = loads_counted info.defs in le
 most_counts context (CondBr t f kind) = let few = branch_ways t f in omega (arith, few)
 most_counts context (ReturnCall info) = let few = restores_few context.frame in omega (arith, few)
 most_counts context (ReturnCallInd info) = let few = restores_few context.frame in omega (arith, few)
-most_counts context (Load rd op flags from) = let none = address_ways (load_size op) from in omega (arith, none)
-most_counts context (Store src op flags to) = let none = address_ways 0 to in omega (arith, none)
+most_counts context (Load rd op flags from) = let none = address_ways (load_size op) from in let few = load_most_bytes context.flags op in omega (arith, none, few)
+most_counts context (Store src op flags to) = let none = address_ways 0 to in let few = store_most_bytes context.flags op in omega (arith, none, few)
 most_counts context (LoadAddr rd mem) = let none = address_ways 0 mem in omega (arith, none)
 most_counts context inst = omega arith

@@ -1,5 +1,5 @@
 -- Windows that hold one part of a distance: what their words decode to once the part is patched in.
-use Rattle.std.proofs.Common.{◌≡◌, ℕ, ◌+◌, ◌*◌, ◌/◌, ◌%◌, ◌^◌, ◌<◌, List, [], ◌∷◌, length, slice_index, Some, ℤ, pos, negsuc, ◌≤ℤ◌, refl, sym, ap, subst, ◌∙◌, arith, bit_and}
+use Rattle.std.proofs.Common.{◌≡◌, ℕ, ◌+◌, ◌*◌, ◌/◌, ◌%◌, ◌^◌, ◌<◌, List, [], ◌∷◌, length, slice_index, Some, true, ℤ, pos, negsuc, ◌≤ℤ◌, refl, sym, ap, subst, ◌∙◌, arith, bit_and}
 use Rattle.std.proofs.lemmas.Int.{ints}
 use Rattle.std.proofs.lemmas.Nat.{and_mask, and_comm}
 use Rattle.std.proofs.lemmas.Nat.Bits.{and_high}
@@ -16,7 +16,7 @@ use Rattle.rv_machine.specs.Decode.{int_by_opcode}
 use Rattle.rv_ops.specs.declared.memory.LoadOP.{LoadOP}
 use Rattle.rv_ops.specs.Memory.{load_funct3, load_opcode}
 use Rattle.rv_encode.specs.Layouts.{IsUType, IsIType}
-use Rattle.rv_encode.specs.Operations.{decoded, decoded_load}
+use Rattle.rv_encode.specs.Operations.{decoded, decoded_load, has_load}
 use Rattle.rv_encode.proofs.Decoding.{opcode_decodes}
 use Rattle.rv_encode.proofs.MemoryDecoding.{load_decodes}
 use Rattle.rv_imms.specs.declared.imm12.Imm12.{Imm12}
@@ -110,8 +110,8 @@ addi_patchable flags w rd rs fits h = record {
 as_immediate : (n : ℕ) → n < 2 ^ 12 → Imm12
 as_immediate n lt = record { value = signed (2 ^ 11) n; low = signed_least n lt; high = signed_most n lt }
 
-pub load_patchable : (flags : IsaFlags) (op : LoadOP) (w rd rs : ℕ) → w < 2 ^ 32 → IsIType w (load_opcode op) rd (load_funct3 op) rs 0 → IsPatchable flags PCRelLo12I (word_bytes w) (λ d. decoded_load op rd rs (lower_of_distance d) ∷ [])
-load_patchable flags op w rd rs fits h = record {
+pub load_patchable : (flags : IsaFlags) (op : LoadOP) (w rd rs : ℕ) → has_load flags op ≡ true → w < 2 ^ 32 → IsIType w (load_opcode op) rd (load_funct3 op) rs 0 → IsPatchable flags PCRelLo12I (word_bytes w) (λ d. decoded_load op rd rs (lower_of_distance d) ∷ [])
+load_patchable flags op w rd rs has fits h = record {
   long = refl;
   fresh = let e = h.imm_is in lower_fresh w (omega arith);
   patched = λ new d long all same aims.
@@ -119,5 +119,5 @@ load_patchable flags op w rd rs fits h = record {
       let n = i_bits (word_at new) in
       let imm = as_immediate n (omega arith) in
       let fields = subst (IsIType (word_at new) (load_opcode op) rd (load_funct3 op) rs) (sym (signed_back n (omega arith))) k in
-      encodes flags new _ long (load_decodes flags op (word_at new) rd rs imm fields ∙ (λ i. Some (decoded_load op rd rs (signed (2 ^ 11) (aims i)))));
+      encodes flags new _ long (load_decodes flags op (word_at new) rd rs imm has fields ∙ (λ i. Some (decoded_load op rd rs (signed (2 ^ 11) (aims i)))));
 }

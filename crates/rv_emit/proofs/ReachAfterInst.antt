@@ -25,9 +25,9 @@ use Rattle.mach_uses.specs.Reach.{CanReach, HasSlack, deadline, deadlines, is_pe
 use Rattle.mach_buffer.specs.Buffer.{bytes_of, uses_of, place_of}
 use Rattle.mach_buffer.proofs.Laws.{deadlines_append, none_from, slack_use, slack_less, slack_not_needed, reach_from_slack}
 use Rattle.rv_emit.specs.Emitted.{Buffer, pending, IsFarUse, IsOwnUse, AppendsInst, IslandIfNeeded, CanEmit}
-use Rattle.rv_inst.specs.Sizes.{words_in, line_space, extent_of, island_space, inst_sum}
+use Rattle.rv_inst.specs.Sizes.{words_in, line_space, inst_code, extent_of, island_space, inst_sum}
 use Rattle.rv_inst.specs.MostBytes.{sequence_limit}
-use Rattle.rv_inst.specs.Uses.{use_at, target_uses, uses_by, uses_in}
+use Rattle.rv_inst.specs.Uses.{use_at, target_uses, uses_by, uses_in, uses_start}
 use Rattle.rv_emit.proofs.Islands.{deadlines_as}
 use Rattle.rv_emit.proofs.MostBytes.{words_within, most_in_sequence}
 use Rattle.rv_emit.proofs.Sequences.{named_kept}
@@ -38,8 +38,19 @@ pending_at place = is_pending label_kinds place
 
 -- ---- uses of an instruction
 
--- what holds of each list of uses that an instruction may have, holds of its own
-pub each_uses : (P : List (Use LabelUse) → Type 0) (context : Context) (start end : ℕ) (inst : Inst) → ((label : MachLabel) → P (use_at (end - jump_size context.flags) label (jump_kind context.flags) ∷ [])) → P [] → ((label : MachLabel) → P (use_at start label (jump_kind context.flags) ∷ [])) → ((t : MachLabel) → P (use_at start t B12 ∷ [])) → ((t f : MachLabel) → P (use_at start t B12 ∷ use_at (start + 4) f (jump_kind context.flags) ∷ [])) → ((label : MachLabel) → P (use_at start label PCRelHi20 ∷ use_at (start + 4) label PCRelLo12I ∷ [])) → P (uses_in context start end inst)
+-- where its uses begin: not before the instruction
+abbrev pub first_use : Context → Inst → ℕ → ℕ
+first_use context inst start = uses_start (inst_code context inst).led start
+
+not_before : (led : Bool) (start : ℕ) → start ≤ uses_start led start
+not_before true start = omega arith
+not_before false start = omega arith
+
+pub uses_late : (context : Context) (inst : Inst) (start : ℕ) → start ≤ first_use context inst start
+uses_late context inst start = not_before (inst_code context inst).led start
+
+-- what holds of each list of uses that an instruction may have, from where they begin, holds of its own
+pub each_uses : (P : List (Use LabelUse) → Type 0) (context : Context) (start end : ℕ) (inst : Inst) → ((label : MachLabel) → P (use_at (end - jump_size context.flags) label (jump_kind context.flags) ∷ [])) → P [] → ((label : MachLabel) → P (use_at start label (jump_kind context.flags) ∷ [])) → ((t : MachLabel) → P (use_at start t B12 ∷ [])) → ((t f : MachLabel) → P (use_at start t B12 ∷ use_at (start + 4) f (jump_kind context.flags) ∷ [])) → ((label : MachLabel) → P (use_at start label PCRelHi20 ∷ use_at (start + 4) label PCRelLo12I ∷ [])) → P (uses_by context.flags start end (try_call_of inst) (targets_of inst))
 each_uses P context start end inst continued none jump one two address = by (try_call_of inst)
   where
     on : (targets : Targets) → P (target_uses context.flags start targets)
@@ -57,7 +68,7 @@ each_uses P context start end inst continued none jump one two address = by (try
 
 -- at most two
 pub few_uses : (context : Context) (start end : ℕ) (inst : Inst) → length (uses_in context start end inst) ≤ 2
-few_uses context start end inst = each_uses (λ us. length us ≤ 2) context start end inst (λ label. omega arith) (omega arith) (λ label. omega arith) (λ t. omega arith) (λ t f. omega arith) (λ label. omega arith)
+few_uses context start end inst = each_uses (λ us. length us ≤ 2) context (first_use context inst start) end inst (λ label. omega arith) (omega arith) (λ label. omega arith) (λ t. omega arith) (λ t f. omega arith) (λ label. omega arith)
 
 -- what holds of each element
 abbrev pub Each : {X : Type 0} → (X → Type 0) → List X → Type 0
@@ -71,7 +82,7 @@ each_more P x xs p rest zero y h = subst P (same_Some _ _ h) p
 each_more P x xs p rest (suc k) y h = rest k y h
 
 -- what holds of each use that may stand in a sequence holds of those of an instruction
-pub each_use : (P : Use LabelUse → Type 0) (context : Context) (start end : ℕ) (inst : Inst) → ((label : MachLabel) → P (use_at (end - jump_size context.flags) label (jump_kind context.flags))) → ((label : MachLabel) → P (use_at start label (jump_kind context.flags))) → ((label : MachLabel) → P (use_at start label B12)) → ((label : MachLabel) → P (use_at (start + 4) label (jump_kind context.flags))) → ((label : MachLabel) → P (use_at start label PCRelHi20)) → ((label : MachLabel) → P (use_at (start + 4) label PCRelLo12I)) → Each P (uses_in context start end inst)
+pub each_use : (P : Use LabelUse → Type 0) (context : Context) (start end : ℕ) (inst : Inst) → ((label : MachLabel) → P (use_at (end - jump_size context.flags) label (jump_kind context.flags))) → ((label : MachLabel) → P (use_at start label (jump_kind context.flags))) → ((label : MachLabel) → P (use_at start label B12)) → ((label : MachLabel) → P (use_at (start + 4) label (jump_kind context.flags))) → ((label : MachLabel) → P (use_at start label PCRelHi20)) → ((label : MachLabel) → P (use_at (start + 4) label PCRelLo12I)) → Each P (uses_by context.flags start end (try_call_of inst) (targets_of inst))
 each_use P context start end inst continued jump branch second upper lower =
     each_uses (Each P) context start end inst (λ label. each_more P _ [] (continued label) (each_none P)) (each_none P)
     (λ label. each_more P _ [] (jump label) (each_none P))
@@ -103,18 +114,21 @@ jump_few flags = by flags.has_zca
 
 -- each reaches over 1900 bytes after the instruction
 pub uses_far : (context : Context) (start end : ℕ) (inst : Inst) → end ≤ start + sequence_limit → Each (λ u. end + 1900 ≤ deadline label_kinds u) (uses_in context start end inst)
-uses_far context start end inst le = let far = jump_far context.flags in let few = jump_few context.flags in each_use (λ u. end + 1900 ≤ deadline label_kinds u) context start end inst (λ label. omega arith) (λ label. omega arith) (λ label. omega arith) (λ label. omega arith) (λ label. omega arith) (λ label. omega arith)
+uses_far context start end inst le = from (first_use context inst start) (uses_late context inst start)
+  where
+    from : (begin : ℕ) → start ≤ begin → Each (λ u. end + 1900 ≤ deadline label_kinds u) (uses_by context.flags begin end (try_call_of inst) (targets_of inst))
+    from begin late = let far = jump_far context.flags in let few = jump_few context.flags in each_use (λ u. end + 1900 ≤ deadline label_kinds u) context begin end inst (λ label. omega arith) (λ label. omega arith) (λ label. omega arith) (λ label. omega arith) (λ label. omega arith) (λ label. omega arith)
 
 -- a use may go by a veneer, or reaches all code
 abbrev pub IsServed : Use LabelUse → Type 0
 IsServed u = (has_veneer_of u.kind ≡ true) ⊎ (is_far label_kinds u ≡ true)
 
 pub uses_kinds : (context : Context) (start end : ℕ) (inst : Inst) → Each IsServed (uses_in context start end inst)
-uses_kinds context start end inst = each_use IsServed context start end inst (λ label. inl (jump_served context.flags)) (λ label. inl (jump_served context.flags)) (λ label. inl refl) (λ label. inl (jump_served context.flags)) (λ label. inr refl) (λ label. inr refl)
+uses_kinds context start end inst = each_use IsServed context (first_use context inst start) end inst (λ label. inl (jump_served context.flags)) (λ label. inl (jump_served context.flags)) (λ label. inl refl) (λ label. inl (jump_served context.flags)) (λ label. inr refl) (λ label. inr refl)
 
 -- none has a veneer yet
 pub uses_bare : (context : Context) (start end : ℕ) (inst : Inst) → Each (λ u. u.veneer ≡ None) (uses_in context start end inst)
-uses_bare context start end inst = each_use (λ u. u.veneer ≡ None) context start end inst (λ label. refl) (λ label. refl) (λ label. refl) (λ label. refl) (λ label. refl) (λ label. refl)
+uses_bare context start end inst = each_use (λ u. u.veneer ≡ None) context (first_use context inst start) end inst (λ label. refl) (λ label. refl) (λ label. refl) (λ label. refl) (λ label. refl) (λ label. refl)
 
 -- ---- bytes of a sequence
 

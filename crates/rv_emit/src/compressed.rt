@@ -1,8 +1,9 @@
 //! The instruction that stands for an operation: one of sixteen bits where there is a form of it ("C", Compressed Instructions,
 //! and "Zcb"), or one of thirty-two.
 
-ghost use Rattle.std.specs.Prelude.{◌≡◌};
+ghost use Rattle.std.specs.Prelude.{◌≡◌, true};
 ghost use Rattle.rv_base.specs.Regs.{number_of};
+ghost use Rattle.rv_encode.specs.Operations.{has_load, has_store};
 ghost use Rattle.rv_encode.specs.Registers.{IsIntRegister, IsRealRegister};
 ghost use Rattle.rv_inst.specs.Forms.{is_short, IsAddi16spFirst, short_rrr, short_rri, short_lui, short_jalr, short_ebreak, short_load, short_store};
 ghost use Rattle.rv_emit.specs.Encoded.{Holds, WhereHalf};
@@ -106,6 +107,7 @@ pub(crate) fn encoded_load(
     base: Reg,
     offset: Imm12,
 ) -> Encoded
+    requires has { has_load flags op ≡ true }
     requires rd { IsRealRegister rd.reg }
     requires base { IsIntRegister base }
     ensures { Holds flags result (short_load flags op (number_of rd.reg) (number_of base) offset.value) }
@@ -124,6 +126,7 @@ pub(crate) fn encoded_store(
     src: Reg,
     offset: Imm12,
 ) -> Encoded
+    requires has { has_store flags op ≡ true }
     requires base { IsIntRegister base }
     requires src { IsRealRegister src }
     ensures { Holds flags result (short_store flags op (number_of base) (number_of src) offset.value) }

@@ -47,7 +47,7 @@ pub(crate) fn compressed_load(
         LoadOP::Lhu => narrow_load(flags, ZcbMemOp::CLhu, rd, base, offset),
         LoadOP::Lwu => None,
         LoadOP::Ld => word_load(ClOp::CLd, rd, base, offset),
-        LoadOP::Flw => None,
+        LoadOP::Flh | LoadOP::Flw => None,
         LoadOP::Fld => float_load(flags, rd, base, offset),
     }
 }
@@ -72,7 +72,7 @@ pub(crate) fn compressed_store(
         StoreOP::Sh => narrow_store(flags, ZcbMemOp::CSh, base, src, offset),
         StoreOP::Sw => word_store(CsOp::CSw, base, src, offset),
         StoreOP::Sd => word_store(CsOp::CSd, base, src, offset),
-        StoreOP::Fsw => None,
+        StoreOP::Fsh | StoreOP::Fsw => None,
         StoreOP::Fsd => float_store(flags, base, src, offset),
     }
 }

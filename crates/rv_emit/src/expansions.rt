@@ -1,12 +1,13 @@
 //! Instructions that become several pieces of code: traps, constants among the code, and data.
 
-ghost use Rattle.std.specs.Prelude.{◌≡◌, ◌⊎◌, [], ◌∷◌, ◌+◌, ◌*◌, ◌%◌, ◌^◌, ◌<◌, length, pos, OnOk, OnErr, Some, true};
+ghost use Rattle.std.specs.Prelude.{◌≡◌, ◌⊎◌, [], ◌∷◌, ◌+◌, ◌*◌, ◌%◌, ◌^◌, ◌<◌, length, pos, OnOk, OnErr, Some, true, false};
 ghost use Rattle.std.specs.Int.{to_le_bytes};
 ghost use mir.Syntax.{w32, w64};
 ghost use Rattle.rv_base.specs.declared.flags.IsaFlags.{IsaFlags};
 ghost use Rattle.rv_base.specs.Regs.{number_of};
 ghost use Rattle.rv_base.specs.LabelUse.{code_limit};
 ghost use Rattle.rv_ops.specs.declared.memory.LoadOP.TheVariants as loads;
+ghost use Rattle.rv_ops.specs.Memory.{is_float_load};
 ghost use Rattle.rv_encode.specs.Registers.{IsIntRegister};
 ghost use Rattle.rv_encode.specs.Layouts.{IsEven};
 ghost use Rattle.rv_inst.specs.Forms.{jump_size};
@@ -159,6 +160,7 @@ pub(crate) fn put_load_over(
     op: LoadOP,
     size: u8,
 ) -> Result<(), OutOfMemory>
+    requires integer { is_float_load op ≡ false }
     requires rd { IsIntRegister rd.reg }
     requires size { (size ≡ 4) ⊎ (size ≡ 8) }
     requires room { length (bytes_of sink.old) + 12 < code_limit }

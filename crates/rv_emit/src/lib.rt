@@ -11,6 +11,7 @@ mod compressed_registers;
 mod counts;
 mod emit;
 mod expansions;
+mod halves;
 mod island;
 mod memory;
 mod moves;

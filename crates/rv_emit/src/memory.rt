@@ -10,7 +10,7 @@ ghost use Rattle.mach_buffer.specs.Shape.{IsUsable};
 ghost use Rattle.rv_machine.specs.Opcodes.{OP_IMM};
 ghost use Rattle.rv_ops.specs.Memory.{is_float_load, load_funct3, load_opcode};
 ghost use Rattle.rv_encode.specs.Layouts.{IsIType};
-ghost use Rattle.rv_encode.specs.Operations.{decoded_load, decoded_store};
+ghost use Rattle.rv_encode.specs.Operations.{decoded_load, decoded_store, has_load, has_store};
 ghost use Rattle.rv_encode.specs.Registers.{IsIntRegister, IsRealRegister};
 ghost use Rattle.rv_ops.specs.declared.alu.AluOPRRR.TheVariants.{Add};
 ghost use Rattle.rv_inst.specs.Forms.{short_load, short_rrr, short_store};
@@ -83,6 +83,7 @@ pub(crate) fn put_load(
     trap: Option<TrapCode>,
     place: Place,
 ) -> Result<(), OutOfMemory>
+    requires has { has_load flags op ≡ true }
     requires rd { IsRealRegister rd.reg }
     requires base { is_float_load op ≡ false → IsIntRegister rd.reg }
     requires fine { IsFinePlace (shape_of sink.old) place }
@@ -106,6 +107,7 @@ pub(crate) fn put_based_load(
     base: Reg,
     offset: i64,
 ) -> Result<(), OutOfMemory>
+    requires has { has_load flags op ≡ true }
     requires rd { IsRealRegister rd.reg }
     requires base { IsIntRegister base }
     requires room { length (bytes_of sink.old) + 28 < code_limit }
@@ -129,6 +131,7 @@ fn put_near_load(
     base: Reg,
     offset: Imm12,
 ) -> Result<(), OutOfMemory>
+    requires has { has_load flags op ≡ true }
     requires rd { IsRealRegister rd.reg }
     requires base { IsIntRegister base }
     requires room { length (bytes_of sink.old) + 4 < code_limit }
@@ -151,6 +154,7 @@ fn put_far_load(
     base: Reg,
     offset: i64,
 ) -> Result<(), OutOfMemory>
+    requires has { has_load flags op ≡ true }
     requires rd { IsRealRegister rd.reg }
     requires base { IsIntRegister base }
     requires room { length (bytes_of sink.old) + 28 < code_limit }
@@ -173,7 +177,7 @@ fn put_spilled_load(
     requires rd { IsRealRegister rd.reg }
     requires room { length (bytes_of sink.old) + 4 < code_limit }
     requires sound { IsSoundBuffer sink.old }
-    ensures slots { OnOk result ((flags : IsaFlags) → PutsAlone flags (access_slots trap ++ Op (decoded_load op (number_of rd.reg) 31 (pos 0)) ∷ []) sink.old sink.new) }
+    ensures slots { OnOk result ((flags : IsaFlags) → has_load flags op ≡ true → PutsAlone flags (access_slots trap ++ Op (decoded_load op (number_of rd.reg) 31 (pos 0)) ∷ []) sink.old sink.new) }
     ensures refused { OnErr result (spoiled_of sink.new ≡ true) }
 {
     put_access(sink, trap)?;
@@ -195,7 +199,7 @@ fn put_label_load(
     requires label { IsUsable (shape_of sink.old) label.number }
     requires room { length (bytes_of sink.old) + 8 < code_limit }
     requires sound { IsSoundBuffer sink.old }
-    ensures slots { OnOk result ((flags : IsaFlags) → PutsAlone flags (label_load_slots (number_of base.reg) (number_of rd.reg) op trap label) sink.old sink.new) }
+    ensures slots { OnOk result ((flags : IsaFlags) → has_load flags op ≡ true → PutsAlone flags (label_load_slots (number_of base.reg) (number_of rd.reg) op trap label) sink.old sink.new) }
     ensures refused { OnErr result (spoiled_of sink.new ≡ true) }
 {
     put_upper(sink, base, label)?;
@@ -235,6 +239,7 @@ pub(crate) fn put_store(
     trap: Option<TrapCode>,
     place: Place,
 ) -> Result<(), OutOfMemory>
+    requires has { has_store flags op ≡ true }
     requires src { IsRealRegister src }
     requires fine { IsFinePlace (shape_of sink.old) place }
     requires room { length (bytes_of sink.old) + 28 < code_limit }
@@ -257,6 +262,7 @@ fn put_based_store(
     base: Reg,
     offset: i64,
 ) -> Result<(), OutOfMemory>
+    requires has { has_store flags op ≡ true }
     requires src { IsRealRegister src }
     requires base { IsIntRegister base }
     requires room { length (bytes_of sink.old) + 28 < code_limit }
@@ -280,6 +286,7 @@ fn put_near_store(
     base: Reg,
     offset: Imm12,
 ) -> Result<(), OutOfMemory>
+    requires has { has_store flags op ≡ true }
     requires src { IsRealRegister src }
     requires base { IsIntRegister base }
     requires room { length (bytes_of sink.old) + 4 < code_limit }
@@ -301,6 +308,7 @@ fn put_far_store(
     trap: Option<TrapCode>,
     place: Place,
 ) -> Result<(), OutOfMemory>
+    requires has { has_store flags op ≡ true }
     requires src { IsRealRegister src }
     requires fine { IsFinePlace (shape_of sink.old) place }
     requires room { length (bytes_of sink.old) + 28 < code_limit }
@@ -323,7 +331,7 @@ fn put_spilled_store(
     requires src { IsRealRegister src }
     requires room { length (bytes_of sink.old) + 4 < code_limit }
     requires sound { IsSoundBuffer sink.old }
-    ensures slots { OnOk result ((flags : IsaFlags) → PutsAlone flags (access_slots trap ++ Op (decoded_store op 31 (number_of src) (pos 0)) ∷ []) sink.old sink.new) }
+    ensures slots { OnOk result ((flags : IsaFlags) → has_store flags op ≡ true → PutsAlone flags (access_slots trap ++ Op (decoded_store op 31 (number_of src) (pos 0)) ∷ []) sink.old sink.new) }
     ensures refused { OnErr result (spoiled_of sink.new ≡ true) }
 {
     put_access(sink, trap)?;

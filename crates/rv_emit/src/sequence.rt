@@ -38,7 +38,8 @@ use crate::choices::{put_extend, put_select};
 use crate::compressed::number;
 use crate::counts::{put_popcnt, put_zeros};
 use crate::expansions::{put_bytes, put_constant, put_trap, put_trap_if};
-use crate::memory::{put_address, put_label_address, put_load, put_store, resolved_address};
+use crate::halves::{put_load_line, put_store_line};
+use crate::memory::{put_address, put_label_address, resolved_address};
 use crate::moves::put_move;
 use crate::probes::put_probe_loop;
 use crate::reverse::put_reverse;
@@ -221,7 +222,7 @@ fn put_memory(
             from,
         } => {
             let place = resolved_address(sink, frame, *from)?;
-            put_load(sink, flags, *rd, *op, access.trap_code(), place)
+            put_load_line(sink, flags, *rd, *op, access.trap_code(), place)
         }
         Inst::Store {
             to,
@@ -230,7 +231,7 @@ fn put_memory(
             src,
         } => {
             let place = resolved_address(sink, frame, *to)?;
-            put_store(sink, flags, *op, *src, access.trap_code(), place)
+            put_store_line(sink, flags, *op, *src, access.trap_code(), place)
         }
         Inst::LoadAddr { rd, mem } => {
             let place = resolved_address(sink, frame, *mem)?;

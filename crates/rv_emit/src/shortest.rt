@@ -7,6 +7,7 @@ ghost use Rattle.rv_base.specs.LabelUse.{code_limit};
 ghost use Rattle.rv_base.specs.Regs.{number_of};
 ghost use Rattle.rv_encode.specs.Registers.{IsIntRegister, IsRealRegister};
 ghost use Rattle.rv_encode.specs.Layouts.{IsEven};
+ghost use Rattle.rv_encode.specs.Operations.{has_load, has_store};
 ghost use Rattle.rv_inst.specs.Forms.{IsOwnForm, jump_size, short_rrr, short_rri, short_lui, short_jalr, short_ebreak, short_load, short_store};
 ghost use Rattle.mach_buffer.specs.Buffer.{bytes_of, spoiled_of};
 ghost use Rattle.rv_emit.specs.Emitted.{IsSoundBuffer};
@@ -178,6 +179,7 @@ pub(crate) fn put_load_word(
     base: Reg,
     offset: Imm12,
 ) -> Result<(), OutOfMemory>
+    requires has { has_load flags op ≡ true }
     requires rd { IsRealRegister rd.reg }
     requires base { IsIntRegister base }
     requires room { length (bytes_of sink.old) + 4 < code_limit }
@@ -197,6 +199,7 @@ pub(crate) fn put_store_word(
     src: Reg,
     offset: Imm12,
 ) -> Result<(), OutOfMemory>
+    requires has { has_store flags op ≡ true }
     requires base { IsIntRegister base }
     requires src { IsRealRegister src }
     requires room { length (bytes_of sink.old) + 4 < code_limit }

@@ -5,6 +5,7 @@ ghost use Rattle.rv_base.specs.Frame.{sp_to_args_end};
 ghost use Rattle.rv_base.specs.LabelUse.{code_limit};
 ghost use Rattle.rv_base.specs.Regs.{number_of};
 ghost use Rattle.rv_ops.specs.declared.memory.LoadOP.TheVariants.{Ld};
+ghost use Rattle.rv_encode.specs.Operations.{has_load};
 ghost use Rattle.rv_encode.specs.Registers.{IsIntRegister, IsRealRegister};
 ghost use Rattle.mach_buffer.specs.Buffer.{shape_of, bytes_of, allocated_of, spoiled_of};
 ghost use Rattle.mach_buffer.specs.Constants.{reserve_of};
@@ -270,6 +271,7 @@ pub(crate) fn put_stack_load(
     op: LoadOP,
     offset: i64,
 ) -> Result<(), OutOfMemory>
+    requires has { has_load flags op ≡ true }
     requires rd { IsRealRegister rd.reg }
     requires room { length (bytes_of sink.old) + 28 < code_limit }
     requires sound { IsSoundBuffer sink.old }

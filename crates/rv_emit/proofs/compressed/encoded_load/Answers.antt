@@ -13,4 +13,4 @@ returns-in-Some c =
 pub returns-in-None : goal.returns-in-None
 returns-in-None c =
     let x = number_of c.args.rd.reg in let y = number_of c.args.base in let z = c.args.offset.value in
-    word_holds c.args.flags c.encode_load.result (form_load c.args.flags c.args.op x y z) (decoded_load c.args.op x y z) c.in-None.ensures (c.encode_load.ensures c.args.flags) refl
+    word_holds c.args.flags c.encode_load.result (form_load c.args.flags c.args.op x y z) (decoded_load c.args.op x y z) c.in-None.ensures (c.encode_load.ensures c.args.flags c.requires.has) refl

@@ -13,4 +13,4 @@ returns-in-Some c =
 pub returns-in-None : goal.returns-in-None
 returns-in-None c =
     let x = number_of c.args.base in let y = number_of c.args.src in let z = c.args.offset.value in
-    word_holds c.args.flags c.encode_store.result (form_store c.args.flags c.args.op x y z) (decoded_store c.args.op x y z) c.in-None.ensures (c.encode_store.ensures c.args.flags) refl
+    word_holds c.args.flags c.encode_store.result (form_store c.args.flags c.args.op x y z) (decoded_store c.args.op x y z) c.in-None.ensures (c.encode_store.ensures c.args.flags c.requires.has) refl

@@ -24,4 +24,4 @@ pub returns-clause-slots : goal.returns-clause-slots
 returns-clause-slots c =
     let flags = c.args.flags in
     let at : PutsAlone flags (address_slots flags 31 (Based (number_of c.args.base) c.args.offset)) c.args.sink.now c.put_based_address.new.sink = subst (λ n. PutsAlone flags (address_slots flags n (Based (number_of c.args.base) c.args.offset)) c.args.sink.now c.put_based_address.new.sink) (real_number c.writable_spilltmp_reg.result.reg _ 31 c.writable_spilltmp_reg.ensures) (rw (to_z-of_z w64 c.args.offset c.ranges.offset) at c.in_ok-put_based_address.ensures.slots) in
-    before_both (address_slots flags 31 (Based (number_of c.args.base) c.args.offset)) (access_slots c.args.trap) (Op (decoded_load c.args.op (number_of c.args.rd.reg) 31 (pos 0)) ∷ []) c.args.sink.now c.put_based_address.new.sink c.put_spilled_load.new.sink (address_short flags 31 (Based (number_of c.args.base) c.args.offset)).plain at (c.in_ok-put_spilled_load.ensures.slots flags)
+    before_both (address_slots flags 31 (Based (number_of c.args.base) c.args.offset)) (access_slots c.args.trap) (Op (decoded_load c.args.op (number_of c.args.rd.reg) 31 (pos 0)) ∷ []) c.args.sink.now c.put_based_address.new.sink c.put_spilled_load.new.sink (address_short flags 31 (Based (number_of c.args.base) c.args.offset)).plain at (c.in_ok-put_spilled_load.ensures.slots flags c.requires.has)

@@ -22,4 +22,4 @@ pub returns-clause-slots : goal.returns-clause-slots
 returns-clause-slots c =
     let flags = c.args.flags in
     let at : PutsAlone flags (address_slots flags 31 (location_at c.args.place)) c.args.sink.now c.put_address.new.sink = subst (λ n. PutsAlone flags (address_slots flags n (location_at c.args.place)) c.args.sink.now c.put_address.new.sink) (real_number c.writable_spilltmp_reg.result.reg _ 31 c.writable_spilltmp_reg.ensures) c.in_ok-put_address.ensures.slots in
-    before_both (address_slots flags 31 (location_at c.args.place)) (access_slots c.args.trap) (Op (decoded_store c.args.op 31 (number_of c.args.src) (pos 0)) ∷ []) c.args.sink.now c.put_address.new.sink c.put_spilled_store.new.sink (address_short flags 31 (location_at c.args.place)).plain at (c.in_ok-put_spilled_store.ensures.slots flags)
+    before_both (address_slots flags 31 (location_at c.args.place)) (access_slots c.args.trap) (Op (decoded_store c.args.op 31 (number_of c.args.src) (pos 0)) ∷ []) c.args.sink.now c.put_address.new.sink c.put_spilled_store.new.sink (address_short flags 31 (location_at c.args.place)).plain at (c.in_ok-put_spilled_store.ensures.slots flags c.requires.has)

@@ -35,6 +35,6 @@ returns-clause-slots c =
     let base = number_of c.args.base.reg in
     let w = c.load_word.result in
     let aim = Aim PCRelLo12I (Label c.args.label) (λ d. decoded_load c.args.op rd base (lower_of_distance d) ∷ []) in
-    λ flags. both_alone (upper_at (number_of c.args.base.reg) c.args.label ∷ []) (access_slots c.args.trap ++ aim ∷ []) c.args.sink.now c.put_upper.new.sink c.put_use.new.sink tt (c.in_ok-put_upper.ensures.slots flags)
+    λ flags has. both_alone (upper_at (number_of c.args.base.reg) c.args.label ∷ []) (access_slots c.args.trap ++ aim ∷ []) c.args.sink.now c.put_upper.new.sink c.put_use.new.sink tt (c.in_ok-put_upper.ensures.slots flags)
     (both_alone (access_slots c.args.trap) (aim ∷ []) c.put_upper.new.sink c.put_access.new.sink c.put_use.new.sink (access_short c.args.trap).plain (c.in_ok-put_access.ensures.slots flags)
-    (aim_put flags PCRelLo12I _ c.put_access.new.sink c.put_use.new.sink w c.args.label (load_patchable flags c.args.op w rd base (omega arith) c.load_word.ensures) c.in_ok-put_use.ensures.added c.in_ok-put_use.ensures.sound))
+    (aim_put flags PCRelLo12I _ c.put_access.new.sink c.put_use.new.sink w c.args.label (load_patchable flags c.args.op w rd base has (omega arith) c.load_word.ensures) c.in_ok-put_use.ensures.added c.in_ok-put_use.ensures.sound))

@@ -17,4 +17,4 @@ pub returns-in-AtLabel-clause-slots : goal.returns-in-AtLabel-clause-slots
 returns-in-AtLabel-clause-slots c =
     let rd = number_of c.args.rd.reg in
     subst (λ place. OnOk c.put_label_load.result (PutsAlone c.args.flags (load_slots c.args.flags rd c.args.op c.args.trap (location_at place)) c.args.sink.now c.put_label_load.new.sink)) (sym c.in-AtLabel.is)
-    (on_ok_weaker c.put_label_load.result (λ p. subst (λ base. PutsAlone c.args.flags (label_load_slots base rd c.args.op c.args.trap c.in-AtLabel.label) c.args.sink.now c.put_label_load.new.sink) c.label_base.ensures.number (p c.args.flags)) c.put_label_load.ensures.slots)
+    (on_ok_weaker c.put_label_load.result (λ p. subst (λ base. PutsAlone c.args.flags (label_load_slots base rd c.args.op c.args.trap c.in-AtLabel.label) c.args.sink.now c.put_label_load.new.sink) c.label_base.ensures.number (p c.args.flags c.requires.has)) c.put_label_load.ensures.slots)

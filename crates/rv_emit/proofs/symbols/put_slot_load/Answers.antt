@@ -13,4 +13,4 @@ returns-clause-slots c =
     let rd = number_of c.args.rd.reg in
     let w = c.enc_auipc-upper.result in
     let x = c.load_word-lower.result in
-    λ flags. fill_put flags (SlotOf c.args.name) _ _ c.args.sink.now c.put_pair.new.sink w x (upper_patchable flags w rd (omega arith) (auipc_layout w rd (c.enc_auipc-upper.ensures no_flags))) (load_patchable flags Ld x rd rd (omega arith) c.load_word-lower.ensures) c.in_ok-put_pair.ensures.put c.in_ok-put_pair.ensures.sound
+    λ flags. fill_put flags (SlotOf c.args.name) _ _ c.args.sink.now c.put_pair.new.sink w x (upper_patchable flags w rd (omega arith) (auipc_layout w rd (c.enc_auipc-upper.ensures no_flags))) (load_patchable flags Ld x rd rd refl (omega arith) c.load_word-lower.ensures) c.in_ok-put_pair.ensures.put c.in_ok-put_pair.ensures.sound
