@@ -41,4 +41,5 @@ mod OneComes
 mod LinesComeOut
 mod UnitLines
 mod FloatLines
+mod CallLines
 mod OtherLines
