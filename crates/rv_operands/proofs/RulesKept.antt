@@ -19,6 +19,7 @@ use Rattle.rv_base.specs.Regs.{class_of}
 use Rattle.rv_ops.specs.declared.compare.IntegerCompare.{IntegerCompare}
 use Rattle.rv_ops.specs.declared.memory.LoadOP.{LoadOP}
 use Rattle.rv_ops.specs.declared.memory.StoreOP.{StoreOP}
+use Rattle.rv_ops.specs.Memory.{load_class, store_class}
 use Rattle.rv_inst.specs.declared.inst.Brev8Info.{Brev8Info}
 use Rattle.rv_inst.specs.declared.inst.CountInfo.{CountInfo}
 use Rattle.rv_inst.specs.declared.inst.SelectInfo.{SelectInfo}
@@ -72,22 +73,22 @@ select_keeps info c = record {
 -- ---- addresses
 
 load_keeps : (rd : Writable Reg) (op : LoadOP) (flags : MemFlagsData) (from : AMode) → AreChosen (Load rd op flags from) → KeepsThree (Load rd op flags from)
-load_keeps rd op flags (RegOffset r o) c = record { class = either (not_other rd.reg c.classes.1.0) (either (not_other r c.classes.0) refl); zero = refl; clash = refl }
-load_keeps rd op flags (SPOffset o) c = record { class = either (not_other rd.reg c.classes.0) refl; zero = refl; clash = refl }
-load_keeps rd op flags (FPOffset o) c = record { class = either (not_other rd.reg c.classes.0) refl; zero = refl; clash = refl }
-load_keeps rd op flags (SlotOffset o) c = record { class = either (not_other rd.reg c.classes.0) refl; zero = refl; clash = refl }
-load_keeps rd op flags (IncomingArg o) c = record { class = either (not_other rd.reg c.classes.0) refl; zero = refl; clash = refl }
-load_keeps rd op flags (Const k) c = record { class = either (not_other rd.reg c.classes.0) refl; zero = c.free.0.not_zero; clash = refl }
-load_keeps rd op flags (Label l) c = record { class = either (not_other rd.reg c.classes.0) refl; zero = c.free.0.not_zero; clash = refl }
+load_keeps rd op flags (RegOffset r o) c = record { class = either (alike (class_of rd.reg) (load_class op) c.classes.1.0) (either (not_other r c.classes.0) refl); zero = refl; clash = refl }
+load_keeps rd op flags (SPOffset o) c = record { class = either (alike (class_of rd.reg) (load_class op) c.classes.0) refl; zero = refl; clash = refl }
+load_keeps rd op flags (FPOffset o) c = record { class = either (alike (class_of rd.reg) (load_class op) c.classes.0) refl; zero = refl; clash = refl }
+load_keeps rd op flags (SlotOffset o) c = record { class = either (alike (class_of rd.reg) (load_class op) c.classes.0) refl; zero = refl; clash = refl }
+load_keeps rd op flags (IncomingArg o) c = record { class = either (alike (class_of rd.reg) (load_class op) c.classes.0) refl; zero = refl; clash = refl }
+load_keeps rd op flags (Const k) c = record { class = either (alike (class_of rd.reg) (load_class op) c.classes.0) refl; zero = c.free.0.not_zero; clash = refl }
+load_keeps rd op flags (Label l) c = record { class = either (alike (class_of rd.reg) (load_class op) c.classes.0) refl; zero = c.free.0.not_zero; clash = refl }
 
 store_keeps : (src : Reg) (op : StoreOP) (flags : MemFlagsData) (to : AMode) → AreChosen (Store src op flags to) → KeepsThree (Store src op flags to)
-store_keeps src op flags (RegOffset r o) c = record { class = either (not_other src c.classes.1.0) (either (not_other r c.classes.0) refl); zero = refl; clash = refl }
-store_keeps src op flags (SPOffset o) c = record { class = either (not_other src c.classes.0) refl; zero = refl; clash = refl }
-store_keeps src op flags (FPOffset o) c = record { class = either (not_other src c.classes.0) refl; zero = refl; clash = refl }
-store_keeps src op flags (SlotOffset o) c = record { class = either (not_other src c.classes.0) refl; zero = refl; clash = refl }
-store_keeps src op flags (IncomingArg o) c = record { class = either (not_other src c.classes.0) refl; zero = refl; clash = refl }
-store_keeps src op flags (Const k) c = record { class = either (not_other src c.classes.0) refl; zero = refl; clash = refl }
-store_keeps src op flags (Label l) c = record { class = either (not_other src c.classes.0) refl; zero = refl; clash = refl }
+store_keeps src op flags (RegOffset r o) c = record { class = either (alike (class_of src) (store_class op) c.classes.1.0) (either (not_other r c.classes.0) refl); zero = refl; clash = refl }
+store_keeps src op flags (SPOffset o) c = record { class = either (alike (class_of src) (store_class op) c.classes.0) refl; zero = refl; clash = refl }
+store_keeps src op flags (FPOffset o) c = record { class = either (alike (class_of src) (store_class op) c.classes.0) refl; zero = refl; clash = refl }
+store_keeps src op flags (SlotOffset o) c = record { class = either (alike (class_of src) (store_class op) c.classes.0) refl; zero = refl; clash = refl }
+store_keeps src op flags (IncomingArg o) c = record { class = either (alike (class_of src) (store_class op) c.classes.0) refl; zero = refl; clash = refl }
+store_keeps src op flags (Const k) c = record { class = either (alike (class_of src) (store_class op) c.classes.0) refl; zero = refl; clash = refl }
+store_keeps src op flags (Label l) c = record { class = either (alike (class_of src) (store_class op) c.classes.0) refl; zero = refl; clash = refl }
 
 load_addr_keeps : (rd : Writable Reg) (mem : AMode) → AreChosen (LoadAddr rd mem) → KeepsThree (LoadAddr rd mem)
 load_addr_keeps rd (RegOffset r o) c = record { class = either (not_other rd.reg c.classes.1.0) (either (not_other r c.classes.0) refl); zero = c.free.0.not_zero; clash = apart rd.reg r c.met.early.0.0 }

@@ -18,13 +18,14 @@ use Rattle.rv_base.specs.declared.regs.Writable.{Writable}
 use Rattle.rv_base.specs.declared.value_regs.ValueRegs.{ValueRegs}
 use Rattle.rv_base.specs.declared.value_regs.ValueRegs.TheVariants.{One, Two}
 use Rattle.rv_base.specs.Regs.{class_of, int_reg}
+use Rattle.rv_ops.specs.Memory.{load_class, store_class}
 use Rattle.rv_inst.specs.declared.inst.Inst.{Inst}
 use Rattle.rv_inst.specs.declared.inst.Inst.TheVariants.{Nop0, Nop4, EBreak, SequencePoint, Args, Rets, DummyUse, Unwind, EmitIsland, RawData, Lui, Auipc, LoadInlineConst, AluRRR, AluRRImm12, Mov, MovFromPReg, Extend, Select, Load, Store, LoadAddr, LabelAddress, Ret, TrapIf, Jal, CondBr, BrTable, Udf, Jalr, Popcnt, Cltz, Brev8, StackProbeLoop, LoadExtNameGot, LoadExtNameNear, LoadExtNameFar, Call, CallInd, ReturnCall, ReturnCallInd}
 use Rattle.rv_inst.specs.declared.inst.SelectInfo.{SelectInfo}
 use Rattle.rv_inst.specs.declared.units.PlacedReg.{PlacedReg}
 use Rattle.rv_inst.specs.Operands.{unwind_registers}
 use Rattle.rv_inst.specs.Rules.{class_for, is_stack_or_frame, is_uneven}
-use Rattle.rv_inst.specs.UnitWords.{unit_of}
+use Rattle.rv_inst.specs.UnitWords.{place, unit_of}
 use Rattle.rv_operands.specs.Operand.{Operand, Reads, ReadsIn, Writes, WritesIn, WritesAnywhere, of_int, reads, reads_late, writes, writes_early, scratches, reads_at, writes_at, constraint_of}
 
 -- ---- parts of instructions
@@ -116,8 +117,8 @@ row_of (Mov rd rm type) = row (record { register = rm; class = Some (class_of rd
 row_of (MovFromPReg rd rm) = record (row (writes rd ∷ [])) { named = Real rm ∷ []; misnamed = not (is_stack_or_frame rm) }
 row_of (Extend rd rn signed from_bits to_bits) = row (reads rn ∷ writes rd ∷ [])
 row_of (Select info) = record (row (select_operands info)) { uneven = is_uneven info.dst info.x info.y }
-row_of (Load rd op flags from) = row (address_operands from ++ writes rd ∷ [])
-row_of (Store src op flags to) = row (address_operands to ++ reads src ∷ [])
+row_of (Load rd op flags from) = row (address_operands from ++ writes_at (place (load_class op) rd.reg) ∷ [])
+row_of (Store src op flags to) = row (address_operands to ++ reads_at (place (store_class op) src) ∷ [])
 row_of (LoadAddr rd mem) = row (address_operands mem ++ writes_early rd ∷ [])
 row_of (LabelAddress dst label) = row (writes dst ∷ [])
 row_of Ret = row []
