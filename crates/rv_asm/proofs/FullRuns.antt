@@ -4,27 +4,30 @@ use Rattle.std.proofs.Common.{◌≡◌, ◌⊎◌, ℕ, zero, suc, ◌+◌, ◌
 use Rattle.std.specs.Prelude.{slice_get, slice_index, nat_lt, is_some, not, if◌then◌else◌, Option}
 use Rattle.std.proofs.lemmas.Bool.{and_parts, ltb-true, ltb-false}
 use Rattle.std.proofs.lemmas.Option.{slice_get_within}
-use Rattle.rv_inst.specs.Operands.{Return, operands_of, return_of, is_float}
+use Rattle.rv_inst.specs.Operands.{Return, operands_of, return_of, is_float, tail_call_of}
+use Rattle.rv_inst.specs.Returns.{loads_unless, result_loads}
+use Rattle.rv_machine.specs.State.{reg}
 use Rattle.rv_machine.specs.declared.ops.FloatFormat.{FloatFormat}
 use Rattle.rv_ops.specs.Memory.{load_format, store_format}
-use Rattle.rv_inst.specs.Core.{is_integer_family, is_integer, is_integer_line}
+use Rattle.rv_inst.specs.Core.{is_integer_family, is_integer, is_integer_in, is_integer_line, restores_float}
 use Rattle.rv_inst.specs.declared.code.Code.{Code}
 use Rattle.rv_inst.specs.declared.inst.Family.{Family}
 use Rattle.rv_inst.specs.declared.inst.Family.TheVariants.{Pseudo, Integer, Memory, Control, Loop, Symbols, Calls, Float}
 use Rattle.rv_inst.specs.declared.inst.Inst.{Inst}
-use Rattle.rv_inst.specs.declared.inst.Inst.TheVariants.{Load, Store, Nop0, Mov, Select}
+use Rattle.rv_inst.specs.declared.inst.Inst.TheVariants.{Load, Store, Nop0, Mov, Select, Call, CallInd, ReturnCall, ReturnCallInd}
 use Rattle.rv_inst.specs.declared.inst.Line.{Line}
 use Rattle.rv_inst.specs.declared.inst.Line.TheVariants.{Inst as Put, Bind}
 use Rattle.rv_inst.specs.declared.job.Job.{Job}
 use Rattle.rv_inst.specs.Families.{family_of}
-use Rattle.rv_inst.specs.Meaning.{Environment, Exit, Next, To, Leave, Break, Trap, Data, AreOutside, writes_of}
+use Rattle.rv_inst.specs.Meaning.{Environment, Exit, Next, To, Leave, Break, Trap, Data, AreOutside, fallen, writes_of}
 use Rattle.rv_inst.specs.Operands.{named_labels}
 use Rattle.rv_full.specs.declared.answer.Answer.{Answer}
 use Rattle.rv_full.specs.Steps.{fiter}
 use Rattle.rv_full.specs.Units.{FullState, FullValues, put}
 use Rattle.rv_full.proofs.LargerMachine.{integer_run}
+use Rattle.rv_emit.proofs.Laws.{left_integers, loaded_integers, not_true}
 use Rattle.rv_full.proofs.Runs.{fiter_none, fiter_after}
-use Rattle.rv_asm.specs.FullMeaning.{FullMeaning, of_integers, of_access, of_float_load, of_float_store, of_memory, meaning_by, meaning_of, of_integer, of_float_move, of_choice}
+use Rattle.rv_asm.specs.FullMeaning.{FullMeaning, of_integers, of_access, of_float_load, of_float_store, of_memory, meaning_by, meaning_of, of_integer, of_float_move, of_choice, with_ints, writes_from}
 use Rattle.rv_asm.specs.FullSimulation.{Placing, StandsAt, LineAt, OneFullLine, OneMore, Lines, Reached, Stops, IsOn, Overwrites, IsExit, ComesThere, WantsAnswer, WritesOnCode, RunsOn, IsEntry, FullRuns, environment_at, meaning_at}
 use Rattle.rv_asm.specs.Placed.{Addresses}
 use Rattle.rv_asm.specs.Simulation.{Point, At, Returned, Out, End, Stop, Trapped, InData, Entry, AtStart, AtReturn, IsBack, Leads, next_point, environment_of, exit_from, effect_from, Comes, RunsAsListed}
@@ -59,19 +62,53 @@ integer_is_of_integers entry (Select info) other = by (operands_of (Select info)
 integer_is_of_integers entry Nop0 other = refl
 integer_is_of_integers entry inst other = refl
 
-family_is_of_integers : (family : Family) (entry : Entry) (inst : Inst) → is_integer_family family ≡ true → not (operands_of inst).floats ≡ true → meaning_by family entry inst ≡ of_integers entry (Put inst)
-family_is_of_integers Pseudo entry inst core other = refl
-family_is_of_integers Integer entry inst core other = integer_is_of_integers entry inst other
-family_is_of_integers Memory entry inst core other = memory_is_of_integers entry inst other
-family_is_of_integers Control entry inst core other = refl
-family_is_of_integers Loop entry inst core other = refl
-family_is_of_integers Symbols entry inst core other = refl
-family_is_of_integers Calls entry inst core other = refl
-family_is_of_integers Float entry inst core other = absurd (cc)
+-- what a line means from these values is what it means on integers
+record IsOfIntegers (entry : Entry) (env : Environment) (line : Line) (v : FullValues) : Type 0 where
+  takes : (meaning_of entry line).takes env v ((meaning_of entry line).own_of []) ≡ Some (with_ints (effect_from entry env line v.ints) v, [])
+  writes : (meaning_of entry line).writes env v ((meaning_of entry line).own_of []) ≡ writes_from entry env line v
 
-is_of_integers : (entry : Entry) (line : Line) → is_integer_line line ≡ true → meaning_of entry line ≡ of_integers entry line
-is_of_integers entry (Put inst) core = let both = and_parts (is_integer_family (family_of inst)) (not (operands_of inst).floats) core in family_is_of_integers (family_of inst) entry inst both.0 both.1
-is_of_integers entry (Bind label) core = refl
+as_integers : {entry : Entry} {line : Line} (env : Environment) (v : FullValues) → meaning_of entry line ≡ of_integers entry line → IsOfIntegers entry env line v
+as_integers env v e = record { takes = ap (λ (m : FullMeaning). m.takes env v (m.own_of [])) e; writes = ap (λ (m : FullMeaning). m.writes env v (m.own_of [])) e }
+
+-- a tail call that restores no floating-point register, and a call that loads none
+call_is : (env : Environment) (inst : Inst) (v : FullValues) → family_of inst ≡ Calls → restores_float env.frame (tail_call_of inst) ≡ false → IsOfIntegers AtStart env (Put inst) v
+call_is env (Call info) v e core = record { takes = refl; writes = refl }
+call_is env (CallInd info) v e core = record { takes = refl; writes = refl }
+call_is env (ReturnCall info) v e core = record { takes = ap (λ (w : FullValues). Some (w, [])) (left_integers env.frame (record { stack_arg_size = info.new_stack_arg_size; by_register = false }) info.new_stack_arg_size v core); writes = refl }
+call_is env (ReturnCallInd info) v e core = record { takes = ap (λ (w : FullValues). Some (w, [])) (left_integers env.frame (record { stack_arg_size = info.new_stack_arg_size; by_register = true }) info.new_stack_arg_size v core); writes = refl }
+call_is env _ v e core = absurd (cc)
+
+return_is : (env : Environment) (inst : Inst) (v : FullValues) → family_of inst ≡ Calls → (operands_of inst).floats ≡ false → IsOfIntegers AtReturn env (Put inst) v
+return_is env (Call info) v e other =
+    let w = fallen info.callee_pop_size v.ints in
+    record { takes = ap (λ (u : FullValues). Some (u, [])) (loaded_integers (reg w 2) (loads_unless info.patchable info.defs) (with_ints w v) other); writes = refl }
+return_is env (CallInd info) v e other =
+    let w = fallen info.callee_pop_size v.ints in
+    record { takes = ap (λ (u : FullValues). Some (u, [])) (loaded_integers (reg w 2) (result_loads info.defs) (with_ints w v) other); writes = refl }
+return_is env (ReturnCall info) v e other = record { takes = refl; writes = refl }
+return_is env (ReturnCallInd info) v e other = record { takes = refl; writes = refl }
+return_is env _ v e other = absurd (cc)
+
+calls_are : (entry : Entry) (env : Environment) (inst : Inst) (v : FullValues) → family_of inst ≡ Calls → restores_float env.frame (tail_call_of inst) ≡ false → (operands_of inst).floats ≡ false → IsOfIntegers entry env (Put inst) v
+calls_are AtStart env inst v e core other = call_is env inst v e core
+calls_are AtReturn env inst v e core other = return_is env inst v e other
+
+family_is : (family : Family) (entry : Entry) (env : Environment) (inst : Inst) (v : FullValues) → family_of inst ≡ family → is_integer_family family ≡ true → restores_float env.frame (tail_call_of inst) ≡ false → not (operands_of inst).floats ≡ true → IsOfIntegers entry env (Put inst) v
+family_is Pseudo entry env inst v e core kept other = as_integers env v (ap (λ f. meaning_by f entry inst) e)
+family_is Integer entry env inst v e core kept other = as_integers env v (ap (λ f. meaning_by f entry inst) e ∙ integer_is_of_integers entry inst other)
+family_is Memory entry env inst v e core kept other = as_integers env v (ap (λ f. meaning_by f entry inst) e ∙ memory_is_of_integers entry inst other)
+family_is Control entry env inst v e core kept other = as_integers env v (ap (λ f. meaning_by f entry inst) e)
+family_is Loop entry env inst v e core kept other = as_integers env v (ap (λ f. meaning_by f entry inst) e)
+family_is Symbols entry env inst v e core kept other = as_integers env v (ap (λ f. meaning_by f entry inst) e)
+family_is Calls entry env inst v e core kept other = calls_are entry env inst v e kept (not_true (operands_of inst).floats other)
+family_is Float entry env inst v e core kept other = absurd (cc)
+
+is_of_integers : (entry : Entry) (env : Environment) (line : Line) (v : FullValues) → is_integer_line env.frame line ≡ true → IsOfIntegers entry env line v
+is_of_integers entry env (Put inst) v core =
+    let kept = and_parts (not (restores_float env.frame (tail_call_of inst))) (is_integer inst) core in
+    let both = and_parts (is_integer_family (family_of inst)) (not (operands_of inst).floats) kept.1 in
+    family_is (family_of inst) entry env inst v refl both.0 (not_true _ kept.0) both.1
+is_of_integers entry env (Bind label) v core = record { takes = refl; writes = refl }
 
 -- ---- addresses are outside, or one of them isn't
 
@@ -138,7 +175,7 @@ integers_come x p v b s c =
       line = record {
         there = record { index = l.index; line = l.line; entry = l.entry; at = l.at; listed = l.listed };
         made = made;
-        takes = ap (λ (m : FullMeaning). m.takes env v (m.own_of [])) (is_of_integers l.entry l.line l.core);
+        takes = (is_of_integers l.entry env l.line v l.core).takes;
         effect = record { ints = l.effect; units = refl };
         leads = l.leads;
       };
@@ -155,18 +192,21 @@ integers_come x p v b s c =
       };
     }
 
--- lines that are not of the integer core come out, stop, or write on the code
+-- lines that are not of the integer core come out, stop, or write on the code; and calls that load a floating-point register go on
 abbrev pub UnitLines : Job → Code → Type 0
-UnitLines job code = (base : ℕ) (symbols slots : Addresses) (i : ℕ) (inst : Inst) (v : FullValues) (b : FullState) → slice_get job.lines i ≡ Some (Put inst) → is_integer inst ≡ false → StandsAt (record { job = job; code = code; base = base; symbols = symbols; slots = slots }) (At i) v b → OneComes (record { job = job; code = code; base = base; symbols = symbols; slots = slots }) (At i) v b
+UnitLines job code = (base : ℕ) (symbols slots : Addresses) (i : ℕ) (inst : Inst) (v : FullValues) (b : FullState) → slice_get job.lines i ≡ Some (Put inst) → is_integer_in job.frame inst ≡ false → StandsAt (record { job = job; code = code; base = base; symbols = symbols; slots = slots }) (At i) v b → OneComes (record { job = job; code = code; base = base; symbols = symbols; slots = slots }) (At i) v b
 
-module _ (job : Job) (code : Code) (runs : RunsAsListed job code) (units : UnitLines job code) (named : (i : ℕ) (line : Line) → slice_get job.lines i ≡ Some line → AllBound job.lines (named_labels line)) (base : ℕ) (symbols slots : Addresses) where
+abbrev pub UnitReturns : Job → Code → Type 0
+UnitReturns job code = (base : ℕ) (symbols slots : Addresses) (i : ℕ) (inst : Inst) (r : Return) (v : FullValues) (b : FullState) → slice_get job.lines i ≡ Some (Put inst) → return_of job.flags inst ≡ Some r → StandsAt (record { job = job; code = code; base = base; symbols = symbols; slots = slots }) (Returned i) v b → CameOut (record { job = job; code = code; base = base; symbols = symbols; slots = slots }) (Returned i) v b
+
+module _ (job : Job) (code : Code) (runs : RunsAsListed job code) (units : UnitLines job code) (returning : UnitReturns job code) (named : (i : ℕ) (line : Line) → slice_get job.lines i ≡ Some line → AllBound job.lines (named_labels line)) (base : ℕ) (symbols slots : Addresses) where
   abbrev placing : Placing
   placing = record { job = job; code = code; base = base; symbols = symbols; slots = slots }
 
   abbrev env : ℕ → Environment
   env i = environment_of job code base symbols slots i
 
-  integer_start : (i : ℕ) (line : Line) (v : FullValues) (b : FullState) → is_integer_line line ≡ true → slice_get job.lines i ≡ Some line → StandsAt placing (At i) v b → OneComes placing (At i) v b
+  integer_start : (i : ℕ) (line : Line) (v : FullValues) (b : FullState) → is_integer_line job.frame line ≡ true → slice_get job.lines i ≡ Some line → StandsAt placing (At i) v b → OneComes placing (At i) v b
   integer_start i line v b core listed s = by (outside_or_on base (length code.bytes) (writes_of (env i) line v.ints))
     where
       by : AreOutside base (length code.bytes) (writes_of (env i) line v.ints) ⊎ IsOn base (length code.bytes) (writes_of (env i) line v.ints) → OneComes placing (At i) v b
@@ -176,18 +216,18 @@ module _ (job : Job) (code : Code) (runs : RunsAsListed job code) (units : UnitL
         took = [];
         left = b.answers;
         answers = refl;
-        on = subst (λ (m : FullMeaning). IsOn base (length code.bytes) (m.writes (env i) v (m.own_of []))) (sym (is_of_integers AtStart line core)) on;
+        on = subst (IsOn base (length code.bytes)) (sym (is_of_integers AtStart (env i) line v core).writes) on;
       }))
 
-  from_start : (i : ℕ) (line : Line) (core : Bool) (v : FullValues) (b : FullState) → is_integer_line line ≡ core → slice_get job.lines i ≡ Some line → StandsAt placing (At i) v b → OneComes placing (At i) v b
+  from_start : (i : ℕ) (line : Line) (core : Bool) (v : FullValues) (b : FullState) → is_integer_line job.frame line ≡ core → slice_get job.lines i ≡ Some line → StandsAt placing (At i) v b → OneComes placing (At i) v b
   from_start i line true v b is listed s = integer_start i line v b is listed s
   from_start i (Put inst) false v b is listed s = units base symbols slots i inst v b listed is s
   from_start i (Bind label) false v b is listed s = absurd (cc)
 
   -- at each point, one line; or the listing's run ends there
   one_line : (p : Point) (v : FullValues) (b : FullState) → IsThere job p → StandsAt placing p v b → IsExit p ⊎ OneComes placing p v b
-  one_line (At i) v b there s = inr (from_start i there.0 (is_integer_line there.0) v b refl there.1 s)
-  one_line (Returned i) v b there s = inr (inl (integers_come placing (Returned i) v b s (runs.back base symbols slots i there.0 there.1 b.state v.ints there.2 there.3 s.placed s.is_state.state s.are_values s.pc s.same.ints)))
+  one_line (At i) v b there s = inr (from_start i there.0 (is_integer_line job.frame there.0) v b refl there.1 s)
+  one_line (Returned i) v b there s = inr (inl (returning base symbols slots i there.0 there.1 v b there.2 there.3 s))
   one_line (Out a) v b there s = inl tt
   one_line End v b there s = inl tt
   one_line (Stop i) v b there s = inl tt
@@ -253,7 +293,7 @@ entry_there job (Stop i) entry = tt
 entry_there job (Trapped i at) entry = tt
 entry_there job (InData i) entry = tt
 
-pub full_runs : (job : Job) (code : Code) → RunsAsListed job code → UnitLines job code → ((i : ℕ) (line : Line) → slice_get job.lines i ≡ Some line → AllBound job.lines (named_labels line)) → FullRuns job code
-full_runs job code runs units named = record {
-  from = λ base symbols slots p v b k entry stands. runs_on job code runs units named base symbols slots k p v b (entry_there job p entry) stands;
+pub full_runs : (job : Job) (code : Code) → RunsAsListed job code → UnitLines job code → UnitReturns job code → ((i : ℕ) (line : Line) → slice_get job.lines i ≡ Some line → AllBound job.lines (named_labels line)) → FullRuns job code
+full_runs job code runs units returning named = record {
+  from = λ base symbols slots p v b k entry stands. runs_on job code runs units returning named base symbols slots k p v b (entry_there job p entry) stands;
 }

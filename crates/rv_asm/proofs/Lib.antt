@@ -44,4 +44,5 @@ mod UnitLines
 mod FloatLines
 mod FloatMoves
 mod FloatChoices
+mod CallLines
 mod OtherLines

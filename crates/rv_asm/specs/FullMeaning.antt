@@ -1,9 +1,10 @@
 -- What a line means on the machine with all units: what it makes of the values with the units' answers. Each family of instructions is
 -- a case: those of integers take no answer, and leave the units as they were; a float operation does what its row does. A load or a store
--- of a floating-point register takes no answer either. A move of a floating-point register does what its operation's row does, and a choice
--- copies its registers exactly, of any class.
+-- of a floating-point register takes no answer either, nor does a call, whose results and restored registers are of both files. A move of a
+-- floating-point register does what its operation's row does, and a choice copies its registers exactly, of any class.
 use Rattle.std.specs.Prelude.{ℕ, ◌&&◌, Bool, true, if◌then◌else◌, List, [], ◌∷◌, Option, Some, None}
 use Rattle.rv_base.specs.declared.amode.AMode.{AMode}
+use Rattle.rv_base.specs.declared.frame.FrameLayout.{FrameLayout}
 use Rattle.rv_base.specs.declared.regs.Reg.{Reg}
 use Rattle.rv_base.specs.Regs.{number_of}
 use Rattle.rv_inst.specs.Context.{context_by}
@@ -15,10 +16,11 @@ use Rattle.rv_inst.specs.declared.inst.Inst.TheVariants.{Load, Store, Mov, Selec
 use Rattle.rv_inst.specs.declared.inst.Line.{Line}
 use Rattle.rv_inst.specs.declared.inst.Line.TheVariants.{Inst as Put, Bind}
 use Rattle.rv_inst.specs.Families.{family_of}
-use Rattle.rv_inst.specs.Meaning.{Environment, address_of, addresses_from, writes_of}
+use Rattle.rv_inst.specs.Meaning.{Environment, address_of, addresses_from, writes_of, inst_effect}
 use Rattle.rv_inst.specs.declared.inst.SelectInfo.{SelectInfo}
-use Rattle.rv_inst.specs.Operands.{is_float, operands_of}
+use Rattle.rv_inst.specs.Operands.{is_float, operands_of, Return, return_of, tail_call_of}
 use Rattle.rv_inst.specs.Sizes.{operation_of}
+use Rattle.rv_inst.specs.declared.tail_calls.TailCall.{TailCall}
 use Rattle.rv_machine.specs.declared.decoding.Decoded.{Decoded}
 use Rattle.rv_machine.specs.declared.ops.FloatFormat.{FloatFormat}
 use Rattle.rv_ops.specs.Memory.{load_format, store_format}
@@ -29,6 +31,7 @@ use Rattle.rv_full.specs.UnitRows.{unit_row}
 use Rattle.rv_full.specs.Units.{FullValues}
 pub use Rattle.rv_code.specs.FloatAccesses.{float_loaded, float_stored}
 pub use Rattle.rv_code.specs.FullValues.{SameFull, SameFullBut, chosen}
+pub use Rattle.rv_code.specs.FullReturns.{full_left, full_resumed, with_ints}
 use Rattle.rv_asm.specs.Simulation.{Entry, AtStart, AtReturn, effect_from}
 
 -- What a line means from where it is entered: the values that come of values and answers, with the answers that are left; the addresses
@@ -134,6 +137,29 @@ of_integer entry (Mov rd rm type) = if is_float rd.reg then of_float_move (Mov r
 of_integer entry (Select info) = if (operands_of (Select info)).floats then of_choice info else of_integers entry (Put (Select info))
 of_integer entry inst = of_integers entry (Put inst)
 
+-- what a call makes of the values: from its start a tail call takes its frame away, and any other does what it does on integers
+abbrev pub call_started : Environment → Inst → Option TailCall → FullValues → FullValues
+call_started env inst None v = with_ints (inst_effect env inst v.ints) v
+call_started env inst (Some tail) v = full_left env.frame tail.stack_arg_size v
+
+-- and from where it returns it loads its results
+abbrev pub call_returned : Option Return → FullValues → FullValues
+call_returned None v = v
+call_returned (Some r) v = full_resumed r v
+
+abbrev pub call_effect : Entry → Environment → Inst → FullValues → FullValues
+call_effect AtStart env inst v = call_started env inst (tail_call_of inst) v
+call_effect AtReturn env inst v = call_returned (return_of env.flags inst) v
+
+-- registers of both files come from the stack, which takes no answer
+abbrev pub of_call : Entry → Inst → FullMeaning
+of_call entry inst = record {
+  takes = λ env v answers. Some (call_effect entry env inst v, answers);
+  writes = λ env v answers. [];
+  own_answers = λ env v. 0;
+  own_of = λ took. took;
+}
+
 abbrev pub meaning_by : Family → Entry → Inst → FullMeaning
 meaning_by Pseudo entry inst = of_integers entry (Put inst)
 meaning_by Integer entry inst = of_integer entry inst
@@ -141,7 +167,7 @@ meaning_by Memory entry inst = of_memory entry inst
 meaning_by Control entry inst = of_integers entry (Put inst)
 meaning_by Loop entry inst = of_integers entry (Put inst)
 meaning_by Symbols entry inst = of_integers entry (Put inst)
-meaning_by Calls entry inst = of_integers entry (Put inst)
+meaning_by Calls entry inst = of_call entry inst
 meaning_by Float entry inst = of_unit entry inst
 
 abbrev pub meaning_of : Entry → Line → FullMeaning

@@ -18,7 +18,7 @@ use Rattle.rv_inst.specs.declared.tail_calls.TailCall.{TailCall}
 use Rattle.rv_full.specs.Units.{FullState, FullValues, IsFullState}
 use Rattle.rv_code.specs.declared.state.EmitVState.{EmitVState}
 use Rattle.rv_code.specs.FullEnds.{FullEnds}
-use Rattle.rv_code.specs.FullReturns.{full_left, full_loaded, full_risen, with_ints}
+use Rattle.rv_code.specs.FullReturns.{full_left, full_loaded, set_int}
 use Rattle.rv_code.specs.InstParts.{call_to, parts_of, return_slots, stack_load_slots, stack_step_slots}
 use Rattle.rv_code.specs.InstRuns.{Enters, environment}
 use Rattle.rv_code.specs.Sites.{Site, StandsIn}
@@ -43,7 +43,7 @@ record FullLeft (site : Site) (arguments : ℕ) (rest : List Slot) (v : FullValu
 t0_kept : (frame : FrameLayout) (arguments : ℕ) (v : FullValues) → AreOthersAs 5 (restores frame) → reg (full_left frame arguments v).ints 5 ≡ reg v.ints 5
 t0_kept frame arguments v others =
     let u = full_loaded (reg v.ints 2) (restores frame) v in
-    reads_other u.ints 2 5 (wrap (reg u.ints 2 + frame_above frame arguments)) (λ e. absurd (omega arith)) ∙ full_other (reg v.ints 2) 5 (restores frame) v others
+    reads_other u.ints 2 5 (wrap (reg v.ints 2 + frame_above frame arguments)) (λ e. absurd (omega arith)) ∙ full_other (reg v.ints 2) 5 (restores frame) v others
 
 module _ {site : Site} (short : length site.bytes < code_limit) (labels : (label at : ℕ) → site.place label ≡ Some at → at ≤ length site.bytes) where
   -- what was saved is restored, and the stack pointer rises
@@ -60,9 +60,10 @@ module _ {site : Site} (short : length site.bytes < code_limit) (labels : (label
       let both = stands_split site allocated offset first rest stands in
       let u = full_loaded (reg v.ints 2) loads v in
       let rise : low64 (pos n) ≡ n = small_number n (let small = h.small in omega arith) in
+      let kept : reg u.ints 2 ≡ reg v.ints 2 = full_other (reg v.ints 2) 2 loads v (stack_kept loads h.registers) in
       subst (λ m. FullComes site m size (full_left frame arguments v) b) over
       (full_on (full_loads_come short labels allocated (reg v.ints 2) loads offset v b h.registers refl both.0 (subst (λ m. FullCourse site offset m v b) (omega arith) k))
-      (λ c k1. subst (λ m. FullComes site (offset + size_of first + size_of rest) size (with_ints (set_reg u.ints 2 (wrap (reg u.ints 2 + m))) u) c) rise (integers_come u c k1.units k1.is_state (step_comes {size = size} allocated (pos n) both.1 (in_course k1)))))
+      (λ c k1. subst (λ w. FullComes site (offset + size_of first + size_of rest) size w c) (λ i. set_int u 2 (wrap (kept i + rise i))) (integers_come u c k1.units k1.is_state (step_comes {size = size} allocated (pos n) both.1 (in_course k1)))))
 
   frame_leaves : {start after : ℕ} {v : FullValues} {b : FullState} (space arguments : ℕ) (rest : List Slot) → IsRestorable site.context.frame → v.units ≡ b.units → IsFullState b → Enters site start after (Ask space ∷ Slots (return_slots site.context.flags site.context.frame arguments ++ rest) ∷ []) b.state v.ints → FullLeft site arguments rest v b
   frame_leaves {v = v} {b} space arguments rest h units full e =
@@ -72,25 +73,25 @@ module _ {site : Site} (short : length site.bytes < code_limit) (labels : (label
       record { offset = n; comes = c; left = record { allocated = y.allocated; offset = n; stands = y.stands; comes = comes_here (in_course c.course) } }
 
   module _ {start after : ℕ} {v : FullValues} {b : FullState} (units : v.units ≡ b.units) (full : IsFullState b) where
-    kept_leaves : (setting : EmitVState) (inst : Inst) (tail : TailCall) → Keeps inst → tail_call_of inst ≡ Some tail → is_bad_frame_for site.context.frame (tail_call_of inst) ≡ false → Enters site start after (parts_of site.context setting inst) b.state v.ints → FullEnds site start after (inst_exit (environment site start after) inst v.ints) [] (full_left site.context.frame tail.stack_arg_size v) b
+    kept_leaves : (setting : EmitVState) (inst : Inst) (tail : TailCall) → Keeps inst → tail_call_of inst ≡ Some tail → is_bad_frame_for site.context.frame (tail_call_of inst) ≡ false → Enters site start after (parts_of site.context setting inst) b.state v.ints → FullEnds site start after (inst_exit (environment site start after) inst v.ints) [] (full_left site.context.frame tail.stack_arg_size v) [] b
     kept_leaves setting (ReturnCall info) tail k is fine =
         let frame = site.context.frame in
         let n = info.new_stack_arg_size in
         let h = is_restorable frame (record { stack_arg_size = n; by_register = false }) fine in
-        subst (λ (t : TailCall). Enters site start after (parts_of site.context setting (ReturnCall info)) b.state v.ints → FullEnds site start after (inst_exit (environment site start after) (ReturnCall info) v.ints) [] (full_left frame t.stack_arg_size v) b) (same_Some _ tail is)
+        subst (λ (t : TailCall). Enters site start after (parts_of site.context setting (ReturnCall info)) b.state v.ints → FullEnds site start after (inst_exit (environment site start after) (ReturnCall info) v.ints) [] (full_left frame t.stack_arg_size v) [] b) (same_Some _ tail is)
         (λ e. let l = frame_leaves _ n (Notes event.CallSite ∷ call_to 0 31 info.dest ∷ []) h units full e in ends_by l.comes (symbol_out info.dest l.left))
     kept_leaves setting (ReturnCallInd info) tail k is fine =
         let frame = site.context.frame in
         let n = info.new_stack_arg_size in
         let h = is_restorable frame (record { stack_arg_size = n; by_register = true }) fine in
         let others = t0_other frame n fine in
-        subst (λ (t : TailCall). Enters site start after (parts_of site.context setting (ReturnCallInd info)) b.state v.ints → FullEnds site start after (inst_exit (environment site start after) (ReturnCallInd info) v.ints) [] (full_left frame t.stack_arg_size v) b) (same_Some _ tail is)
+        subst (λ (t : TailCall). Enters site start after (parts_of site.context setting (ReturnCallInd info)) b.state v.ints → FullEnds site start after (inst_exit (environment site start after) (ReturnCallInd info) v.ints) [] (full_left frame t.stack_arg_size v) [] b) (same_Some _ tail is)
         (λ e.
         let l = frame_leaves _ n (Op (short_jalr site.context.flags 0 5 (pos 0)) ∷ []) h units full e in
-        subst (λ m. FullEnds site start after (Leave (reg v.ints m / 2 * 2)) [] (full_left frame n v) b) (sym (target_fine info k).1)
+        subst (λ m. FullEnds site start after (Leave (reg v.ints m / 2 * 2)) [] (full_left frame n v) [] b) (sym (target_fine info k).1)
         (ends_by l.comes (register_out (reg v.ints 5) (t0_kept frame n v others) (e.are_values.fits 5) l.left)))
     kept_leaves setting _ tail k is fine = absurd (cc)
 
     -- every tail call that breaks no rule does, where its frame can be restored
-    pub full_leaves : (setting : EmitVState) (inst : Inst) (tail : TailCall) → inst_rule site.context inst ≡ None → tail_call_of inst ≡ Some tail → is_bad_frame_for site.context.frame (tail_call_of inst) ≡ false → Enters site start after (parts_of site.context setting inst) b.state v.ints → FullEnds site start after (inst_exit (environment site start after) inst v.ints) [] (full_left site.context.frame tail.stack_arg_size v) b
+    pub full_leaves : (setting : EmitVState) (inst : Inst) (tail : TailCall) → inst_rule site.context inst ≡ None → tail_call_of inst ≡ Some tail → is_bad_frame_for site.context.frame (tail_call_of inst) ≡ false → Enters site start after (parts_of site.context setting inst) b.state v.ints → FullEnds site start after (inst_exit (environment site start after) inst v.ints) [] (full_left site.context.frame tail.stack_arg_size v) [] b
     full_leaves setting inst tail rule is fine = kept_leaves setting inst tail (keeps site.context inst rule) is fine

@@ -2,9 +2,11 @@
 -- register is one exact row after them.
 use Rattle.std.proofs.Common.{◌≡◌, ℕ, ◌+◌, ◌%◌, ◌<◌, ◌≤◌, Bool, true, false, ℤ, pos, List, [], ◌∷◌, ◌++◌, length, Option, Some, None, arith, refl, sym, ap, subst, ◌∙◌, lit<}
 use Rattle.std.specs.Prelude.{if◌then◌else◌, is_some}
+use Rattle.std.proofs.lemmas.Bool.{or_parts}
 use Rattle.std.proofs.lemmas.List.{append-nil}
 use Rattle.rv_base.specs.LabelUse.{code_limit}
 use Rattle.rv_base.specs.declared.flags.IsaFlags.{IsaFlags}
+use Rattle.rv_base.specs.declared.frame.FrameLayout.{FrameLayout}
 use Rattle.rv_machine.specs.declared.ops.FloatFormat.{FloatFormat}
 use Rattle.rv_machine.specs.State.{State, Values, low64, reg, set_reg, wrap}
 use Rattle.rv_machine.specs.Memory.{load_result}
@@ -13,8 +15,11 @@ use Rattle.rv_ops.specs.Memory.{is_float_load, load_format}
 use Rattle.rv_encode.specs.Operations.{decoded_load, load_op}
 use Rattle.rv_inst.specs.Addresses.{Based, is_near}
 use Rattle.rv_inst.specs.Forms.{short_load}
-use Rattle.rv_inst.specs.Meaning.{Exit}
-use Rattle.rv_inst.specs.Returns.{StackLoad}
+use Rattle.rv_inst.specs.Core.{restores_float}
+use Rattle.rv_inst.specs.Meaning.{Exit, frame_left, stack_loaded}
+use Rattle.rv_inst.specs.Operands.{loads_float}
+use Rattle.rv_inst.specs.Returns.{StackLoad, frame_above, restores}
+use Rattle.rv_inst.specs.declared.tail_calls.TailCall.{TailCall}
 use Rattle.rv_inst.specs.SameValues.{Same, SameBut}
 use Rattle.rv_full.specs.Steps.{fiter}
 use Rattle.rv_full.specs.Units.{FullState, FullValues, IsFullState, put}
@@ -23,7 +28,7 @@ use Rattle.rv_full.proofs.Runs.{fiter_after, fiter_none}
 use Rattle.rv_code.specs.Chains.{IsAt}
 use Rattle.rv_code.specs.FloatAccesses.{float_loaded}
 use Rattle.rv_code.specs.FullEnds.{FullEnds}
-use Rattle.rv_code.specs.FullReturns.{full_loaded, loaded_as, with_ints}
+use Rattle.rv_code.specs.FullReturns.{full_left, full_loaded, loaded_as, set_int, with_ints}
 use Rattle.rv_code.specs.InstParts.{address_slots, load_slots, slots_alone, stack_load_slots}
 use Rattle.rv_code.specs.InstRuns.{ComesOut, Enters}
 use Rattle.rv_code.specs.Sites.{Site, StandsIn}
@@ -36,6 +41,7 @@ use Rattle.rv_code.proofs.ExactRows.{exact_out}
 use Rattle.rv_code.proofs.FloatAccesses.{load_does}
 use Rattle.rv_code.proofs.FloatAccessRuns.{load_ready}
 use Rattle.rv_code.proofs.Registers.{reads_other}
+use Rattle.rv_code.proofs.ReturnRuns.{restores_none}
 use Rattle.rv_code.proofs.ShortOps.{load_sized}
 use Rattle.rv_code.proofs.StackRuns.{IsAs, IsLoadableAs, AreStackLoads, IsOtherAs, AreOthersAs, load_comes}
 
@@ -80,10 +86,10 @@ pub in_course : {site : Site} {offset size : ℕ} {v : FullValues} {b : FullStat
 in_course k = record { here = k.here; is_state = k.is_state.state; values = k.ints }
 
 -- and ends where integer words come out from there
-pub ends_by : {site : Site} {start after offset size : ℕ} {exit : Exit} {made : FullValues} {b : FullState} (c : FullComes site offset size made b) → ComesOut site start after exit [] made.ints c.state.state → FullEnds site start after exit [] made b
+pub ends_by : {site : Site} {start after offset size : ℕ} {exit : Exit} {made : FullValues} {b : FullState} (c : FullComes site offset size made b) → ComesOut site start after exit [] made.ints c.state.state → FullEnds site start after exit [] made [] b
 ends_by c out = record { steps = c.steps; state = c.state; ran = c.ran; last = out; units = c.course.units; is_state = c.course.is_state; answers = c.answers; setting = c.setting }
 
-pub ends_at_once : {site : Site} {start after : ℕ} {exit : Exit} {b : FullState} {w : Values} (v : FullValues) → v.units ≡ b.units → IsFullState b → ComesOut site start after exit [] w b.state → FullEnds site start after exit [] (with_ints w v) b
+pub ends_at_once : {site : Site} {start after : ℕ} {exit : Exit} {b : FullState} {w : Values} (v : FullValues) → v.units ≡ b.units → IsFullState b → ComesOut site start after exit [] w b.state → FullEnds site start after exit [] (with_ints w v) [] b
 ends_at_once {site} {b = b} v units full out = record { steps = 0; state = b; ran = fiter_none site.context.flags b; last = out; units = units; is_state = full; answers = refl; setting = refl }
 
 -- ---- what loads leave
@@ -106,6 +112,22 @@ stack_other (Some format) n h = tt
 pub stack_kept : (loads : List StackLoad) → AreStackLoads loads → AreOthersAs 2 loads
 stack_kept [] h = tt
 stack_kept (l ∷ loads) h = (stack_other (load_format l.op) l.register h.0, stack_kept loads h.1)
+
+-- of integer registers they are as on the integer machine
+one_integer : (l : StackLoad) (format : Option FloatFormat) (a : ℕ) (v : FullValues) → is_some format ≡ false → loaded_as format l a v ≡ set_int v l.register (load_result (load_op l.op) v.ints.mem a)
+one_integer l None a v e = refl
+one_integer l (Some format) a v e = absurd (cc)
+
+pub loaded_integers : (sp : ℕ) (loads : List StackLoad) (v : FullValues) → loads_float loads ≡ false → full_loaded sp loads v ≡ with_ints (stack_loaded sp loads v.ints) v
+loaded_integers sp [] v e = refl
+loaded_integers sp (l ∷ loads) v e =
+    let a = wrap (sp + low64 l.offset) in
+    let both = or_parts (is_float_load l.op) (loads_float loads) e in
+    ap (full_loaded sp loads) (one_integer l (load_format l.op) a v both.0)
+    ∙ loaded_integers sp loads (set_int v l.register (load_result (load_op l.op) v.ints.mem a)) both.1
+
+pub left_integers : (frame : FrameLayout) (tail : TailCall) (arguments : ℕ) (v : FullValues) → restores_float frame (Some tail) ≡ false → full_left frame arguments v ≡ with_ints (frame_left frame arguments v.ints) v
+left_integers frame tail arguments v e = ap (λ u. set_int u 2 (wrap (reg v.ints 2 + frame_above frame arguments))) (loaded_integers (reg v.ints 2) (restores frame) v (restores_none frame tail e))
 
 -- ---- one load
 

@@ -1,5 +1,6 @@
 -- What it is for an instruction to run as it means on the machine with all units where its last words are integer words: links of the proof.
-use Rattle.std.specs.Prelude.{◌≡◌, ℕ, List, Some}
+use Rattle.std.specs.Prelude.{◌≡◌, ℕ, ◌++◌, List, Some}
+use Rattle.rv_full.specs.declared.answer.Answer.{Answer}
 use Rattle.rv_full.specs.Steps.{fiter}
 use Rattle.rv_full.specs.Units.{FullState, FullValues, IsFullState}
 use Rattle.rv_inst.specs.Meaning.{Exit}
@@ -7,13 +8,13 @@ use Rattle.rv_code.specs.InstRuns.{ComesOut}
 use Rattle.rv_code.specs.Sites.{Site}
 
 -- In some steps the machine comes to where the integer words that are left come out at an exit, with values that are these, declared
--- temporaries apart. It took no answer, and left the setting.
-pub record FullEnds (site : Site) (start after : ℕ) (exit : Exit) (free : List ℕ) (made : FullValues) (b : FullState) : Type 0 where
+-- temporaries apart. It took these answers, and left the setting.
+pub record FullEnds (site : Site) (start after : ℕ) (exit : Exit) (free : List ℕ) (made : FullValues) (took : List Answer) (b : FullState) : Type 0 where
   pub steps : ℕ
   pub state : FullState
   pub ran : fiter site.context.flags steps b ≡ Some state
   pub last : ComesOut site start after exit free made.ints state.state
   pub units : made.units ≡ state.units
   pub is_state : IsFullState state
-  pub answers : b.answers ≡ state.answers
+  pub answers : b.answers ≡ took ++ state.answers
   pub setting : state.units.setting ≡ b.units.setting

@@ -17,9 +17,13 @@ use Rattle.rv_code.specs.FloatAccesses.{float_loaded}
 abbrev pub with_ints : Values → FullValues → FullValues
 with_ints w v = record { ints = w; units = v.units }
 
+-- an integer register is written
+abbrev pub set_int : FullValues → ℕ → ℕ → FullValues
+set_int v n x = with_ints (set_reg v.ints n x) v
+
 -- a register is loaded from an address, by the format of its load where it is a floating-point one
 abbrev pub loaded_as : Option FloatFormat → StackLoad → ℕ → FullValues → FullValues
-loaded_as None l a v = with_ints (set_reg v.ints l.register (load_result (load_op l.op) v.ints.mem a)) v
+loaded_as None l a v = set_int v l.register (load_result (load_op l.op) v.ints.mem a)
 loaded_as (Some format) l a v = float_loaded format l.register a v
 
 -- registers are loaded, one after the other, each from so far above an address
@@ -27,13 +31,9 @@ abbrev pub full_loaded : ℕ → List StackLoad → FullValues → FullValues
 full_loaded sp [] v = v
 full_loaded sp (l ∷ loads) v = full_loaded sp loads (loaded_as (load_format l.op) l (wrap (sp + low64 l.offset)) v)
 
--- the stack pointer, which is x2, rises
-abbrev pub full_risen : ℕ → FullValues → FullValues
-full_risen size v = with_ints (set_reg v.ints 2 (wrap (reg v.ints 2 + size))) v
-
--- a frame is taken away: what it saved is restored, and the stack pointer rises to the next function's arguments
+-- a frame is taken away: what it saved is restored, and the stack pointer, which is x2, rises to the next function's arguments
 abbrev pub full_left : FrameLayout → ℕ → FullValues → FullValues
-full_left frame arguments v = full_risen (frame_above frame arguments) (full_loaded (reg v.ints 2) (restores frame) v)
+full_left frame arguments v = set_int (full_loaded (reg v.ints 2) (restores frame) v) 2 (wrap (reg v.ints 2 + frame_above frame arguments))
 
 -- what a call makes of the values that its callee returns with: the stack pointer falls, and results are loaded from above it
 abbrev pub full_resumed : Return → FullValues → FullValues

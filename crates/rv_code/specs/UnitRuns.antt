@@ -107,7 +107,6 @@ pub record RowAsks (pc : ℕ) (x y : Row) (answers : List Answer) : Type 0 where
 pub record FullComesOut (site : Site) (after : ℕ) (free : List ℕ) (made : FullValues) (took : List Answer) (b : FullState) : Type 0 where
   pub steps : ℕ
   pub state : FullState
-  pub moved : 1 ≤ steps
   pub ran : fiter site.context.flags steps b ≡ Some state
   pub pc : state.state.pc ≡ wrap (site.base + after)
   pub same : SameFullBut free made (values_of state)

@@ -60,6 +60,11 @@ pub use Rattle.rv_code.proofs.FullChoices.{full_select}
 pub use Rattle.rv_code.proofs.UnitRules.{are_usable_in}
 pub use Rattle.rv_code.proofs.AddressOperands.{full_load_kept, full_store_kept}
 pub use Rattle.rv_code.proofs.FloatAccessRuns.{full_load, full_store}
+-- registers of both files that come from the stack
+pub use Rattle.rv_code.proofs.FullStackRuns.{left_integers, loaded_integers}
+pub use Rattle.rv_code.proofs.FullCallRuns.{call_starts, full_resumes}
+pub use Rattle.rv_code.proofs.FullReturnRuns.{full_leaves}
+pub use Rattle.rv_code.proofs.AccessRows.{not_true}
 pub use Rattle.rv_code.proofs.UnitWordRuns.{IsUnitOperation, parts_are, unit_operation}
 -- how long the operations of a jump by a register are
 pub use Rattle.rv_code.proofs.ShortOps.{jalr_sized}
