@@ -63,7 +63,6 @@ half_store_out {site} {start} {after} {v} {b} src loc trap based e units full cl
     record {
       steps = g.steps + 1;
       state = put g.state c;
-      moved = omega arith;
       ran = fiter_after flags g.steps 1 b c (fiter_one flags b c next) ∙ integer_run flags g.steps g.state c g.ran;
       pc = g.arrives;
       same = record { ints = subst (λ w. SameBut [] w g.state.values) made g.same; units = units };
