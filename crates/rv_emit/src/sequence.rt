@@ -48,8 +48,8 @@ use crate::symbols::{put_far_symbol, put_near_symbol, put_slot_load, put_unwind}
 use crate::units::put_unit;
 use mach_buffer::MachBuffer;
 use rv_base::{
-    FrameLayout, IrType, IsaFlags, MachLabel, OutOfMemory, Reg, UserStackMap, WritableReg, link_reg,
-    writable_zero_reg, zero_reg,
+    FrameLayout, IrType, IsaFlags, MachLabel, OutOfMemory, Reg, UserStackMap, WritableReg,
+    link_reg, writable_zero_reg, zero_reg,
 };
 use rv_encode::{enc_auipc, encode_alu_rr_imm12, encode_branch, encode_cj_type, encode_jal};
 use rv_imms::Imm12;
