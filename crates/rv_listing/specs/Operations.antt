@@ -7,9 +7,9 @@ use Rattle.rv_ops.specs.declared.alu.AluOPRRR.TheVariants as rrr
 use Rattle.rv_ops.specs.declared.alu.AluOPRRI.{AluOPRRI}
 use Rattle.rv_ops.specs.declared.alu.AluOPRRI.TheVariants as rri
 use Rattle.rv_ops.specs.declared.memory.LoadOP.{LoadOP}
-use Rattle.rv_ops.specs.declared.memory.LoadOP.TheVariants.{Lb, Lh, Lw, Lbu, Lhu, Lwu, Ld, Flw, Fld}
+use Rattle.rv_ops.specs.declared.memory.LoadOP.TheVariants.{Lb, Lh, Lw, Lbu, Lhu, Lwu, Ld, Flh, Flw, Fld}
 use Rattle.rv_ops.specs.declared.memory.StoreOP.{StoreOP}
-use Rattle.rv_ops.specs.declared.memory.StoreOP.TheVariants.{Sb, Sh, Sw, Sd, Fsw, Fsd}
+use Rattle.rv_ops.specs.declared.memory.StoreOP.TheVariants.{Sb, Sh, Sw, Sd, Fsh, Fsw, Fsd}
 use Rattle.rv_ops.specs.Alu.{rrr_name, rri_name}
 use Rattle.rv_ops.specs.Memory.{load_name, store_name}
 
@@ -38,14 +38,14 @@ unfoldable pub alu_rri : List ℕ → Option AluOPRRI
 alu_rri w = find (λ op. bytes_eq w (rri_name op)) every_rri
 
 unfoldable pub every_load : List LoadOP
-every_load = Lb ∷ Lh ∷ Lw ∷ Lbu ∷ Lhu ∷ Lwu ∷ Ld ∷ Flw ∷ Fld ∷ []
+every_load = Lb ∷ Lh ∷ Lw ∷ Lbu ∷ Lhu ∷ Lwu ∷ Ld ∷ Flh ∷ Flw ∷ Fld ∷ []
 
 -- the load of this mnemonic
 unfoldable pub load_op : List ℕ → Option LoadOP
 load_op w = find (λ op. bytes_eq w (load_name op)) every_load
 
 unfoldable pub every_store : List StoreOP
-every_store = Sb ∷ Sh ∷ Sw ∷ Sd ∷ Fsw ∷ Fsd ∷ []
+every_store = Sb ∷ Sh ∷ Sw ∷ Sd ∷ Fsh ∷ Fsw ∷ Fsd ∷ []
 
 -- the store of this mnemonic
 unfoldable pub store_op : List ℕ → Option StoreOP
