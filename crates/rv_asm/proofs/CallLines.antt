@@ -108,15 +108,15 @@ module _ (job : Job) (code : Code) (known : Known) (t : IsThreaded job code know
     pub call_comes : (r : Return) → return_of job.flags inst ≡ Some r → CameOut placing (At i) v b
     call_comes r is =
         let agree = agrees job code known t base symbols slots b.state.values.mem i (Put inst) listed in
-        let there = environment site start end in
-        let out = (call_starts site stood.setting inst r (t.ruled i (Put inst) listed) is).run start end b.state v.ints (enters job code known t base symbols slots i inst v b listed s) (outside_none base (length site.bytes) (inst_writes there inst v.ints) (writes_none there inst v.ints call)) in
-        left (with_ints (inst_effect there inst v.ints) v)
+        let own = environment site start end in
+        let out = (call_starts site stood.setting inst r (t.ruled i (Put inst) listed) is).run start end b.state v.ints (enters job code known t base symbols slots i inst v b listed s) (outside_none base (length site.bytes) (inst_writes own inst v.ints) (writes_none own inst v.ints call)) in
+        left (with_ints (inst_effect own inst v.ints) v)
         (ap (λ o. call_started env inst o v) (returns_call job.flags inst r is).1 ∙ ap (λ w. with_ints w v) (sym (effect_agrees (Put inst) v.ints agree)))
         (record {
           steps = 0;
           state = b;
           ran = fiter_none job.flags b;
-          last = subst (λ free. ComesOut site start end exit free (inst_effect there inst v.ints) b.state) (none_free inst call) out;
+          last = subst (λ free. ComesOut site start end exit free (inst_effect own inst v.ints) b.state) (none_free inst call) out;
           units = s.same.units;
           is_state = s.is_state;
           answers = refl;

@@ -9,14 +9,13 @@ use Rattle.rv_base.specs.declared.flags.IsaFlags.{IsaFlags}
 use Rattle.rv_base.specs.declared.frame.FrameLayout.{FrameLayout}
 use Rattle.rv_machine.specs.declared.ops.FloatFormat.{FloatFormat}
 use Rattle.rv_machine.specs.State.{State, Values, low64, reg, set_reg, wrap}
-use Rattle.rv_machine.specs.Memory.{load_result}
 use Rattle.rv_ops.specs.declared.memory.LoadOP.{LoadOP}
 use Rattle.rv_ops.specs.Memory.{is_float_load, load_format}
-use Rattle.rv_encode.specs.Operations.{decoded_load, load_op}
+use Rattle.rv_encode.specs.Operations.{decoded_load}
 use Rattle.rv_inst.specs.Addresses.{Based, is_near}
 use Rattle.rv_inst.specs.Forms.{short_load}
 use Rattle.rv_inst.specs.Core.{restores_float}
-use Rattle.rv_inst.specs.Meaning.{Exit, frame_left, stack_loaded}
+use Rattle.rv_inst.specs.Meaning.{Exit, frame_left, loaded, stack_loaded}
 use Rattle.rv_inst.specs.Operands.{loads_float}
 use Rattle.rv_inst.specs.Returns.{StackLoad, frame_above, restores}
 use Rattle.rv_inst.specs.declared.tail_calls.TailCall.{TailCall}
@@ -40,10 +39,9 @@ use Rattle.rv_code.proofs.Courses.{InCourse, Comes}
 use Rattle.rv_code.proofs.ExactRows.{exact_out}
 use Rattle.rv_code.proofs.FloatAccesses.{load_does}
 use Rattle.rv_code.proofs.FloatAccessRuns.{load_ready}
-use Rattle.rv_code.proofs.Registers.{reads_other}
 use Rattle.rv_code.proofs.ReturnRuns.{restores_none}
 use Rattle.rv_code.proofs.ShortOps.{load_sized}
-use Rattle.rv_code.proofs.StackRuns.{IsAs, IsLoadableAs, AreStackLoads, IsOtherAs, AreOthersAs, load_comes}
+use Rattle.rv_code.proofs.StackRuns.{one_other as integer_other, integer_loaded, IsAs, IsLoadableAs, AreStackLoads, IsOtherAs, AreOthersAs, load_comes}
 
 -- ---- the machine's way
 
@@ -96,7 +94,7 @@ ends_at_once {site} {b = b} v units full out = record { steps = 0; state = b; ra
 
 -- an integer register that isn't among them keeps its value
 one_other : (l : StackLoad) (format : Option FloatFormat) (a n : ℕ) (v : FullValues) → IsOtherAs format n l.register → reg (loaded_as format l a v).ints n ≡ reg v.ints n
-one_other l None a n v other = reads_other v.ints l.register n (load_result (load_op l.op) v.ints.mem a) (λ e. other (sym e))
+one_other l None a n v other = integer_other l.op l.register a n v.ints other
 one_other l (Some format) a n v other = refl
 
 pub full_other : (sp n : ℕ) (loads : List StackLoad) (v : FullValues) → AreOthersAs n loads → reg (full_loaded sp loads v).ints n ≡ reg v.ints n
@@ -114,7 +112,7 @@ stack_kept [] h = tt
 stack_kept (l ∷ loads) h = (stack_other (load_format l.op) l.register h.0, stack_kept loads h.1)
 
 -- of integer registers they are as on the integer machine
-one_integer : (l : StackLoad) (format : Option FloatFormat) (a : ℕ) (v : FullValues) → is_some format ≡ false → loaded_as format l a v ≡ set_int v l.register (load_result (load_op l.op) v.ints.mem a)
+one_integer : (l : StackLoad) (format : Option FloatFormat) (a : ℕ) (v : FullValues) → is_some format ≡ false → loaded_as format l a v ≡ with_ints (loaded l.op l.register a v.ints) v
 one_integer l None a v e = refl
 one_integer l (Some format) a v e = absurd (cc)
 
@@ -124,7 +122,7 @@ loaded_integers sp (l ∷ loads) v e =
     let a = wrap (sp + low64 l.offset) in
     let both = or_parts (is_float_load l.op) (loads_float loads) e in
     ap (full_loaded sp loads) (one_integer l (load_format l.op) a v both.0)
-    ∙ loaded_integers sp loads (set_int v l.register (load_result (load_op l.op) v.ints.mem a)) both.1
+    ∙ loaded_integers sp loads (with_ints (loaded l.op l.register a v.ints) v) both.1
 
 pub left_integers : (frame : FrameLayout) (tail : TailCall) (arguments : ℕ) (v : FullValues) → restores_float frame (Some tail) ≡ false → full_left frame arguments v ≡ with_ints (frame_left frame arguments v.ints) v
 left_integers frame tail arguments v e = ap (λ u. set_int u 2 (wrap (reg v.ints 2 + frame_above frame arguments))) (loaded_integers (reg v.ints 2) (restores frame) v (restores_none frame tail e))
@@ -187,7 +185,10 @@ module _ {site : Site} (short : length site.bytes < code_limit) (labels : (label
       }
 
   one_comes : {offset size : ℕ} {v : FullValues} {b : FullState} (allocated : ℕ) (l : StackLoad) (format : Option FloatFormat) → load_format l.op ≡ format → IsLoadableAs format l.register → StandsIn site allocated offset (load_slots site.context.flags l.register l.op None (Based 2 l.offset)) → FullCourse site offset (size_of (load_slots site.context.flags l.register l.op None (Based 2 l.offset)) + size) v b → FullComes site (offset + size_of (load_slots site.context.flags l.register l.op None (Based 2 l.offset))) size (loaded_as format l (wrap (reg v.ints 2 + low64 l.offset)) v) b
-  one_comes {v = v} {b} allocated l None is h stands k = integers_come v b k.units k.is_state (load_comes allocated l.register 2 l.op l.offset (ap is_some is) h.usable (lit< tt) stands (in_course k))
+  one_comes {offset} {size} {v} {b} allocated l None is h stands k =
+      let n = size_of (load_slots site.context.flags l.register l.op None (Based 2 l.offset)) in
+      subst (λ w. FullComes site (offset + n) size (with_ints w v) b) (sym (integer_loaded l.op l.register (wrap (reg v.ints 2 + low64 l.offset)) v.ints (ap is_some is)))
+      (integers_come v b k.units k.is_state (load_comes allocated l.register 2 l.op l.offset (ap is_some is) h.usable (lit< tt) stands (in_course k)))
   one_comes allocated l (Some format) is h stands k = float_comes allocated l format is h stands k
 
   -- loads one after the other, each of which counts from the same stack pointer

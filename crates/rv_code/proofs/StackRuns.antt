@@ -15,7 +15,7 @@ use Rattle.rv_ops.specs.Memory.{is_float_load, load_format}
 use Rattle.rv_encode.specs.Operations.{load_op, decoded_load}
 use Rattle.rv_inst.specs.Addresses.{Based, is_near}
 use Rattle.rv_inst.specs.Forms.{short_rrr, short_rri, short_load}
-use Rattle.rv_inst.specs.Meaning.{stack_loaded}
+use Rattle.rv_inst.specs.Meaning.{loaded, stack_loaded}
 use Rattle.rv_inst.specs.Operands.{loads_float}
 use Rattle.rv_inst.specs.Returns.{StackLoad}
 use Rattle.rv_inst.specs.SameValues.{SameBut}
@@ -84,11 +84,18 @@ integers_other n [] e h = tt
 integers_other n (l ∷ loads) e h = let both = or_parts (is_float_load l.op) (loads_float loads) e in (other_as_integer (load_format l.op) n l.register both.0 h.0, integers_other n loads both.1 h.1)
 
 -- so it keeps its value
+pub one_other : (op : LoadOP) (rd a n : ℕ) (v : Values) → rd ≢ n → reg (loaded op rd a v) n ≡ reg v n
+one_other op rd a n v other = by (is_float_load op)
+  where
+    by : (float : Bool) → reg (if float then v else set_reg v rd (load_result (load_op op) v.mem a)) n ≡ reg v n
+    by true = refl
+    by false = reads_other v rd n (load_result (load_op op) v.mem a) (λ e. other (sym e))
+
 pub loaded_other : (sp n : ℕ) (loads : List StackLoad) (v : Values) → AreOthers n loads → reg (stack_loaded sp loads v) n ≡ reg v n
 loaded_other sp n [] v others = refl
 loaded_other sp n (l ∷ loads) v others =
-    let x = load_result (load_op l.op) v.mem (wrap (sp + low64 l.offset)) in
-    loaded_other sp n loads (set_reg v l.register x) others.1 ∙ reads_other v l.register n x (λ e. others.0 (sym e))
+    let a = wrap (sp + low64 l.offset) in
+    loaded_other sp n loads (loaded l.op l.register a v) others.1 ∙ one_other l.op l.register a n v others.0
 
 pub stack_apart : (loads : List StackLoad) → AreLoadable loads → AreOthers 2 loads
 stack_apart [] h = tt
@@ -116,6 +123,10 @@ spare_holds u w x hw k = record {
 }
 
 -- ---- one load
+
+-- a load of integers sets its register
+pub integer_loaded : (op : LoadOP) (rd a : ℕ) (v : Values) → IsIntegerLoad op → loaded op rd a v ≡ set_reg v rd (load_result (load_op op) v.mem a)
+integer_loaded op rd a v integer = ap (λ (c : Bool). if c then v else set_reg v rd (load_result (load_op op) v.mem a)) integer
 
 -- what is loaded from an address that counts from a register
 abbrev read_at : LoadOP → ℕ → ℤ → Values → ℕ
@@ -201,10 +212,12 @@ loads_come {site} {size} allocated sp (l ∷ loads) offset u s h from stands k =
     let over : offset + size_of first + size_of rest ≡ offset + size_of (first ++ rest) = omega arith in
     let both = stands_split site allocated offset first rest stands in
     let x = load_result (load_op l.op) u.mem (wrap (sp + low64 l.offset)) in
+    let is = integer_loaded l.op l.register (wrap (sp + low64 l.offset)) u h.0.integer in
     let one = load_comes allocated l.register 2 l.op l.offset h.0.integer h.0.register.usable (lit< tt) both.0 (course_before (size_of first + (size_of rest + size)) k (omega arith)) in
     subst (λ n. Comes site n size (IsAs (stack_loaded sp (l ∷ loads) u)) s) over
+    (subst (λ w. Comes site (offset + size_of first + size_of rest) size (IsAs (stack_loaded sp loads w)) s) (sym is)
     (comes_on (subst (λ b. Comes site (offset + size_of first) (size_of rest + size) (IsAs (set_reg u l.register (load_result (load_op l.op) u.mem (wrap (b + low64 l.offset))))) s) from one)
-    (λ t k1. loads_come allocated sp loads (offset + size_of first) (set_reg u l.register x) t h.1 (reads_other u l.register 2 x (λ e. h.0.register.apart (sym e)) ∙ from) both.1 k1))
+    (λ t k1. loads_come allocated sp loads (offset + size_of first) (set_reg u l.register x) t h.1 (reads_other u l.register 2 x (λ e. h.0.register.apart (sym e)) ∙ from) both.1 k1)))
 
 -- ---- the stack pointer
 

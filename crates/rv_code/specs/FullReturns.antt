@@ -3,11 +3,9 @@
 use Rattle.std.specs.Prelude.{ℕ, ◌+◌, List, [], ◌∷◌, Option, Some, None}
 use Rattle.rv_base.specs.declared.frame.FrameLayout.{FrameLayout}
 use Rattle.rv_machine.specs.declared.ops.FloatFormat.{FloatFormat}
-use Rattle.rv_machine.specs.Memory.{load_result}
 use Rattle.rv_machine.specs.State.{Values, low64, reg, set_reg, wrap}
 use Rattle.rv_ops.specs.Memory.{load_format}
-use Rattle.rv_encode.specs.Operations.{load_op}
-use Rattle.rv_inst.specs.Meaning.{fallen}
+use Rattle.rv_inst.specs.Meaning.{fallen, loaded}
 use Rattle.rv_inst.specs.Operands.{Return}
 use Rattle.rv_inst.specs.Returns.{StackLoad, frame_above, restores}
 use Rattle.rv_full.specs.Units.{FullValues}
@@ -23,7 +21,7 @@ set_int v n x = with_ints (set_reg v.ints n x) v
 
 -- a register is loaded from an address, by the format of its load where it is a floating-point one
 abbrev pub loaded_as : Option FloatFormat → StackLoad → ℕ → FullValues → FullValues
-loaded_as None l a v = set_int v l.register (load_result (load_op l.op) v.ints.mem a)
+loaded_as None l a v = with_ints (loaded l.op l.register a v.ints) v
 loaded_as (Some format) l a v = float_loaded format l.register a v
 
 -- registers are loaded, one after the other, each from so far above an address

@@ -23,7 +23,7 @@ use Rattle.rv_base.specs.LabelUse.{code_limit}
 use Rattle.rv_ops.specs.declared.alu.AluOPRRR.TheVariants.{Add}
 use Rattle.rv_ops.specs.declared.alu.AluOPRRI.TheVariants.{Addi}
 use Rattle.rv_ops.specs.declared.memory.LoadOP.TheVariants.{Ld}
-use Rattle.rv_encode.specs.Registers.{IsIntRegister}
+use Rattle.rv_encode.specs.Registers.{IsIntRegister, IsRealRegister}
 use Rattle.mach_buffer.specs.Buffer.{shape_of, bytes_of}
 use Rattle.mach_buffer.specs.Constants.{reserve_of}
 use Rattle.rv_machine.specs.State.{low64}
@@ -174,6 +174,10 @@ far_step flags z old new fits some far p =
 pub real_int : (r : Reg) (n : ℕ) → IsReal r Int n → IsIntRegister r
 real_int (Real p) n h = h.0
 real_int (Virtual class index) n h = absurd h
+
+pub real_any : (r : Reg) (n : ℕ) → IsReal r Int n → IsRealRegister r
+real_any (Real p) n h = refl
+real_any (Virtual class index) n h = absurd h
 
 -- the number of the step, as the code has it
 pub number_there : {flags : IsaFlags} {old new : Buffer} (spare : ℕ) (z : ℤ) → spare ≡ 31 → PutsAlone flags (number_slots flags spare z) old new → PutsAlone flags (number_slots flags 31 z) old new

@@ -108,10 +108,14 @@ set_regs v [] xs = v
 set_regs v (n ∷ ns) [] = v
 set_regs v (n ∷ ns) (x ∷ xs) = set_regs (set_reg v n x) ns xs
 
+-- A register is loaded from an address. A load of a floating-point register has no meaning on integers alone, and is said to leave them.
+abbrev pub loaded : LoadOP → ℕ → ℕ → Values → Values
+loaded op rd a v = if is_float_load op then v else set_reg v rd (load_result (load_op op) v.mem a)
+
 -- registers are loaded, one after the other, each from so far above an address
 abbrev pub stack_loaded : ℕ → List StackLoad → Values → Values
 stack_loaded sp [] v = v
-stack_loaded sp (l ∷ loads) v = stack_loaded sp loads (set_reg v l.register (load_result (load_op l.op) v.mem (wrap (sp + low64 l.offset))))
+stack_loaded sp (l ∷ loads) v = stack_loaded sp loads (loaded l.op l.register (wrap (sp + low64 l.offset)) v)
 
 -- a frame is taken away: what it saved is restored, and the stack pointer, which is x2, rises to the next function's arguments
 abbrev pub frame_left : FrameLayout → ℕ → Values → Values
@@ -163,11 +167,7 @@ goes exit v = record { effect = v; writes = []; exit = exit }
 abbrev pub unit_meaning : UnitWord → Values → Meaning
 unit_meaning w v = goes Next v
 
--- A load or a store of a floating-point register has no meaning on integers alone, either, and is said to leave them; yet the bytes that
--- a store writes are said.
-abbrev pub loaded : LoadOP → ℕ → ℕ → Values → Values
-loaded op rd a v = if is_float_load op then v else set_reg v rd (load_result (load_op op) v.mem a)
-
+-- Nor has a store of a floating-point register, which is said to leave them, too; yet the bytes that it writes are said.
 abbrev pub stored : StoreOP → ℕ → ℕ → Values → Values
 stored op src a v = if is_float_store op then v else put_bytes v a (store_bytes (store_op op) (reg v src))
 

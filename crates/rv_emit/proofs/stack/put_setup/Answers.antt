@@ -2,14 +2,14 @@ use Rattle.std.proofs.Common.{◌+◌, pos, ap, arith}
 use Rattle.rv_base.specs.Regs.{number_of}
 use Rattle.rv_code.proofs.ShortSlots.{real_number}
 use Rattle.rv_emit.proofs.SlotsOfOnePut.{none_put}
-use Rattle.rv_emit.proofs.TailCallCode.{no_setup, setup_put, load_long, real_int}
+use Rattle.rv_emit.proofs.TailCallCode.{no_setup, setup_put, load_long, real_any}
 use Rattle.rv_emit.proofs.stack.put_setup.Goals as goal
 
 pub returns-then-frame-eq0-clause-slots : goal.returns-then-frame-eq0-clause-slots
 returns-then-frame-eq0-clause-slots c = no_setup c.args.flags c.args.frame.now c.args.sink.now c.args.sink.now c.if-frame-eq0.true (none_put c.args.flags c.args.sink.now c.requires.sound)
 
 pub put_above-requires-2-clause-rd : goal.put_above-requires-2-clause-rd
-put_above-requires-2-clause-rd c = real_int c.writable_fp_reg.result.reg 8 c.writable_fp_reg.ensures
+put_above-requires-2-clause-rd c = real_any c.writable_fp_reg.result.reg 8 c.writable_fp_reg.ensures
 
 pub put_above-requires-2-clause-room : goal.put_above-requires-2-clause-room
 put_above-requires-2-clause-room c =
