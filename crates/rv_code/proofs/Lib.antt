@@ -87,6 +87,6 @@ pub mod ExactRows
 pub mod FloatAccesses
 pub mod ReadyAccesses
 pub mod FloatAccessRuns
-mod FullStackRuns
+pub mod FullStackRuns
 pub mod FullCallRuns
 pub mod FullReturnRuns
