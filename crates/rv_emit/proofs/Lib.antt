@@ -28,6 +28,7 @@ mod SymbolCode
 mod Standing
 mod VeneerRuns
 mod Words
+mod MovedFormats
 mod InstSlots
 mod PatchedWindows
 mod UpperWords
