@@ -80,7 +80,7 @@ pub mod ExactRows
 pub mod FloatAccesses
 pub mod ReadyAccesses
 pub mod FloatAccessRuns
-mod FullStackRuns
+pub mod FullStackRuns
 pub mod FullCallRuns
 pub mod FullReturnRuns
 pub mod MovedRegisters
