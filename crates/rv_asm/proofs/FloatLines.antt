@@ -63,7 +63,7 @@ module _ (job : Job) (code : Code) (known : Known) (t : IsThreaded job code know
       inst : Inst
       inst = Store src op flags to
 
-      abbrev l : LineAt placing (At i)
+      l : LineAt placing (At i)
       l = there job code known t base symbols slots i inst v b listed s
 
       env : Environment

@@ -5,7 +5,10 @@ use Rattle.std.proofs.lemmas.Bool.{true≢false, and_parts}
 use Rattle.rv_base.specs.declared.flags.IsaFlags.{IsaFlags}
 use Rattle.rv_machine.specs.declared.decoding.Decoded.{Decoded}
 use Rattle.rv_machine.specs.declared.ops.MOp.{MOp}
-use Rattle.rv_machine.specs.declared.ops.MOp.TheVariants.{Base, Load, Store, Alu}
+use Rattle.rv_machine.specs.declared.ops.FloatFormat.{FloatFormat}
+use Rattle.rv_machine.specs.declared.ops.LoadOp.{LoadOp}
+use Rattle.rv_machine.specs.declared.ops.StoreOp.{StoreOp}
+use Rattle.rv_machine.specs.declared.ops.MOp.TheVariants.{Base, Alu}
 use Rattle.rv_machine.specs.declared.ops.BaseOp.TheVariants.{Lui, Jal, Jalr, Ebreak}
 use Rattle.rv_machine.specs.declared.ops.AluOp.{AluOp}
 use Rattle.rv_machine.specs.declared.ops.AluOp.TheVariants.{Int, Mul, Bit}

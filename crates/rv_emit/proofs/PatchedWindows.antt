@@ -1,6 +1,5 @@
 -- Windows that hold one part of a distance: what their words decode to once the part is patched in.
-use Rattle.std.proofs.Common.{◌≡◌, ℕ, ◌+◌, ◌*◌, ◌/◌, ◌%◌, ◌^◌, ◌<◌, List, [], ◌∷◌, length, slice_index, Some, true, ℤ, pos, negsuc, ◌≤ℤ◌, refl, sym, ap, subst, ◌∙◌, arith, bit_and}
-use Rattle.std.proofs.lemmas.Int.{ints}
+use Rattle.std.proofs.Common.{◌≡◌, ℕ, ◌+◌, ◌*◌, ◌/◌, ◌%◌, ◌^◌, ◌<◌, List, [], ◌∷◌, length, slice_index, Some, true, refl, ap, ◌∙◌, arith, bit_and}
 use Rattle.std.proofs.lemmas.Nat.{and_mask, and_comm}
 use Rattle.std.proofs.lemmas.Nat.Bits.{and_high}
 use Rattle.rv_base.specs.declared.flags.IsaFlags.{IsaFlags}
@@ -19,8 +18,6 @@ use Rattle.rv_encode.specs.Layouts.{IsUType, IsIType}
 use Rattle.rv_encode.specs.Operations.{decoded, decoded_load, has_load}
 use Rattle.rv_encode.proofs.Decoding.{opcode_decodes}
 use Rattle.rv_encode.proofs.MemoryDecoding.{load_decodes}
-use Rattle.rv_imms.specs.declared.imm12.Imm12.{Imm12}
-use Rattle.rv_imms.specs.Bits.{low_bits}
 use Rattle.rv_inst.specs.declared.label_use.LabelUse.TheVariants.{PCRelHi20, PCRelLo12I}
 use Rattle.rv_inst.specs.LabelUse.{marks_of}
 use Rattle.rv_inst.specs.LabelUseWords.{word_at, word_bytes}
@@ -64,17 +61,6 @@ upper_patchable flags w rd fits h = record {
       encodes flags new _ long (opcode_decodes flags (word_at new) AUIPC k.opcode_is refl (λ i. Some (decoded (Base base.Auipc) (k.rd_is i) 0 0 (signed (2 ^ 19) (aims i)))));
 }
 
--- ---- twelve bits, signed
-
-signed_least : (n : ℕ) → n < 2 ^ 12 → negsuc 2047 ≤ℤ signed (2 ^ 11) n
-signed_least n lt = grind (arith, ints)
-
-signed_most : (n : ℕ) → n < 2 ^ 12 → signed (2 ^ 11) n ≤ℤ pos 2047
-signed_most n lt = grind (arith, ints)
-
-signed_back : (n : ℕ) → n < 2 ^ 12 → low_bits (2 ^ 12) (signed (2 ^ 11) n) ≡ n
-signed_back n lt = grind (arith, ints)
-
 -- ---- the lower part
 
 pub lower_fresh : (w : ℕ) → w < 1048576 → IsFresh (marks_of PCRelLo12I) (word_bytes w)
@@ -106,18 +92,11 @@ addi_patchable flags w rd rs fits h = record {
       encodes flags new _ long (opcode_decodes flags (word_at new) OP_IMM k.opcode_is refl (addi_decodes (word_at new) k.funct3_is ∙ (λ i. Some (decoded_addi (k.rd_is i) (k.rs1_is i) (signed (2 ^ 11) (aims i))))));
 }
 
--- twelve bits, read as an immediate
-as_immediate : (n : ℕ) → n < 2 ^ 12 → Imm12
-as_immediate n lt = record { value = signed (2 ^ 11) n; low = signed_least n lt; high = signed_most n lt }
-
 pub load_patchable : (flags : IsaFlags) (op : LoadOP) (w rd rs : ℕ) → has_load flags op ≡ true → w < 2 ^ 32 → IsIType w (load_opcode op) rd (load_funct3 op) rs 0 → IsPatchable flags PCRelLo12I (word_bytes w) (λ d. decoded_load op rd rs (lower_of_distance d) ∷ [])
 load_patchable flags op w rd rs has fits h = record {
   long = refl;
   fresh = let e = h.imm_is in lower_fresh w (omega arith);
   patched = λ new d long all same aims.
       let k = lower_in w (load_opcode op) rd (load_funct3 op) rs new h long all same in
-      let n = i_bits (word_at new) in
-      let imm = as_immediate n (omega arith) in
-      let fields = subst (IsIType (word_at new) (load_opcode op) rd (load_funct3 op) rs) (sym (signed_back n (omega arith))) k in
-      encodes flags new _ long (load_decodes flags op (word_at new) rd rs imm has fields ∙ (λ i. Some (decoded_load op rd rs (signed (2 ^ 11) (aims i)))));
+      encodes flags new _ long (load_decodes flags op (word_at new) rd rs (i_bits (word_at new)) (lower_of_distance d) has k (ap (signed (2 ^ 11)) aims));
 }

@@ -204,7 +204,12 @@ fn put_label_load(
 {
     put_upper(sink, base, label)?;
     put_access(sink, trap)?;
-    put_use(sink, load_word(op, rd, base.reg), label, LabelUse::PCRelLo12I)?;
+    put_use(
+        sink,
+        load_word(op, rd, base.reg),
+        label,
+        LabelUse::PCRelLo12I,
+    )?;
     Ok(())
 }
 
