@@ -89,14 +89,8 @@ fn put_half_load(
     ensures slots { OnOk result (PutsAlone flags (half_load_slots flags (number_of rd.reg) trap (location_at place)) sink.old sink.new) }
     ensures refused { OnErr result (spoiled_of sink.new ≡ true) }
 {
-    put_load(
-        sink,
-        flags,
-        writable_spilltmp_reg(),
-        LoadOP::Lh,
-        trap,
-        place,
-    )?;
+    let half = writable_spilltmp_reg();
+    put_load(sink, flags, half, LoadOP::Lh, trap, place)?;
     put_boxing(sink, flags, rd)?;
     Ok(())
 }
