@@ -1,7 +1,14 @@
 use Rattle.std.proofs.Common.{sym, subst, ap, ◌∙◌, OnOk}
 use Rattle.std.proofs.lemmas.Result.{on_ok_weaker}
 use Rattle.rv_inst.specs.declared.inst.Inst.TheVariants.{Select}
-use Rattle.rv_emit.specs.Emission.{EmitsAnyhow}
+use Rattle.rv_base.specs.declared.ir_type.IrType.TheVariants.{I64}
+use Rattle.rv_base.specs.Regs.{number_of}
+use Rattle.mach_buffer.specs.Buffer.{registered_of}
+use Rattle.rv_code.specs.Choices.{move_pieces}
+use Rattle.rv_code.specs.Pieces.{slots_of}
+use Rattle.rv_code.specs.Usable.{IsFine}
+use Rattle.rv_emit.specs.Emission.{EmitsAnyhow, PutsAlone}
+use Rattle.rv_emit.proofs.MovedFormats.{int_class}
 use Rattle.rv_emit.proofs.sequence.put_integer.Goals as goal
 
 pub returns-in-AluRRR-clause-parts : goal.returns-in-AluRRR-clause-parts
@@ -16,8 +23,10 @@ returns-in-Mov-clause-parts c =
 
 pub returns-in-MovFromPReg-clause-parts : goal.returns-in-MovFromPReg-clause-parts
 returns-in-MovFromPReg-clause-parts c =
+    let to = c.in-MovFromPReg.rd.reg in
+    let int = int_class to (subst (IsFine (registered_of c.args.sink.now)) c.in-MovFromPReg.is c.requires.fine).0 in
     λ family. subst (λ inst. OnOk c.put_move-in-MovFromPReg.result (EmitsAnyhow c.args.flags inst c.args.sink.now c.put_move-in-MovFromPReg.new.sink)) (sym c.in-MovFromPReg.is)
-    (on_ok_weaker c.put_move-in-MovFromPReg.result (λ p frame constants setting. p) c.put_move-in-MovFromPReg.ensures.slots)
+    (on_ok_weaker c.put_move-in-MovFromPReg.result (λ p frame constants setting. subst (λ class. PutsAlone c.args.flags (slots_of c.args.flags (move_pieces class I64 (number_of to) c.in-MovFromPReg.rm.number)) c.args.sink.now c.put_move-in-MovFromPReg.new.sink) int p) c.put_move-in-MovFromPReg.ensures.slots)
 
 pub returns-in-LoadInlineConst-clause-parts : goal.returns-in-LoadInlineConst-clause-parts
 returns-in-LoadInlineConst-clause-parts c =
