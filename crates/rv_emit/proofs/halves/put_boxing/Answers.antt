@@ -22,8 +22,8 @@ returns-clause-slots c =
     let from30 = real_number c.spilltmp_reg2.result _ 30 c.spilltmp_reg2.ensures in
     let first = subst (λ n. PutsAlone flags (Op (short_lui flags n high_bits) ∷ []) c.args.sink.now c.put_lui.new.sink) x30 (subst (λ z. PutsAlone flags (Op (short_lui flags (number_of c.writable_spilltmp_reg2.result.reg) z) ∷ []) c.args.sink.now c.put_lui.new.sink) c.from_i32.ensures c.in_ok-put_lui.ensures.slots) in
     let second =
-        subst (λ n. PutsAlone flags (Op (short_rrr flags Or n 31 30) ∷ []) c.put_lui.new.sink c.put_rrr.new.sink) x31
-        (subst (λ n. PutsAlone flags (Op (short_rrr flags Or (number_of c.writable_spilltmp_reg.result.reg) n 30) ∷ []) c.put_lui.new.sink c.put_rrr.new.sink) from31
-        (subst (λ n. PutsAlone flags (Op (short_rrr flags Or (number_of c.writable_spilltmp_reg.result.reg) (number_of c.spilltmp_reg.result) n) ∷ []) c.put_lui.new.sink c.put_rrr.new.sink) from30 c.in_ok-put_rrr.ensures.slots)) in
+    subst (λ n. PutsAlone flags (Op (short_rrr flags Or n 31 30) ∷ []) c.put_lui.new.sink c.put_rrr.new.sink) x31
+    (subst (λ n. PutsAlone flags (Op (short_rrr flags Or (number_of c.writable_spilltmp_reg.result.reg) n 30) ∷ []) c.put_lui.new.sink c.put_rrr.new.sink) from31
+    (subst (λ n. PutsAlone flags (Op (short_rrr flags Or (number_of c.writable_spilltmp_reg.result.reg) (number_of c.spilltmp_reg.result) n) ∷ []) c.put_lui.new.sink c.put_rrr.new.sink) from30 c.in_ok-put_rrr.ensures.slots)) in
     both_alone (lui ∷ []) (orr ∷ move ∷ []) c.args.sink.now c.put_lui.new.sink c.put_word.new.sink tt first
     (both_alone (orr ∷ []) (move ∷ []) c.put_lui.new.sink c.put_rrr.new.sink c.put_word.new.sink tt second (c.in_ok-put_word.ensures.slot flags _ refl (c.word_to_float.ensures flags)))
