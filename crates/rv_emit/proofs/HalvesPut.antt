@@ -51,7 +51,7 @@ named_after : (flags : IsaFlags) (allocated : ℕ) (k : VCodeConstant) (d : Deco
 named_after flags allocated k d slots s t p =
     let bytes = p.2.1.0 in
     let mid : Shape LabelUse = with_bytes bytes s in
-    (mid, (bytes, p.2.1.1, refl), (with_named k mid, refl, subst (λ u. Puts flags allocated slots u t) (p.2.1.2 ∙ ap (with_bytes bytes) p.1) p.2.2))
+    (mid, (bytes, p.2.1.1, p.2.1.2, refl, p.2.1.4), (with_named k mid, refl, subst (λ u. Puts flags allocated slots u t) (p.2.1.3 ∙ ap (with_bytes bytes) p.1) p.2.2))
 
 half_store_named : {flags : IsaFlags} (src : ℕ) (trap : Option TrapCode) (at : Location) (old mid new : Buffer) → PutsAlone flags (naming_slots at) old mid → PutsAlone flags (half_store_slots flags src trap (labelled at)) mid new → PutsAlone flags (half_store_slots flags src trap at) old new
 half_store_named {flags} src trap (Based r o) old mid new p q = both_alone [] (half_store_slots flags src trap (Based r o)) old mid new tt p q
