@@ -25,8 +25,8 @@ use crate::shortest::{put_jalr, put_rri, put_rrr};
 use crate::symbols::{put_call_site, put_call_to};
 use mach_buffer::MachBuffer;
 use rv_base::{
-    ExternalName, FrameLayout, IsaFlags, OutOfMemory, PReg, Reg, RegClass, ReturnCallInfo, Writable,
-    WritableReg, spilltmp_reg, stack_reg, writable_fp_reg, writable_link_reg,
+    ExternalName, FrameLayout, IsaFlags, OutOfMemory, PReg, Reg, RegClass, ReturnCallInfo,
+    Writable, WritableReg, spilltmp_reg, stack_reg, writable_fp_reg, writable_link_reg,
     writable_spilltmp_reg, writable_stack_reg, writable_zero_reg,
 };
 use rv_imms::Imm12;
