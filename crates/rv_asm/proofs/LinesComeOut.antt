@@ -126,4 +126,4 @@ module _ (job : Job) (code : Code) (known : Known) (t : IsThreaded job code know
         are_values = g.are_values;
         placed = g.placed;
       } in
-      led_out job code known t base symbols slots i inst v b AtStart listed s {took} {made} Next exit tt (record { steps = g.steps; state = c; ran = g.ran; last = last; units = g.same.units; is_state = g.is_state; answers = g.answers; setting = g.setting }) takes
+      led_out job code known t base symbols slots i inst v b AtStart listed s {took = took} {made = made} Next exit tt (record { steps = g.steps; state = c; ran = g.ran; last = last; units = g.same.units; is_state = g.is_state; answers = g.answers; setting = g.setting }) takes
