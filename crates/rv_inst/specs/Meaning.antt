@@ -171,7 +171,8 @@ unit_meaning w v = goes Next v
 abbrev pub stored : StoreOP → ℕ → ℕ → Values → Values
 stored op src a v = if is_float_store op then v else put_bytes v a (store_bytes (store_op op) (reg v src))
 
--- What an instruction means from these values; a jump to a register links, as a call does; an address is even, and ra is x1.
+-- What an instruction means from these values; a jump to a register links, as a call does; an address is even, and ra is x1. Of a move and a
+-- choice of floating-point registers the machine with all units alone says it, and what stands here doesn't count.
 abbrev pub inst_meaning : Environment → Inst → Values → Meaning
 inst_meaning env Nop0 v = goes Next v
 inst_meaning env Nop4 v = goes Next v

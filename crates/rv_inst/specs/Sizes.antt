@@ -61,8 +61,8 @@ pub data Extent : Type 0 where
   After : ℕ → ℕ → ℕ → Extent
   Around : ℕ → ℕ → ℕ → Extent
 
--- The operation that moves a register: addi of 0, or of floating-point numbers fsgnj of equal sources, which has no short form. Vectors
--- are moved by none, and stand with the integers; a type that is no floating-point number's, which is no such move's, with doubles.
+-- The operation that moves a register: addi of 0, or of floating-point numbers fsgnj of equal sources, which has no short form. No line
+-- moves vectors, or floating-point registers of another type than theirs; these stand here as integers do, and as doubles.
 abbrev pub move_op : IsaFlags → RegClass → IrType → ℕ → ℕ → Decoded
 move_op flags Int type rd rs = short_rri flags rri.Addi rd rs (pos 0)
 move_op flags Float type rd rs = decoded_fpu_rrr Fsgnj (unwrap_or (width_of type) D) RNE rd rs rs
