@@ -29,7 +29,8 @@ use Rattle.mach_buffer.specs.Islands.{is_far}
 use Rattle.mach_buffer.proofs.Laws.{both_lists, comes_from, slice_get-append, slice_get-append_last, append_each, recorded_get}
 use Rattle.rv_emit.specs.Emitted.{Buffer, IsFarUse, AppendsSequence, AppendsInst, AppendsIsland, IslandIfNeeded, AppendsBy, Appends}
 use Rattle.rv_inst.specs.Forms.{jump_kind}
-use Rattle.rv_inst.specs.Uses.{use_at, target_uses, uses_by, uses_in}
+use Rattle.rv_inst.specs.Sizes.{inst_code}
+use Rattle.rv_inst.specs.Uses.{use_at, target_uses, uses_by, uses_in, uses_start}
 use Rattle.rv_emit.proofs.Laws.{Each, each_none, each_more, uses_kinds, room_keeps, emitted_keeps, no_own, bound_kept}
 use Rattle.rv_asm.specs.Reported.{start_of, end_of, binds_from}
 use Rattle.rv_asm.specs.Refusal.{binds, is_bound}
@@ -197,7 +198,7 @@ table_named inst u f = of_rest (try_labels (try_call_of inst) ++ target_names (t
 })
 
 pub uses_labels : (context : Context) (start end : ℕ) (inst : Inst) → Each (UsesOneOf (inst_labels inst)) (uses_in context start end inst)
-uses_labels context start end inst = by (try_call_of inst)
+uses_labels context start end inst = by (uses_start (inst_code context inst).led start) (try_call_of inst)
   where
     first : (label : MachLabel) (labels : List MachLabel) → IsOf (label ∷ labels) label.number
     first label labels = record { place = 0; label = label; names = refl; is = refl }
@@ -205,24 +206,24 @@ uses_labels context start end inst = by (try_call_of inst)
     second : (other label : MachLabel) → IsOf (other ∷ label ∷ []) label.number
     second other label = record { place = 1; label = label; names = refl; is = refl }
 
-    on : (targets : Targets) → Each (UsesOneOf (target_names targets)) (target_uses context.flags start targets)
-    on Nowhere = each_none _
-    on (Jumps label) = each_more (UsesOneOf (label ∷ [])) _ [] (inl (first label [])) (each_none _)
-    on (Branches Fallthrough not_taken) = each_none _
-    on (Branches (Label t) Fallthrough) = each_more (UsesOneOf (t ∷ [])) _ [] (inl (first t [])) (each_none _)
-    on (Branches (Label t) (Label f)) =
-        each_more (UsesOneOf (t ∷ f ∷ [])) _ (use_at (start + 4) f (jump_kind context.flags) ∷ []) (inl (first t (f ∷ [])))
+    on : (from : ℕ) (targets : Targets) → Each (UsesOneOf (target_names targets)) (target_uses context.flags from targets)
+    on from Nowhere = each_none _
+    on from (Jumps label) = each_more (UsesOneOf (label ∷ [])) _ [] (inl (first label [])) (each_none _)
+    on from (Branches Fallthrough not_taken) = each_none _
+    on from (Branches (Label t) Fallthrough) = each_more (UsesOneOf (t ∷ [])) _ [] (inl (first t [])) (each_none _)
+    on from (Branches (Label t) (Label f)) =
+        each_more (UsesOneOf (t ∷ f ∷ [])) _ (use_at (from + 4) f (jump_kind context.flags) ∷ []) (inl (first t (f ∷ [])))
         (each_more (UsesOneOf (t ∷ f ∷ [])) _ [] (inl (second t f)) (each_none _))
-    on (Refers label) =
-        each_more (UsesOneOf (label ∷ [])) _ (use_at (start + 4) label PCRelLo12I ∷ []) (inl (first label []))
+    on from (Refers label) =
+        each_more (UsesOneOf (label ∷ [])) _ (use_at (from + 4) label PCRelLo12I ∷ []) (inl (first label []))
         (each_more (UsesOneOf (label ∷ [])) _ [] (inl (first label [])) (each_none _))
-    on (RefersConstant k read) =
-        each_more (UsesOneOf []) _ (use_at (start + 4) (constant_label k) PCRelLo12I ∷ []) (inr (omega arith, refl))
+    on from (RefersConstant k read) =
+        each_more (UsesOneOf []) _ (use_at (from + 4) (constant_label k) PCRelLo12I ∷ []) (inr (omega arith, refl))
         (each_more (UsesOneOf []) _ [] (inr (omega arith, refl)) (each_none _))
 
-    by : (t : Option TryCallInfo) → Each (UsesOneOf (try_labels t ++ target_names (targets_of inst) ++ table_of inst)) (uses_by context.flags start end t (targets_of inst))
-    by None = λ j u h. ⊎_elim (λ o. inl (of_first (target_names (targets_of inst)) (table_of inst) u.label.number o)) (λ high. inr high) (on (targets_of inst) j u h)
-    by (Some t) = each_more (UsesOneOf _) _ [] (inl (first t.continuation _)) (each_none _)
+    by : (from : ℕ) (t : Option TryCallInfo) → Each (UsesOneOf (try_labels t ++ target_names (targets_of inst) ++ table_of inst)) (uses_by context.flags from end t (targets_of inst))
+    by from None = λ j u h. ⊎_elim (λ o. inl (of_first (target_names (targets_of inst)) (table_of inst) u.label.number o)) (λ high. inr high) (on from (targets_of inst) j u h)
+    by from (Some t) = each_more (UsesOneOf _) _ [] (inl (first t.continuation _)) (each_none _)
 
 own_named : (lines : List Line) (inst : Inst) (number : ℕ) → IsOf (inst_labels inst) number → IsNamed (lines ++ Put inst ∷ []) number
 own_named lines inst number o = record {
