@@ -51,7 +51,7 @@ for i in range(64):
     rd, rs, third = (number(i, p) for p in range(3))
     for name in ('csrrw', 'csrrs', 'csrrc'): say(f'{name} {rd} frm {rs}', name, [f'x{rd}', 'frm', f'x{rs}'])
     for name in ('csrrwi', 'csrrsi', 'csrrci'): say(f'{name} {rd} frm {rs}', name, [f'x{rd}', 'frm', str(rs)])
-    for name in ('flh', 'flw', 'fld', 'fsh', 'fsw', 'fsd'): say(f'{name} {rd} {65 * i - 2048} {rs}', name, [f'f{rd}', f'{65 * i - 2048}(x{rs})'])
+    for name in ('flh', 'flw', 'fld', 'fsh', 'fsw', 'fsd'): say(f'{name} {rd} {65 * i - 2048:+} {rs}', name, [f'f{rd}', f'{65 * i - 2048}(x{rs})'])
     for name in ('c.fld', 'c.fsd'): say(f'{name} {8 + rd % 8} {third} {8 + rs % 8}', name, [f'f{8 + rd % 8}', f'{8 * third}(x{8 + rs % 8})'])
     for name in ('c.fldsp', 'c.fsdsp'): say(f'{name} {rd} {i}', name, [f'f{rd}', f'{8 * i}(x2)'])
 
