@@ -1,6 +1,6 @@
 -- What a call that breaks no rule gives: how far the stack pointer falls, and that its results on the stack can be loaded.
-use Rattle.std.proofs.Common.{◌≡◌, ◌≢◌, ℕ, ◌^◌, ◌<◌, Bool, true, false, List, [], ◌∷◌, Option, Some, None, arith, refl, ap, sym, subst, ◌∙◌}
-use Rattle.std.specs.Prelude.{is_some, nat_le, not, ◌&&◌, ◌==◌, IfSome, IsSome}
+use Rattle.std.proofs.Common.{◌≡◌, ◌≢◌, ℕ, ◌^◌, ◌<◌, ◌≤◌, Bool, true, false, List, [], ◌∷◌, Option, Some, None, arith, refl, ap, sym, subst, ◌∙◌}
+use Rattle.std.specs.Prelude.{is_some, nat_le, nat_lt, not, ◌&&◌, ◌==◌, IfSome, IsSome}
 use Rattle.std.specs.List.{list_any}
 use Rattle.std.proofs.lemmas.Bool.{or_parts}
 use Rattle.std.proofs.lemmas.Bool.Decides.{nat_tests}
@@ -13,7 +13,7 @@ use Rattle.rv_base.specs.declared.call.TryCallInfo.{TryCallInfo}
 use Rattle.rv_base.specs.declared.constant.Constant.{Constant}
 use Rattle.rv_base.specs.declared.external_name.ExternalName.{ExternalName}
 use Rattle.rv_base.specs.declared.ir_type.IrType.{IrType}
-use Rattle.rv_base.specs.declared.ir_type.IrType.TheVariants.{I8, I16, I32, I64, F32, F64}
+use Rattle.rv_base.specs.declared.ir_type.IrType.TheVariants.{I8, I16, I32, I64, F16, F32, F64}
 use Rattle.rv_base.specs.declared.regs.Reg.{Reg}
 use Rattle.rv_base.specs.declared.regs.Reg.TheVariants.{Real, Virtual as AVirtual}
 use Rattle.rv_base.specs.declared.regs.RegClass.{RegClass}
@@ -25,7 +25,7 @@ use Rattle.rv_encode.specs.Registers.{IsIntRegister, IsRealRegister}
 use Rattle.rv_inst.specs.Context.{Context}
 use Rattle.rv_inst.specs.Operands.{use_registers, def_registers, location_registers}
 use Rattle.rv_inst.specs.Returns.{StackLoad, typed_loads, location_loads, result_loads, loads_unless, result_load}
-use Rattle.rv_inst.specs.Rules.{is_int_class, same_class, differ_in_class, is_virtual, is_reserved, is_other_class, is_stack, class_for, is_outside, location_differs, is_on_stack, is_loaded_from, is_unloadable, is_into_stack, either_into, results_clash, inst_rule}
+use Rattle.rv_inst.specs.Rules.{is_int_class, same_class, differ_in_class, is_virtual, is_reserved, is_other_class, is_stack, class_for, is_outside, location_differs, is_on_stack, is_loaded_from, is_unloadable, is_high, is_high_at, is_into_stack, either_into, results_clash, inst_rule}
 use Rattle.rv_inst.specs.declared.inst.Inst.{Inst}
 use Rattle.rv_inst.specs.declared.inst.Inst.TheVariants.{Call, CallInd}
 use Rattle.rv_code.specs.Usable.{IsUsable, IsFine, IsFineTry, IsFineResult, AreFineResults}
@@ -37,6 +37,9 @@ use Rattle.rv_code.proofs.UnitRules.{is_real}
 
 below : (n : ℕ) → nat_le (2 ^ 31) n ≡ false → n < 2 ^ 31
 below n h = grind (arith, nat_tests)
+
+low : (n : ℕ) → nat_lt (2 ^ 30) n ≡ false → n ≤ 2 ^ 30
+low n h = grind (arith, nat_tests)
 
 -- ---- one result
 
@@ -69,14 +72,15 @@ stacked r I8 real free class type apart = record { real = is_real r real; loadab
 stacked r I16 real free class type apart = record { real = is_real r real; loadable = in_integer r real free class apart; typed = refl }
 stacked r I32 real free class type apart = record { real = is_real r real; loadable = in_integer r real free class apart; typed = refl }
 stacked r I64 real free class type apart = record { real = is_real r real; loadable = in_integer r real free class apart; typed = refl }
+stacked r F16 real free class type apart = record { real = is_real r real; loadable = number_low r real; typed = refl }
 stacked r F32 real free class type apart = record { real = is_real r real; loadable = number_low r real; typed = refl }
 stacked r F64 real free class type apart = record { real = is_real r real; loadable = number_low r real; typed = refl }
 stacked r _ real free class type apart = absurd (cc)
 
 -- by where it is
-located_fine : (r : Reg) (location : RetLocation) → is_virtual r ≡ false → is_reserved r ≡ false → location_differs r location ≡ false → (is_on_stack location && not (is_loaded_from location)) ≡ false → (is_on_stack location && is_stack r) ≡ false → IsFineResult r location
-located_fine r (InReg s) real free class type apart = tt
-located_fine r (OnStack offset t) real free class type apart = let h = stacked r t real free class type apart in (h.real, h.typed)
+located_fine : (r : Reg) (location : RetLocation) → is_virtual r ≡ false → is_reserved r ≡ false → location_differs r location ≡ false → (is_on_stack location && not (is_loaded_from location)) ≡ false → (is_on_stack location && is_stack r) ≡ false → is_high_at location ≡ false → IsFineResult r location
+located_fine r (InReg s) real free class type apart near = tt
+located_fine r (OnStack offset t) real free class type apart near = let h = stacked r t real free class type apart in (h.real, h.typed, low offset near)
 
 typed_loadable : (register offset : ℕ) (op : Option LoadOP) → IfSome op (λ op. IsLoadableAs (load_format op) register) → AreStackLoads (typed_loads register offset op)
 typed_loadable register offset None h = tt
@@ -94,6 +98,7 @@ record AreKept (defs : List CallRetPair) : Type 0 where
   free : list_any is_reserved (def_registers defs) ≡ false
   placed : list_any (λ (d : CallRetPair). location_differs d.vreg.reg d.location) defs ≡ false
   typed : list_any is_unloadable defs ≡ false
+  near : list_any is_high defs ≡ false
   apart : results_clash defs ≡ false
 
 -- of the first, and of the others
@@ -102,6 +107,7 @@ record IsKept (d : CallRetPair) (defs : List CallRetPair) : Type 0 where
   free : is_reserved d.vreg.reg ≡ false
   placed : location_differs d.vreg.reg d.location ≡ false
   typed : is_unloadable d ≡ false
+  near : is_high d ≡ false
   apart : is_into_stack d ≡ false
   others : AreKept defs
 
@@ -111,25 +117,28 @@ first_kept d defs k =
     let free = or_parts (is_reserved d.vreg.reg) _ k.free in
     let placed = or_parts (location_differs d.vreg.reg d.location) _ k.placed in
     let typed = or_parts (is_unloadable d) _ k.typed in
+    let near = or_parts (is_high d) _ k.near in
     let apart = or_parts (is_into_stack d) _ k.apart in
     record {
       real = real.0;
       free = free.0;
       placed = placed.0;
       typed = typed.0;
+      near = near.0;
       apart = apart.0;
       others = record {
         real = (none_of_both is_virtual (location_registers d.location) (def_registers defs) real.1).1;
         free = (none_of_both is_reserved (location_registers d.location) (def_registers defs) free.1).1;
         placed = placed.1;
         typed = typed.1;
+        near = near.1;
         apart = (or_parts (list_any (either_into d) defs) _ apart.1).1;
       };
     }
 
 all_fine : (defs : List CallRetPair) → AreKept defs → AreFineResults defs
 all_fine [] k = tt
-all_fine (d ∷ defs) k = let h = first_kept d defs k in (located_fine d.vreg.reg d.location h.real h.free h.placed h.typed h.apart, all_fine defs h.others)
+all_fine (d ∷ defs) k = let h = first_kept d defs k in (located_fine d.vreg.reg d.location h.real h.free h.placed h.typed h.apart h.near, all_fine defs h.others)
 
 all_loadable : (defs : List CallRetPair) → AreKept defs → AreStackLoads (result_loads defs)
 all_loadable [] k = tt
@@ -156,6 +165,7 @@ call_kept info k =
       free = (none_of_both is_reserved uses (def_registers info.defs) k.free).1;
       placed = (or_parts (list_any (λ (p : CallArgPair). differ_in_class p.vreg p.preg) info.uses) _ k.placed).1;
       typed = k.typed;
+      near = (or_parts (nat_le (2 ^ 31) info.callee_pop_size) _ k.ranged).1;
       apart = k.apart;
     })
 
@@ -167,6 +177,7 @@ call_ind_kept info k =
       free = (none_of_both is_reserved uses (def_registers info.defs) (or_parts (is_reserved info.dest) _ k.free).1).1;
       placed = (or_parts (list_any (λ (p : CallArgPair). differ_in_class p.vreg p.preg) info.uses) _ (or_parts (is_other_class info.dest) _ k.placed).1).1;
       typed = k.typed;
+      near = (or_parts (nat_le (2 ^ 31) info.callee_pop_size) _ k.ranged).1;
       apart = k.apart;
     })
 

@@ -26,7 +26,7 @@ use Rattle.rv_full.specs.Units.{FullState, FullValues, IsFullState}
 use Rattle.rv_code.specs.declared.state.EmitVState.{EmitVState}
 use Rattle.rv_code.specs.FloatAccesses.{float_loaded, float_stored}
 use Rattle.rv_code.specs.Immediates.{lower_of_distance}
-use Rattle.rv_code.specs.InstParts.{access_slots, half_load_slots, half_store_slots, label_base, label_load_slots, load_slots, parts_of, slots_alone, store_slots}
+use Rattle.rv_code.specs.InstParts.{access_slots, half_load_slots, half_store_slots, label_base, label_load_slots, load_line_slots, load_slots, parts_of, slots_alone, store_slots}
 use Rattle.rv_code.specs.InstRuns.{Enters, environment}
 use Rattle.rv_code.specs.Sites.{Site}
 use Rattle.rv_code.specs.Slots.{Op}
@@ -86,15 +86,16 @@ one_full_load {site} {start} {after} {v} {b} rd op trap loc format is lt based e
     let y = load_ready rd op loc trap (ap is_some is) based e in
     exact_out y.ready.before (load_does format rd (address_at (environment site start after) v.ints loc) y.ready.before y.ready.address units e.are_values full (y.is.is ∙ float_load op format is) y.is.to lt) full.answers
 
-pub full_load : {site : Site} {start after : ℕ} {v : FullValues} {b : FullState} (setting : EmitVState) (rd : Writable Reg) (op : LoadOP) (flags : MemFlagsData) (from : AMode) (format : FloatFormat) → load_format op ≡ Some format → number_of rd.reg < 32 → IsUsableAt (location_of site.context.frame from) → Enters site start after (parts_of site.context setting (Load rd op flags from)) b.state v.ints → v.units ≡ b.units → IsFullState b → FullComesOut site after [] (float_loaded format (number_of rd.reg) (address_of (environment site start after) from v.ints) v) [] b
-full_load {site} {start} {after} {v} {b} setting rd op flags from format is lt based e units full = by (has_load site.context.flags op) refl e
+-- the load of a line, which may be that of a half by integer registers
+pub line_load : {site : Site} {start after : ℕ} {v : FullValues} {b : FullState} (rd : ℕ) (op : LoadOP) (trap : Option TrapCode) (loc : Location) (format : FloatFormat) → load_format op ≡ Some format → rd < 32 → IsUsableAt loc → Enters site start after (slots_alone (load_line_slots site.context.flags rd op trap loc)) b.state v.ints → v.units ≡ b.units → IsFullState b → FullComesOut site after [] (float_loaded format rd (address_at (environment site start after) v.ints loc) v) [] b
+line_load {site} {start} {after} {v} {b} rd op trap loc format is lt based e units full = by (has_load site.context.flags op) refl e
   where
-    loc : Location
-    loc = location_of site.context.frame from
+    by : (has : Bool) → has_load site.context.flags op ≡ has → Enters site start after (slots_alone (if has then load_slots site.context.flags rd op trap loc else half_load_slots site.context.flags rd trap loc)) b.state v.ints → FullComesOut site after [] (float_loaded format rd (address_at (environment site start after) v.ints loc) v) [] b
+    by true has e = one_full_load rd op trap loc format is lt based e units full
+    by false none e = subst (λ f. FullComesOut site after [] (float_loaded f rd (address_at (environment site start after) v.ints loc) v) [] b) (sym (only_halves site.context.flags (load_format op) format is none)) (half_load_out rd loc trap lt based e units full)
 
-    by : (has : Bool) → has_load site.context.flags op ≡ has → Enters site start after (slots_alone (if has then load_slots site.context.flags (number_of rd.reg) op flags.trap loc else half_load_slots site.context.flags (number_of rd.reg) flags.trap loc)) b.state v.ints → FullComesOut site after [] (float_loaded format (number_of rd.reg) (address_of (environment site start after) from v.ints) v) [] b
-    by true has e = one_full_load (number_of rd.reg) op flags.trap loc format is lt based e units full
-    by false none e = subst (λ f. FullComesOut site after [] (float_loaded f (number_of rd.reg) (address_of (environment site start after) from v.ints) v) [] b) (sym (only_halves site.context.flags (load_format op) format is none)) (half_load_out (number_of rd.reg) loc flags.trap lt based e units full)
+pub full_load : {site : Site} {start after : ℕ} {v : FullValues} {b : FullState} (setting : EmitVState) (rd : Writable Reg) (op : LoadOP) (flags : MemFlagsData) (from : AMode) (format : FloatFormat) → load_format op ≡ Some format → number_of rd.reg < 32 → IsUsableAt (location_of site.context.frame from) → Enters site start after (parts_of site.context setting (Load rd op flags from)) b.state v.ints → v.units ≡ b.units → IsFullState b → FullComesOut site after [] (float_loaded format (number_of rd.reg) (address_of (environment site start after) from v.ints) v) [] b
+full_load {site} setting rd op flags from format is lt based e units full = line_load (number_of rd.reg) op flags.trap (location_of site.context.frame from) format is lt based e units full
 
 -- ---- stores
 

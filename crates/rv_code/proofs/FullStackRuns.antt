@@ -9,11 +9,14 @@ use Rattle.rv_base.specs.declared.flags.IsaFlags.{IsaFlags}
 use Rattle.rv_base.specs.declared.frame.FrameLayout.{FrameLayout}
 use Rattle.rv_machine.specs.declared.ops.FloatFormat.{FloatFormat}
 use Rattle.rv_machine.specs.State.{State, Values, low64, reg, set_reg, wrap}
+use Rattle.rv_ops.specs.declared.alu.AluOPRRR.TheVariants.{Or}
 use Rattle.rv_ops.specs.declared.memory.LoadOP.{LoadOP}
+use Rattle.rv_ops.specs.declared.memory.LoadOP.TheVariants.{Lh}
 use Rattle.rv_ops.specs.Memory.{is_float_load, load_format}
-use Rattle.rv_encode.specs.Operations.{decoded_load}
+use Rattle.rv_encode.specs.Operations.{decoded_load, has_load}
 use Rattle.rv_inst.specs.Addresses.{Based, is_near}
-use Rattle.rv_inst.specs.Forms.{short_load}
+use Rattle.rv_inst.specs.Forms.{short_load, short_lui, short_rrr}
+use Rattle.rv_inst.specs.Halves.{high_bits}
 use Rattle.rv_inst.specs.Core.{restores_float}
 use Rattle.rv_inst.specs.Meaning.{Exit, frame_left, loaded, stack_loaded}
 use Rattle.rv_inst.specs.Operands.{loads_float}
@@ -28,20 +31,17 @@ use Rattle.rv_code.specs.Chains.{IsAt}
 use Rattle.rv_code.specs.FloatAccesses.{float_loaded}
 use Rattle.rv_code.specs.FullEnds.{FullEnds}
 use Rattle.rv_code.specs.FullReturns.{full_left, full_loaded, loaded_as, set_int, with_ints}
-use Rattle.rv_code.specs.InstParts.{address_slots, load_slots, slots_alone, stack_load_slots}
+use Rattle.rv_code.specs.InstParts.{address_slots, boxing_slots, half_load_slots, load_line_slots, load_slots, slots_alone, stack_load_slots}
 use Rattle.rv_code.specs.InstRuns.{ComesOut, Enters}
 use Rattle.rv_code.specs.Sites.{Site, StandsIn}
 use Rattle.rv_code.specs.Slots.{Op, size_of}
 use Rattle.rv_code.specs.UnitRuns.{FullComesOut}
-use Rattle.rv_code.proofs.AccessRows.{float_load}
 use Rattle.rv_code.proofs.AddressRuns.{address_even, size_append, stands_split}
 use Rattle.rv_code.proofs.Courses.{InCourse, Comes}
-use Rattle.rv_code.proofs.ExactRows.{exact_out}
-use Rattle.rv_code.proofs.FloatAccesses.{load_does}
-use Rattle.rv_code.proofs.FloatAccessRuns.{load_ready}
+use Rattle.rv_code.proofs.FloatAccessRuns.{line_load}
 use Rattle.rv_code.proofs.ReturnRuns.{restores_none}
-use Rattle.rv_code.proofs.ShortOps.{load_sized}
-use Rattle.rv_code.proofs.StackRuns.{one_other as integer_other, integer_loaded, IsAs, IsLoadableAs, AreStackLoads, IsOtherAs, AreOthersAs, load_comes}
+use Rattle.rv_code.proofs.ShortOps.{load_sized, lui_sized, rrr_sized}
+use Rattle.rv_code.proofs.StackRuns.{one_other as integer_other, integer_loaded, IsAs, IsLoadableAs, AreStackLoads, IsOtherAs, AreOthersAs, line_comes}
 
 -- ---- the machine's way
 
@@ -145,17 +145,29 @@ load_even flags rd r op o = by (is_near o)
         let whole : size_of (far ++ own) % 2 ≡ 0 = omega arith in
         subst (λ xs. size_of (xs ++ own) % 2 ≡ 0) (sym (append-nil far)) whole
 
+line_even : (flags : IsaFlags) (rd r : ℕ) (op : LoadOP) (o : ℤ) → size_of (load_line_slots flags rd op None (Based r o)) % 2 ≡ 0
+line_even flags rd r op o = by (has_load flags op)
+  where
+    by : (has : Bool) → size_of (if has then load_slots flags rd op None (Based r o) else half_load_slots flags rd None (Based r o)) % 2 ≡ 0
+    by true = load_even flags rd r op o
+    by false =
+        let one = load_even flags 31 r Lh o in
+        let long = size_append (load_slots flags 31 Lh None (Based r o)) (boxing_slots flags rd) in
+        let lui = (lui_sized flags 30 high_bits).even in
+        let orr = (rrr_sized flags Or 31 31 30).even in
+        omega arith
+
 -- where code is short enough for every distance in it, and labels are bound in it
 module _ {site : Site} (short : length site.bytes < code_limit) (labels : (label at : ℕ) → site.place label ≡ Some at → at ≤ length site.bytes) where
-  float_comes : {offset size : ℕ} {v : FullValues} {b : FullState} (allocated : ℕ) (l : StackLoad) (format : FloatFormat) → load_format l.op ≡ Some format → l.register < 32 → StandsIn site allocated offset (load_slots site.context.flags l.register l.op None (Based 2 l.offset)) → FullCourse site offset (size_of (load_slots site.context.flags l.register l.op None (Based 2 l.offset)) + size) v b → FullComes site (offset + size_of (load_slots site.context.flags l.register l.op None (Based 2 l.offset))) size (float_loaded format l.register (wrap (reg v.ints 2 + low64 l.offset)) v) b
+  float_comes : {offset size : ℕ} {v : FullValues} {b : FullState} (allocated : ℕ) (l : StackLoad) (format : FloatFormat) → load_format l.op ≡ Some format → l.register < 32 → StandsIn site allocated offset (load_line_slots site.context.flags l.register l.op None (Based 2 l.offset)) → FullCourse site offset (size_of (load_line_slots site.context.flags l.register l.op None (Based 2 l.offset)) + size) v b → FullComes site (offset + size_of (load_line_slots site.context.flags l.register l.op None (Based 2 l.offset))) size (float_loaded format l.register (wrap (reg v.ints 2 + low64 l.offset)) v) b
   float_comes {offset} {size} {v} {b} allocated l format is lt stands k =
       let flags = site.context.flags in
-      let slots = load_slots flags l.register l.op None (Based 2 l.offset) in
+      let slots = load_line_slots flags l.register l.op None (Based 2 l.offset) in
       let n = size_of slots in
       let a = wrap (reg v.ints 2 + low64 l.offset) in
       let room = k.here.room in
       let even = k.here.even in
-      let own_even = load_even flags l.register 2 l.op l.offset in
+      let own_even = line_even flags l.register 2 l.op l.offset in
       let e : Enters site offset (offset + n) (slots_alone slots) b.state v.ints = record {
         even = even;
         within = omega arith;
@@ -168,8 +180,7 @@ module _ {site : Site} (short : length site.bytes < code_limit) (labels : (label
         are_values = k.ints.are_values;
         same = all_same k.ints.same;
       } in
-      let y = load_ready l.register l.op (Based 2 l.offset) None (ap is_some is) (lit< tt) e in
-      let out : FullComesOut site (offset + n) [] (float_loaded format l.register a v) [] b = exact_out y.ready.before (load_does format l.register a y.ready.before y.ready.address k.units k.ints.are_values k.is_state (y.is.is ∙ float_load l.op format is) y.is.to lt) k.is_state.answers in
+      let out : FullComesOut site (offset + n) [] (float_loaded format l.register a v) [] b = line_load l.register l.op None (Based 2 l.offset) format is lt (lit< tt) e k.units k.is_state in
       record {
         steps = out.steps;
         state = out.state;
@@ -184,11 +195,11 @@ module _ {site : Site} (short : length site.bytes < code_limit) (labels : (label
         };
       }
 
-  one_comes : {offset size : ℕ} {v : FullValues} {b : FullState} (allocated : ℕ) (l : StackLoad) (format : Option FloatFormat) → load_format l.op ≡ format → IsLoadableAs format l.register → StandsIn site allocated offset (load_slots site.context.flags l.register l.op None (Based 2 l.offset)) → FullCourse site offset (size_of (load_slots site.context.flags l.register l.op None (Based 2 l.offset)) + size) v b → FullComes site (offset + size_of (load_slots site.context.flags l.register l.op None (Based 2 l.offset))) size (loaded_as format l (wrap (reg v.ints 2 + low64 l.offset)) v) b
+  one_comes : {offset size : ℕ} {v : FullValues} {b : FullState} (allocated : ℕ) (l : StackLoad) (format : Option FloatFormat) → load_format l.op ≡ format → IsLoadableAs format l.register → StandsIn site allocated offset (load_line_slots site.context.flags l.register l.op None (Based 2 l.offset)) → FullCourse site offset (size_of (load_line_slots site.context.flags l.register l.op None (Based 2 l.offset)) + size) v b → FullComes site (offset + size_of (load_line_slots site.context.flags l.register l.op None (Based 2 l.offset))) size (loaded_as format l (wrap (reg v.ints 2 + low64 l.offset)) v) b
   one_comes {offset} {size} {v} {b} allocated l None is h stands k =
-      let n = size_of (load_slots site.context.flags l.register l.op None (Based 2 l.offset)) in
+      let n = size_of (load_line_slots site.context.flags l.register l.op None (Based 2 l.offset)) in
       subst (λ w. FullComes site (offset + n) size (with_ints w v) b) (sym (integer_loaded l.op l.register (wrap (reg v.ints 2 + low64 l.offset)) v.ints (ap is_some is)))
-      (integers_come v b k.units k.is_state (load_comes allocated l.register 2 l.op l.offset (ap is_some is) h.usable (lit< tt) stands (in_course k)))
+      (integers_come v b k.units k.is_state (line_comes allocated l.register 2 l.op l.offset (ap is_some is) h.usable (lit< tt) stands (in_course k)))
   one_comes allocated l (Some format) is h stands k = float_comes allocated l format is h stands k
 
   -- loads one after the other, each of which counts from the same stack pointer
@@ -198,7 +209,7 @@ module _ {site : Site} (short : length site.bytes < code_limit) (labels : (label
       subst (λ n. FullComes site n size v b) there (full_here (subst (λ n. FullCourse site offset n v b) (omega arith) k))
   full_loads_come {size} allocated sp (l ∷ loads) offset v b h from stands k =
       let flags = site.context.flags in
-      let first = load_slots flags l.register l.op None (Based 2 l.offset) in
+      let first = load_line_slots flags l.register l.op None (Based 2 l.offset) in
       let rest = stack_load_slots flags loads in
       let long : size_of (first ++ rest) ≡ size_of first + size_of rest = size_append first rest in
       let over : offset + size_of first + size_of rest ≡ offset + size_of (first ++ rest) = omega arith in

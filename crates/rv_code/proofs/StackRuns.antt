@@ -5,6 +5,7 @@ use Rattle.std.proofs.lemmas.Bool.{or_parts}
 use Rattle.std.specs.List.{AllByRecursion}
 use Rattle.std.proofs.lemmas.List.{append-nil}
 use Rattle.rv_base.specs.declared.flags.IsaFlags.{IsaFlags}
+use Rattle.rv_base.specs.declared.trap.TrapCode.{TrapCode}
 use Rattle.rv_ops.specs.declared.alu.AluOPRRR.TheVariants.{Add}
 use Rattle.rv_ops.specs.declared.alu.AluOPRRI.TheVariants.{Addi}
 use Rattle.rv_ops.specs.declared.memory.LoadOP.{LoadOP}
@@ -12,17 +13,17 @@ use Rattle.rv_machine.specs.declared.ops.FloatFormat.{FloatFormat}
 use Rattle.rv_machine.specs.Memory.{load_result}
 use Rattle.rv_machine.specs.State.{State, Values, AreValues, reg, set_reg, wrap, low64, at}
 use Rattle.rv_ops.specs.Memory.{is_float_load, load_format}
-use Rattle.rv_encode.specs.Operations.{load_op, decoded_load}
-use Rattle.rv_inst.specs.Addresses.{Based, is_near}
+use Rattle.rv_encode.specs.Operations.{load_op, decoded_load, has_load}
+use Rattle.rv_inst.specs.Addresses.{Location, Based, is_near}
 use Rattle.rv_inst.specs.Forms.{short_rrr, short_rri, short_load}
 use Rattle.rv_inst.specs.Meaning.{loaded, stack_loaded}
 use Rattle.rv_inst.specs.Operands.{loads_float}
 use Rattle.rv_inst.specs.Returns.{StackLoad}
 use Rattle.rv_inst.specs.SameValues.{SameBut}
-use Rattle.rv_code.specs.InstParts.{number_slots, address_slots, load_slots, stack_load_slots, far_step_slots, stack_step_slots}
+use Rattle.rv_code.specs.InstParts.{number_slots, address_slots, half_load_slots, load_line_slots, load_slots, stack_load_slots, far_step_slots, stack_step_slots}
 use Rattle.rv_code.specs.Sites.{Site, CodeHas, StandsIn}
 use Rattle.rv_code.specs.Slots.{Slot, Op, size_of}
-use Rattle.rv_code.proofs.AccessRows.{IsIntegerLoad}
+use Rattle.rv_code.proofs.AccessRows.{IsIntegerLoad, has_integer_load}
 use Rattle.rv_code.proofs.AddressRuns.{size_append, stands_split, shorter, based_goes, address_even}
 use Rattle.rv_code.proofs.Courses.{InCourse, Comes, comes_on, comes_here, course_before, writes, sets_comes, rrr_writes, rri_writes}
 use Rattle.rv_code.proofs.SameMemory.{load_same, load_fits}
@@ -180,7 +181,7 @@ far_comes {site} {offset} {size} {u} {s} allocated rd r op o integer usable base
     (λ t k1. last_comes rd op integer usable (omega arith) both.1.0 (subst (λ b. InCourse site (offset + n) (4 + size) (HasSpare b u) t) there k1)))
 
 -- a load that can't trap sets its register, and beside it x31 at most
-pub load_comes : {site : Site} {offset size : ℕ} {u : Values} {s : State} (allocated rd r : ℕ) (op : LoadOP) (o : ℤ) → IsIntegerLoad op → rd < 30 → r < 30 → StandsIn site allocated offset (load_slots site.context.flags rd op None (Based r o)) → InCourse site offset (size_of (load_slots site.context.flags rd op None (Based r o)) + size) (IsAs u) s →
+load_comes : {site : Site} {offset size : ℕ} {u : Values} {s : State} (allocated rd r : ℕ) (op : LoadOP) (o : ℤ) → IsIntegerLoad op → rd < 30 → r < 30 → StandsIn site allocated offset (load_slots site.context.flags rd op None (Based r o)) → InCourse site offset (size_of (load_slots site.context.flags rd op None (Based r o)) + size) (IsAs u) s →
     Comes site (offset + size_of (load_slots site.context.flags rd op None (Based r o))) size (IsAs (set_reg u rd (read_at op r o u))) s
 load_comes {site} {offset} {size} {u} {s} allocated rd r op o integer usable based = on (is_near o)
   where
@@ -198,6 +199,17 @@ load_comes {site} {offset} {size} {u} {s} allocated rd r op o integer usable bas
         (near_comes rd r op o integer usable based stands.0 (course_before (n + size) k (omega arith)))
     on false = subst (λ xs. Goal (xs ++ Op (decoded_load op rd 31 (pos 0)) ∷ [])) (sym (append-nil (address_slots site.context.flags 31 (Based r o)))) (far_comes allocated rd r op o integer usable based)
 
+-- so does that of a line, which is the machine's own where it has it
+line_is : (flags : IsaFlags) (rd : ℕ) (op : LoadOP) (trap : Option TrapCode) (at : Location) → has_load flags op ≡ true → load_line_slots flags rd op trap at ≡ load_slots flags rd op trap at
+line_is flags rd op trap at has = ap (λ (c : Bool). if c then load_slots flags rd op trap at else half_load_slots flags rd trap at) has
+
+pub line_comes : {site : Site} {offset size : ℕ} {u : Values} {s : State} (allocated rd r : ℕ) (op : LoadOP) (o : ℤ) → IsIntegerLoad op → rd < 30 → r < 30 → StandsIn site allocated offset (load_line_slots site.context.flags rd op None (Based r o)) → InCourse site offset (size_of (load_line_slots site.context.flags rd op None (Based r o)) + size) (IsAs u) s →
+    Comes site (offset + size_of (load_line_slots site.context.flags rd op None (Based r o))) size (IsAs (set_reg u rd (read_at op r o u))) s
+line_comes {site} {offset} {size} {u} {s} allocated rd r op o integer usable based =
+    subst (λ xs. StandsIn site allocated offset xs → InCourse site offset (size_of xs + size) (IsAs u) s → Comes site (offset + size_of xs) size (IsAs (set_reg u rd (read_at op r o u))) s)
+    (sym (line_is site.context.flags rd op None (Based r o) (has_integer_load site.context.flags op integer)))
+    (load_comes allocated rd r op o integer usable based)
+
 -- ---- loads one after the other
 
 -- each counts from the same stack pointer
@@ -206,14 +218,14 @@ pub loads_come : {site : Site} {size : ℕ} (allocated sp : ℕ) (loads : List S
 loads_come {site} {size} allocated sp [] offset u s h from stands k = subst (λ n. Comes site n size (IsAs u) s) (omega arith) (comes_here (course_before size k (omega arith)))
 loads_come {site} {size} allocated sp (l ∷ loads) offset u s h from stands k =
     let flags = site.context.flags in
-    let first = load_slots flags l.register l.op None (Based 2 l.offset) in
+    let first = load_line_slots flags l.register l.op None (Based 2 l.offset) in
     let rest = stack_load_slots flags loads in
     let long : size_of (first ++ rest) ≡ size_of first + size_of rest = size_append first rest in
     let over : offset + size_of first + size_of rest ≡ offset + size_of (first ++ rest) = omega arith in
     let both = stands_split site allocated offset first rest stands in
     let x = load_result (load_op l.op) u.mem (wrap (sp + low64 l.offset)) in
     let is = integer_loaded l.op l.register (wrap (sp + low64 l.offset)) u h.0.integer in
-    let one = load_comes allocated l.register 2 l.op l.offset h.0.integer h.0.register.usable (lit< tt) both.0 (course_before (size_of first + (size_of rest + size)) k (omega arith)) in
+    let one = line_comes allocated l.register 2 l.op l.offset h.0.integer h.0.register.usable (lit< tt) both.0 (course_before (size_of first + (size_of rest + size)) k (omega arith)) in
     subst (λ n. Comes site n size (IsAs (stack_loaded sp (l ∷ loads) u)) s) over
     (subst (λ w. Comes site (offset + size_of first + size_of rest) size (IsAs (stack_loaded sp loads w)) s) (sym is)
     (comes_on (subst (λ b. Comes site (offset + size_of first) (size_of rest + size) (IsAs (set_reg u l.register (load_result (load_op l.op) u.mem (wrap (b + low64 l.offset))))) s) from one)

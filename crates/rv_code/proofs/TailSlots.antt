@@ -8,27 +8,29 @@ use Rattle.rv_base.specs.declared.frame.FrameLayout.{FrameLayout}
 use Rattle.rv_base.specs.declared.regs.PReg.{PReg}
 use Rattle.rv_base.specs.declared.regs.Writable.{Writable}
 use Rattle.rv_base.specs.Frame.{sp_to_fp_of}
-use Rattle.rv_ops.specs.declared.alu.AluOPRRR.TheVariants.{Add}
+use Rattle.rv_ops.specs.declared.alu.AluOPRRR.TheVariants.{Add, Or}
 use Rattle.rv_ops.specs.declared.alu.AluOPRRI.TheVariants.{Addi}
 use Rattle.rv_ops.specs.declared.memory.LoadOP.{LoadOP}
-use Rattle.rv_ops.specs.declared.memory.LoadOP.TheVariants.{Ld}
+use Rattle.rv_ops.specs.declared.memory.LoadOP.TheVariants.{Ld, Lh}
 use Rattle.rv_machine.specs.State.{low64}
 use Rattle.rv_machine.specs.declared.decoding.Decoded.{Decoded}
-use Rattle.rv_encode.specs.Operations.{decoded_load}
+use Rattle.rv_encode.specs.Operations.{decoded_load, has_load}
 use Rattle.mach_records.specs.declared.records.Event.TheVariants as event
 use Rattle.mach_records.specs.declared.records.MachRecord.{MachRecord}
 use Rattle.mach_uses.specs.declared.uses.Use.{Use}
 use Rattle.rv_inst.specs.declared.label_use.LabelUse.{LabelUse}
 use Rattle.rv_inst.specs.Addresses.{Based, is_near, far_address_size, load_size_at}
-use Rattle.rv_inst.specs.Forms.{short_rrr, short_rri, short_jalr, short_load}
+use Rattle.rv_inst.specs.Forms.{short_lui, short_rrr, short_rri, short_jalr, short_load}
+use Rattle.rv_inst.specs.Halves.{boxing_size, high_bits, load_line_size}
 use Rattle.rv_inst.specs.Returns.{StackLoad, saves_from, setup_loads, restores, frame_above}
 use Rattle.rv_inst.specs.Sizes.{number_size, stack_loads_size, stack_step_size, return_size}
-use Rattle.rv_code.specs.InstParts.{offset_slots, number_slots, load_slots, stack_load_slots, stack_step_slots, return_slots, call_to, tail_slots, t0_slots}
+use Rattle.rv_code.specs.InstParts.{boxing_slots, half_load_slots, load_line_slots, moved_to_float, offset_slots, number_slots, load_slots, stack_load_slots, stack_step_slots, return_slots, call_to, tail_slots, t0_slots}
 use Rattle.rv_code.specs.Slots.{Slot, Op, Notes, AreSelfContained, call_event}
 use Rattle.rv_code.proofs.MemorySlots.{HaveContents, HaveAccess, at_end, none, nothing, of_size, op_then, sum_then}
 use Rattle.rv_code.proofs.NumberSlots.{number_then, number_few}
 use Rattle.rv_code.proofs.OffsetSizes.{far_short}
-use Rattle.rv_code.proofs.ShortOps.{rrr_sized, rri_sized, jalr_sized, load_sized}
+use Rattle.rv_code.proofs.ShortLoads.{loads_most, restores_short}
+use Rattle.rv_code.proofs.ShortOps.{lui_sized, rrr_sized, rri_sized, jalr_sized, load_sized}
 
 -- ---- pieces
 
@@ -50,12 +52,31 @@ load_then {size} {last} {rest} {records_at} {slots} flags rd op r o c = by (is_n
     by false = subst (HaveContents (far_address_size flags 31 r o + 4 + size) last (at_end rest) records_at None) (sym (ap (λ front. front ++ Op far ∷ [] ++ slots) (append-nil (offset_slots flags 31 o ++ Op sum ∷ [])) ∙ append_assoc (offset_slots flags 31 o ++ Op sum ∷ []) (Op far ∷ []) slots ∙ append_assoc (offset_slots flags 31 o) (Op sum ∷ []) (Op far ∷ slots)))
         (of_size (omega arith) (sum_then flags 31 r o (op_then far refl c)))
 
+-- so is a half by integer registers
+boxed_then : {size last : ℕ} {rest : ℕ → List (Use LabelUse)} {records_at : ℕ → List MachRecord} {slots : List Slot} (flags : IsaFlags) (rd : ℕ) → HaveContents size last (at_end rest) records_at None slots → HaveContents (boxing_size flags + size) last (at_end rest) records_at None (boxing_slots flags rd ++ slots)
+boxed_then flags rd c = of_size (omega arith)
+    (op_then (short_lui flags 30 high_bits) (lui_sized flags 30 high_bits).even
+    (op_then (short_rrr flags Or 31 31 30) (rrr_sized flags Or 31 31 30).even
+    (op_then (moved_to_float rd 31) refl c)))
+
+half_then : {size last : ℕ} {rest : ℕ → List (Use LabelUse)} {records_at : ℕ → List MachRecord} {slots : List Slot} (flags : IsaFlags) (rd r : ℕ) (o : ℤ) → HaveContents size last (at_end rest) records_at None slots → HaveContents (load_size_at flags Lh 31 (Based r o) + boxing_size flags + size) last (at_end rest) records_at None (half_load_slots flags rd None (Based r o) ++ slots)
+half_then {size} {last} {rest} {records_at} {slots} flags rd r o c =
+    subst (HaveContents (load_size_at flags Lh 31 (Based r o) + boxing_size flags + size) last (at_end rest) records_at None) (sym (append_assoc (load_slots flags 31 Lh None (Based r o)) (boxing_slots flags rd) slots))
+    (of_size (omega arith) (load_then flags 31 Lh r o (boxed_then flags rd c)))
+
+line_then : {size last : ℕ} {rest : ℕ → List (Use LabelUse)} {records_at : ℕ → List MachRecord} {slots : List Slot} (flags : IsaFlags) (rd : ℕ) (op : LoadOP) (r : ℕ) (o : ℤ) → HaveContents size last (at_end rest) records_at None slots → HaveContents (load_line_size flags op rd (Based r o) + size) last (at_end rest) records_at None (load_line_slots flags rd op None (Based r o) ++ slots)
+line_then {size} {last} {rest} {records_at} {slots} flags rd op r o c = by (has_load flags op)
+  where
+    by : (has : Bool) → HaveContents ((if has then load_size_at flags op rd (Based r o) else load_size_at flags Lh 31 (Based r o) + boxing_size flags) + size) last (at_end rest) records_at None ((if has then load_slots flags rd op None (Based r o) else half_load_slots flags rd None (Based r o)) ++ slots)
+    by true = load_then flags rd op r o c
+    by false = half_then flags rd r o c
+
 -- loads from the stack
 pub loads_then : {size last : ℕ} {rest : ℕ → List (Use LabelUse)} {records_at : ℕ → List MachRecord} {slots : List Slot} (flags : IsaFlags) (loads : List StackLoad) → HaveContents size last (at_end rest) records_at None slots → HaveContents (stack_loads_size flags loads + size) last (at_end rest) records_at None (stack_load_slots flags loads ++ slots)
 loads_then flags [] c = of_size (omega arith) c
 loads_then {size} {last} {rest} {records_at} {slots} flags (l ∷ loads) c =
-    subst (HaveContents (stack_loads_size flags (l ∷ loads) + size) last (at_end rest) records_at None) (sym (append_assoc (load_slots flags l.register l.op None (Based 2 l.offset)) (stack_load_slots flags loads) slots))
-    (of_size (omega arith) (load_then flags l.register l.op 2 l.offset (loads_then flags loads c)))
+    subst (HaveContents (stack_loads_size flags (l ∷ loads) + size) last (at_end rest) records_at None) (sym (append_assoc (load_line_slots flags l.register l.op None (Based 2 l.offset)) (stack_load_slots flags loads) slots))
+    (of_size (omega arith) (line_then flags l.register l.op 2 l.offset (loads_then flags loads c)))
 
 -- a step of the stack pointer
 pub step_then : {size last : ℕ} {rest : ℕ → List (Use LabelUse)} {records_at : ℕ → List MachRecord} {slots : List Slot} (flags : IsaFlags) (z : ℤ) → HaveContents size last (at_end rest) records_at None slots → HaveContents (stack_step_size flags z + size) last (at_end rest) records_at None (stack_step_slots flags z ++ slots)
@@ -106,17 +127,6 @@ t0_contained flags frame arguments = (t0_contents flags frame arguments).closed 
 
 -- ---- how many bytes at most
 
-load_most : (flags : IsaFlags) (rd : ℕ) (op : LoadOP) (r : ℕ) (o : ℤ) → load_size_at flags op rd (Based r o) ≤ 28
-load_most flags rd op r o = by (is_near o)
-  where
-    by : (t : Bool) → (if t then (short_load flags op rd r o).len else far_address_size flags 31 r o + 4) ≤ 28
-    by true = let few = (load_sized flags op rd r o).few in omega arith
-    by false = let far = far_short flags 31 o in let few = (rrr_sized flags Add 31 31 r).few in omega arith
-
-pub loads_most : (flags : IsaFlags) (loads : List StackLoad) → stack_loads_size flags loads ≤ 28 * length loads
-loads_most flags [] = lit≤ tt
-loads_most flags (l ∷ loads) = let a = load_most flags l.register l.op 2 l.offset in let b = loads_most flags loads in omega arith
-
 pub step_most : (flags : IsaFlags) (z : ℤ) → stack_step_size flags z ≤ 24
 step_most flags z = by (low64 z == 0) (is_near z)
   where
@@ -139,7 +149,7 @@ setup_few frame = by (frame.setup_area_size == 0)
 pub return_most : (flags : IsaFlags) (frame : FrameLayout) (arguments : ℕ) → return_size flags frame arguments ≤ 28 * length frame.clobbered_callee_saves + 80
 return_most flags frame arguments =
     let saves = saves_from (pos (sp_to_fp_of frame) -ℤ pos 8) frame.clobbered_callee_saves in
-    let a = loads_most flags (restores frame) in
+    let a = loads_most flags (restores frame) (restores_short flags frame) in
     let b = length-append saves (setup_loads frame) in
     let c = saves_long (pos (sp_to_fp_of frame) -ℤ pos 8) frame.clobbered_callee_saves in
     let d = setup_few frame in

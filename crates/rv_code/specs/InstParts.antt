@@ -223,7 +223,7 @@ far_slots flags rd name offset = load_over flags rd loads.Ld 8 ++ Address name o
 -- loads from the stack, one after the other
 abbrev pub stack_load_slots : IsaFlags → List StackLoad → List Slot
 stack_load_slots flags [] = []
-stack_load_slots flags (l ∷ loads) = load_slots flags l.register l.op None (Based 2 l.offset) ++ stack_load_slots flags loads
+stack_load_slots flags (l ∷ loads) = load_line_slots flags l.register l.op None (Based 2 l.offset) ++ stack_load_slots flags loads
 
 -- the stack pointer rises: by addi, or by a number in x31; not at all by 0
 abbrev pub far_step_slots : IsaFlags → ℤ → List Slot

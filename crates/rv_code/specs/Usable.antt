@@ -1,5 +1,5 @@
 -- What the words of an instruction ask of its registers, labels and numbers.
-use Rattle.std.specs.Prelude.{◌≡◌, ◌≢◌, ◌⊎◌, ◌<◌, ◌≤◌, true, false, List, [], ◌∷◌, length, Option, Some, None, IsSome}
+use Rattle.std.specs.Prelude.{◌^◌, ◌≡◌, ◌≢◌, ◌⊎◌, ◌<◌, ◌≤◌, true, false, List, [], ◌∷◌, length, Option, Some, None, IsSome}
 use Rattle.std.proofs.Common.{refl}
 use Rattle.rv_base.specs.declared.amode.AMode.{AMode}
 use Rattle.rv_base.specs.declared.call.CallRetPair.{CallRetPair}
@@ -55,10 +55,10 @@ abbrev pub IsFineTry : Option TryCallInfo → Type 0
 IsFineTry None = Unit {0}
 IsFineTry (Some t) = IsListed t.continuation
 
--- a result on the stack is loaded, by its type, into a register of the machine
+-- a result on the stack is loaded, by its type, into a register of the machine, from at most 2^30 bytes above the stack pointer
 abbrev pub IsFineResult : Reg → RetLocation → Type 0
 IsFineResult r (InReg s) = Unit {0}
-IsFineResult r (OnStack offset type) = IsRealRegister r × IsSome (result_load type)
+IsFineResult r (OnStack offset type) = IsRealRegister r × IsSome (result_load type) × offset ≤ 2 ^ 30
 
 abbrev pub AreFineResults : List CallRetPair → Type 0
 AreFineResults [] = Unit {0}

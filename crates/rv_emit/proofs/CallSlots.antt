@@ -40,7 +40,8 @@ use Rattle.rv_code.proofs.PlainSlots.{IsPlain, IsSummed}
 use Rattle.rv_emit.proofs.PlainSlots.{summed, appends_words, words_long}
 use Rattle.rv_emit.proofs.BufferAfterSlots.{puts_bytes}
 use Rattle.rv_code.proofs.ShortOps.{jalr_sized, window_long}
-use Rattle.rv_code.proofs.TailSlots.{loads_then, step_then, loads_most, step_most}
+use Rattle.rv_code.proofs.ShortLoads.{AreShortLoads, loads_most}
+use Rattle.rv_code.proofs.TailSlots.{loads_then, step_then, step_most}
 
 -- ---- pieces
 
@@ -333,5 +334,5 @@ pub call_few : (flags : IsaFlags) (jump popped : ℕ) → jump ≤ 8 → call_si
 call_few flags jump popped few = let most = step_most flags (fall popped) in omega arith
 
 -- and from there on it has no more than are asked for
-pub results_few : (flags : IsaFlags) (l : StackLoad) (loads : List StackLoad) (t : Option TryCallInfo) → stack_loads_size flags (l ∷ loads) + try_size flags t ≤ results_space (l ∷ loads)
-results_few flags l loads t = let most = loads_most flags (l ∷ loads) in let few = try_few flags t in omega arith
+pub results_few : (flags : IsaFlags) (l : StackLoad) (loads : List StackLoad) (t : Option TryCallInfo) → AreShortLoads flags (l ∷ loads) → stack_loads_size flags (l ∷ loads) + try_size flags t ≤ results_space (l ∷ loads)
+results_few flags l loads t short = let most = loads_most flags (l ∷ loads) short in let few = try_few flags t in omega arith

@@ -50,7 +50,8 @@ use Rattle.rv_code.proofs.Operands.{keeps, data_kept, constant_kept}
 use Rattle.rv_code.proofs.ProbeSlots.{probe_short}
 use Rattle.rv_code.proofs.ShortOps.{HasSize, rrr_sized, rri_sized, lui_sized, jalr_sized, ebreak_sized, load_sized, store_sized, least_few}
 use Rattle.rv_code.proofs.TableSlots.{table_short}
-use Rattle.rv_code.proofs.TailSlots.{loads_most, step_most, saves_long, setup_few}
+use Rattle.rv_code.proofs.ShortLoads.{AreShortLoads, loads_most, restores_short, results_short, unless_short}
+use Rattle.rv_code.proofs.TailSlots.{step_most, saves_long, setup_few}
 use Rattle.rv_code.proofs.CountSlots.{popcnt_made, zeros_made, reverse_made}
 use Rattle.rv_code.proofs.MadeOfPieces.{made_short}
 use Rattle.rv_code.proofs.TrapSlots.{trap_if_made, udf_made}
@@ -125,13 +126,13 @@ branch_short flags (Label t) Fallthrough = omega arith
 branch_short flags (Label t) (Label f) = let few = least_few flags in omega arith
 
 return_short : (flags : IsaFlags) (frame : FrameLayout) (arguments : ℕ) → return_size flags frame arguments ≤ return_limit frame
-return_short flags frame arguments = let a = loads_most flags (restores frame) in let b = step_most flags (pos (frame_above frame arguments)) in omega arith
+return_short flags frame arguments = let a = loads_most flags (restores frame) (restores_short flags frame) in let b = step_most flags (pos (frame_above frame arguments)) in omega arith
 
-call_words : (flags : IsaFlags) (own jump popped : ℕ) (loads : List StackLoad) (t : Option TryCallInfo) → jump ≤ own → words_in (call_extent flags jump popped loads t) ≤ call_limit own loads
-call_words flags own jump popped [] t le = let step = step_most flags (fall popped) in let few = try_few flags t in omega (arith, le, step, few)
-call_words flags own jump popped (l ∷ loads) t le =
+call_words : (flags : IsaFlags) (own jump popped : ℕ) (loads : List StackLoad) (t : Option TryCallInfo) → jump ≤ own → AreShortLoads flags loads → words_in (call_extent flags jump popped loads t) ≤ call_limit own loads
+call_words flags own jump popped [] t le short = let step = step_most flags (fall popped) in let few = try_few flags t in omega (arith, le, step, few)
+call_words flags own jump popped (l ∷ loads) t le short =
     let step = step_most flags (fall popped) in
-    let most = loads_most flags (l ∷ loads) in
+    let most = loads_most flags (l ∷ loads) short in
     let few = try_few flags t in
     omega (arith, le, step, most, few)
 
@@ -241,8 +242,8 @@ words_within context (StackProbeLoop guard_size probe_count tmp) rule small = pr
 words_within context (LoadExtNameGot rd name) rule small = omega arith
 words_within context (LoadExtNameNear rd name offset) rule small = omega arith
 words_within context (LoadExtNameFar rd name offset) rule small = let few = least_few context.flags in omega arith
-words_within context (Call info) rule small = call_words context.flags 8 8 info.callee_pop_size (loads_unless info.patchable info.defs) info.try_call_info (lit≤ tt)
-words_within context (CallInd info) rule small = call_words context.flags 4 (short_jalr context.flags 1 (number_of info.dest) (pos 0)).len info.callee_pop_size (result_loads info.defs) info.try_call_info (jalr_sized context.flags 1 (number_of info.dest) (pos 0)).few
+words_within context (Call info) rule small = call_words context.flags 8 8 info.callee_pop_size (loads_unless info.patchable info.defs) info.try_call_info (lit≤ tt) (unless_short context.flags info.patchable info.defs (fine context (Call info) rule).1)
+words_within context (CallInd info) rule small = call_words context.flags 4 (short_jalr context.flags 1 (number_of info.dest) (pos 0)).len info.callee_pop_size (result_loads info.defs) info.try_call_info (jalr_sized context.flags 1 (number_of info.dest) (pos 0)).few (results_short context.flags info.defs (fine context (CallInd info) rule).2)
 words_within context (ReturnCall info) rule small = let short = return_short context.flags context.frame info.new_stack_arg_size in omega arith
 words_within context (ReturnCallInd info) rule small = let short = return_short context.flags context.frame info.new_stack_arg_size in let few = (jalr_sized context.flags 0 5 (pos 0)).few in omega arith
 words_within context inst rule small = lit≤ tt

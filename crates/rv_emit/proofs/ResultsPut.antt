@@ -16,16 +16,17 @@ use Rattle.rv_ops.specs.declared.memory.LoadOP.{LoadOP}
 use Rattle.mach_buffer.specs.Buffer.{shape_of, bytes_of}
 use Rattle.mach_buffer.specs.Constants.{reserve_of}
 use Rattle.rv_inst.specs.Addresses.{Based}
-use Rattle.rv_base.specs.declared.ir_type.IrType.TheVariants.{I8, I16, I32, I64, F32, F64}
+use Rattle.rv_base.specs.declared.ir_type.IrType.TheVariants.{I8, I16, I32, I64, F16, F32, F64}
 use Rattle.rv_ops.specs.Memory.{load_of}
 use Rattle.rv_inst.specs.Returns.{typed_loads, location_loads, result_loads, result_load}
 use Rattle.rv_inst.specs.Rules.{is_on_stack, is_stacked}
 use Rattle.rv_inst.specs.Sizes.{results_space}
 use Rattle.rv_emit.specs.Emission.{PutsAlone, PutsParts}
 use Rattle.rv_emit.specs.Emitted.{Buffer, AppendsIsland, IslandIfNeeded, pending}
-use Rattle.rv_code.specs.InstParts.{load_slots, stack_load_slots, try_slots}
+use Rattle.rv_code.specs.InstParts.{load_line_slots, stack_load_slots, try_slots}
 use Rattle.rv_code.specs.Slots.{Ask, Slots}
 use Rattle.rv_code.specs.Usable.{IsFineResult, AreFineResults}
+use Rattle.rv_code.proofs.ShortLoads.{results_short}
 use Rattle.rv_emit.proofs.SlotsOfSeveralPuts.{both_alone}
 use Rattle.rv_emit.proofs.TailCallCode.{loads_both, loads_plain, loads_room}
 
@@ -99,11 +100,17 @@ pub results_put : {flags : IsaFlags} (defs : List CallRetPair) (k : ℕ) (old ne
 results_put {flags} defs k old new le p = subst (λ ds. PutsAlone flags (stack_load_slots flags (result_loads ds)) old new) (take_all k defs le) p
 
 -- how long they are at most
-pub results_long : {flags : IsaFlags} (defs : List CallRetPair) (k : ℕ) (old new : Buffer) → PutsAlone flags (stack_load_slots flags (result_loads (take k defs))) old new → length (bytes_of new) ≤ length (bytes_of old) + 28 * count_by is_stacked defs
-results_long {flags} defs k old new p = let a = loads_room (result_loads (take k defs)) old new p in let b = some_few defs k in omega arith
+front_fine : (defs : List CallRetPair) (k : ℕ) → AreFineResults defs → AreFineResults (take k defs)
+front_fine [] zero h = tt
+front_fine [] (suc k) h = tt
+front_fine (d ∷ defs) zero h = tt
+front_fine (d ∷ defs) (suc k) h = (h.0, front_fine defs k h.1)
 
-pub all_long : {flags : IsaFlags} (defs : List CallRetPair) (old new : Buffer) → PutsAlone flags (stack_load_slots flags (result_loads defs)) old new → length (bytes_of new) ≤ length (bytes_of old) + 28 * count_by is_stacked defs
-all_long {flags} defs old new p = results_long defs (length defs) old new (subst (λ ds. PutsAlone flags (stack_load_slots flags (result_loads ds)) old new) (sym (take_all (length defs) defs (omega arith))) p)
+pub results_long : {flags : IsaFlags} (defs : List CallRetPair) (k : ℕ) (old new : Buffer) → AreFineResults defs → PutsAlone flags (stack_load_slots flags (result_loads (take k defs))) old new → length (bytes_of new) ≤ length (bytes_of old) + 28 * count_by is_stacked defs
+results_long {flags} defs k old new h p = let a = loads_room (result_loads (take k defs)) old new (results_short flags (take k defs) (front_fine defs k h)) p in let b = some_few defs k in omega arith
+
+pub all_long : {flags : IsaFlags} (defs : List CallRetPair) (old new : Buffer) → AreFineResults defs → PutsAlone flags (stack_load_slots flags (result_loads defs)) old new → length (bytes_of new) ≤ length (bytes_of old) + 28 * count_by is_stacked defs
+all_long {flags} defs old new h p = results_long defs (length defs) old new h (subst (λ ds. PutsAlone flags (stack_load_slots flags (result_loads ds)) old new) (sym (take_all (length defs) defs (omega arith))) p)
 
 -- the result of an index is fine
 pub each_fine : (defs : List CallRetPair) (k : ℕ) (d : CallRetPair) → AreFineResults defs → k < length defs → IsFineResult (get_or defs k d).vreg.reg (get_or defs k d).location
@@ -127,14 +134,15 @@ typed_is I8 some = refl
 typed_is I16 some = refl
 typed_is I32 some = refl
 typed_is I64 some = refl
+typed_is F16 some = refl
 typed_is F32 some = refl
 typed_is F64 some = refl
 typed_is _ some = absurd (cc)
 
-pub typed_put : {flags : IsaFlags} (register offset : ℕ) (op : LoadOP) (found : Option LoadOP) (old new : Buffer) → found ≡ Some op → PutsAlone flags (load_slots flags register op None (Based 2 (pos offset))) old new → PutsAlone flags (stack_load_slots flags (typed_loads register offset found)) old new
+pub typed_put : {flags : IsaFlags} (register offset : ℕ) (op : LoadOP) (found : Option LoadOP) (old new : Buffer) → found ≡ Some op → PutsAlone flags (load_line_slots flags register op None (Based 2 (pos offset))) old new → PutsAlone flags (stack_load_slots flags (typed_loads register offset found)) old new
 typed_put {flags} register offset op found old new is p =
     subst (λ o. PutsAlone flags (stack_load_slots flags (typed_loads register offset o)) old new) (sym is)
-    (subst (λ slots. PutsAlone flags slots old new) (sym (append-nil (load_slots flags register op None (Based 2 (pos offset))))) p)
+    (subst (λ slots. PutsAlone flags slots old new) (sym (append-nil (load_line_slots flags register op None (Based 2 (pos offset))))) p)
 
 -- ---- an island, and all of them after it
 

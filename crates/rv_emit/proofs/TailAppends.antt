@@ -91,8 +91,8 @@ reach_asking context setting (BrTable index tmp1 tmp2 targets) old new can asks 
     let some = (fine context (BrTable index tmp1 tmp2 targets) can.rule).4 in
     let room = can.room in
     reach_table context index tmp1 tmp2 targets old new some (omega arith) (appends_table context setting index tmp1 tmp2 targets old new some e)
-reach_asking context setting (Call info) old new can asks e = reach_call context info old new asks (call_appends context info old new e)
-reach_asking context setting (CallInd info) old new can asks e = reach_call_ind context info old new asks (call_ind_appends context info old new e)
+reach_asking context setting (Call info) old new can asks e = reach_call context info old new (fine context (Call info) can.rule).1 asks (call_appends context info old new e)
+reach_asking context setting (CallInd info) old new can asks e = reach_call_ind context info old new (fine context (CallInd info) can.rule).2 asks (call_ind_appends context info old new e)
 reach_asking context setting (ReturnCall info) old new can asks e = reach_tail context info _ old new (omega arith) (appends_tail context setting info old new e)
 reach_asking context setting (ReturnCallInd info) old new can asks e = reach_t0 context info _ old new (omega arith) (appends_t0 context setting info old new e)
 reach_asking context setting _ old new can asks e = absurd (cc)

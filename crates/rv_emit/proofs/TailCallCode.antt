@@ -34,7 +34,7 @@ use Rattle.rv_inst.specs.Records.{site_event}
 use Rattle.rv_inst.specs.Sizes.{stack_loads_size, stack_step_size, fall, call_size, return_size}
 use Rattle.rv_emit.specs.Emission.{PutsAlone, PutsParts}
 use Rattle.rv_emit.specs.Emitted.{Buffer, IsSoundBuffer, IslandIfNeeded, AppendsIsland, pending}
-use Rattle.rv_code.specs.InstParts.{load_slots, number_slots, stack_load_slots, far_step_slots, stack_step_slots, return_slots, call_to, tail_slots, t0_slots, map_notes, return_notes, after_call, patch_notes, call_slots, call_ind_slots}
+use Rattle.rv_code.specs.InstParts.{load_line_slots, number_slots, stack_load_slots, far_step_slots, stack_step_slots, return_slots, call_to, tail_slots, t0_slots, map_notes, return_notes, after_call, patch_notes, call_slots, call_ind_slots}
 use Rattle.rv_code.specs.Slots.{Slot, Op, Notes, Ask, Slots, size_of}
 use Rattle.rv_code.proofs.MemorySlots.{HaveAccess, none, nothing}
 use Rattle.rv_code.proofs.PlainSlots.{IsPlain}
@@ -43,7 +43,8 @@ use Rattle.rv_emit.proofs.SlotsOfOnePut.{none_put}
 use Rattle.rv_code.proofs.NumberSlots.{number_few}
 use Rattle.rv_code.proofs.TableSlots.{even_plain, number_even, number_long}
 use Rattle.rv_emit.proofs.CallSlots.{steps_counted}
-use Rattle.rv_code.proofs.TailSlots.{loads_then, loads_most, saves_long, setup_few, returns_counted}
+use Rattle.rv_code.proofs.ShortLoads.{AreShortLoads, eight_short, loads_most, saves_short, setup_short}
+use Rattle.rv_code.proofs.TailSlots.{loads_then, saves_long, setup_few, returns_counted}
 
 -- ---- loads
 
@@ -57,13 +58,13 @@ loads_counted flags loads = subst (HaveAccess (stack_loads_size flags loads + 0)
 pub loads_plain : (flags : IsaFlags) (loads : List StackLoad) → IsPlain (stack_load_slots flags loads)
 loads_plain flags loads = (loads_counted flags loads).plain
 
-loads_long : (flags : IsaFlags) (loads : List StackLoad) → size_of (stack_load_slots flags loads) ≤ 28 * length loads
-loads_long flags loads = let a = (loads_counted flags loads).long in let b = loads_most flags loads in omega arith
+loads_long : (flags : IsaFlags) (loads : List StackLoad) → AreShortLoads flags loads → size_of (stack_load_slots flags loads) ≤ 28 * length loads
+loads_long flags loads short = let a = (loads_counted flags loads).long in let b = loads_most flags loads short in omega arith
 
 pub loads_both : (flags : IsaFlags) (first more : List StackLoad) → stack_load_slots flags (first ++ more) ≡ stack_load_slots flags first ++ stack_load_slots flags more
 loads_both flags [] more = refl
 loads_both flags (l ∷ first) more =
-    let own = load_slots flags l.register l.op None (Based 2 l.offset) in
+    let own = load_line_slots flags l.register l.op None (Based 2 l.offset) in
     ap (λ slots. own ++ slots) (loads_both flags first more) ∙ sym (append_assoc own (stack_load_slots flags first) (stack_load_slots flags more))
 
 lower : (o : ℤ) (n : ℕ) → o -ℤ pos 8 -ℤ pos (8 * n) ≡ o -ℤ pos (8 * suc n)
@@ -79,10 +80,10 @@ saves_more o saves k d lt =
     ap (saves_from o) (take_more saves k d lt) ∙ saves_both o (take k saves) (get_or saves k d ∷ []) ∙ ap (λ n. saves_from o (take k saves) ++ eight_at (get_or saves k d) (o -ℤ pos (8 * n)) ∷ []) long
 
 -- one more
-pub saved_put : {flags : IsaFlags} (o at : ℤ) (saves : List (Writable PReg)) (k : ℕ) (d : Writable PReg) (old mid new : Buffer) → k < length saves → at ≡ o -ℤ pos (8 * k) → PutsAlone flags (stack_load_slots flags (saves_from o (take k saves))) old mid → PutsAlone flags (load_slots flags (get_or saves k d).reg.number (saved_load (get_or saves k d).reg.class) None (Based 2 at)) mid new → PutsAlone flags (stack_load_slots flags (saves_from o (take (k + 1) saves))) old new
+pub saved_put : {flags : IsaFlags} (o at : ℤ) (saves : List (Writable PReg)) (k : ℕ) (d : Writable PReg) (old mid new : Buffer) → k < length saves → at ≡ o -ℤ pos (8 * k) → PutsAlone flags (stack_load_slots flags (saves_from o (take k saves))) old mid → PutsAlone flags (load_line_slots flags (get_or saves k d).reg.number (saved_load (get_or saves k d).reg.class) None (Based 2 at)) mid new → PutsAlone flags (stack_load_slots flags (saves_from o (take (k + 1) saves))) old new
 saved_put {flags} o at saves k d old mid new lt is p q =
     let before = saves_from o (take k saves) in
-    let own = load_slots flags (get_or saves k d).reg.number (saved_load (get_or saves k d).reg.class) None (Based 2 at) in
+    let own = load_line_slots flags (get_or saves k d).reg.number (saved_load (get_or saves k d).reg.class) None (Based 2 at) in
     let next = eight_at (get_or saves k d) at ∷ [] in
     let here = ap (λ x. before ++ eight_at (get_or saves k d) x ∷ []) (sym is) in
     subst (λ slots. PutsAlone flags slots old new) (sym (ap (stack_load_slots flags) (saves_more o saves k d lt ∙ here) ∙ loads_both flags before next))
@@ -95,7 +96,7 @@ all_saved {flags} o saves k old new le p = subst (λ rs. PutsAlone flags (stack_
 pub saved_long : {flags : IsaFlags} (o : ℤ) (saves : List (Writable PReg)) (k : ℕ) (old new : Buffer) → k ≤ length saves → PutsAlone flags (stack_load_slots flags (saves_from o (take k saves))) old new → length (bytes_of new) ≤ length (bytes_of old) + 28 * k
 saved_long {flags} o saves k old new le p =
     let a = alone_long (stack_load_slots flags (saves_from o (take k saves))) old new p in
-    let b = loads_long flags (saves_from o (take k saves)) in
+    let b = loads_long flags (saves_from o (take k saves)) (saves_short flags o (take k saves)) in
     let c = saves_long o (take k saves) in
     let e = length-take k saves in
     omega arith
@@ -110,11 +111,11 @@ saved_at saves k r lt e = e ∙ same saves k r lt
     same (r ∷ saves) (suc k) d lt = same saves k d (omega arith)
 
 -- one more, as the loop puts it
-pub saved_more : {flags : IsaFlags} (o : ℤ) (saves : List (Writable PReg)) (k index : ℕ) (r : Writable PReg) (old mid new : Buffer) → k < length saves → r ≡ slice_index_or saves k r → index ≡ k → PutsAlone flags (stack_load_slots flags (saves_from o (take k saves))) old mid → PutsAlone flags (load_slots flags r.reg.number (saved_load r.reg.class) None (Based 2 (o -ℤ pos (8 * index)))) mid new → PutsAlone flags (stack_load_slots flags (saves_from o (take (k + 1) saves))) old new
+pub saved_more : {flags : IsaFlags} (o : ℤ) (saves : List (Writable PReg)) (k index : ℕ) (r : Writable PReg) (old mid new : Buffer) → k < length saves → r ≡ slice_index_or saves k r → index ≡ k → PutsAlone flags (stack_load_slots flags (saves_from o (take k saves))) old mid → PutsAlone flags (load_line_slots flags r.reg.number (saved_load r.reg.class) None (Based 2 (o -ℤ pos (8 * index)))) mid new → PutsAlone flags (stack_load_slots flags (saves_from o (take (k + 1) saves))) old new
 saved_more {flags} o saves k index r old mid new lt read is p q =
     saved_put o (o -ℤ pos (8 * k)) saves k r old mid new lt refl p
-    (subst (λ x. PutsAlone flags (load_slots flags x.reg.number (saved_load x.reg.class) None (Based 2 (o -ℤ pos (8 * k)))) mid new) (saved_at saves k r lt read)
-    (subst (λ n. PutsAlone flags (load_slots flags r.reg.number (saved_load r.reg.class) None (Based 2 (o -ℤ pos (8 * n)))) mid new) is q))
+    (subst (λ x. PutsAlone flags (load_line_slots flags x.reg.number (saved_load x.reg.class) None (Based 2 (o -ℤ pos (8 * k)))) mid new) (saved_at saves k r lt read)
+    (subst (λ n. PutsAlone flags (load_line_slots flags r.reg.number (saved_load r.reg.class) None (Based 2 (o -ℤ pos (8 * n)))) mid new) is q))
 
 -- the return address and the frame pointer
 pub no_setup : (flags : IsaFlags) (frame : FrameLayout) (old new : Buffer) → frame.setup_area_size ≡ 0 → PutsAlone flags [] old new → PutsAlone flags (stack_load_slots flags (setup_loads frame)) old new
@@ -122,10 +123,10 @@ no_setup flags frame old new empty p =
     let e : (frame.setup_area_size == 0) ≡ true = grind (arith, nat_tests) in
     subst (λ c. PutsAlone flags (stack_load_slots flags (if c then [] else record { register = 1; op = Ld; offset = pos (sp_to_fp_of frame + 8) } ∷ record { register = 8; op = Ld; offset = pos (sp_to_fp_of frame) } ∷ [])) old new) (sym e) p
 
-one_load : (flags : IsaFlags) (l : StackLoad) (old new : Buffer) → PutsAlone flags (load_slots flags l.register l.op None (Based 2 l.offset)) old new → PutsAlone flags (stack_load_slots flags (l ∷ [])) old new
-one_load flags l old new p = subst (λ slots. PutsAlone flags slots old new) (sym (append-nil (load_slots flags l.register l.op None (Based 2 l.offset)))) p
+one_load : (flags : IsaFlags) (l : StackLoad) (old new : Buffer) → PutsAlone flags (load_line_slots flags l.register l.op None (Based 2 l.offset)) old new → PutsAlone flags (stack_load_slots flags (l ∷ [])) old new
+one_load flags l old new p = subst (λ slots. PutsAlone flags slots old new) (sym (append-nil (load_line_slots flags l.register l.op None (Based 2 l.offset)))) p
 
-pub setup_put : (flags : IsaFlags) (frame : FrameLayout) (ra fp : ℕ) (above below : ℤ) (old mid new : Buffer) → frame.setup_area_size ≢ 0 → ra ≡ 1 → fp ≡ 8 → above ≡ pos (sp_to_fp_of frame + 8) → below ≡ pos (sp_to_fp_of frame) → PutsAlone flags (load_slots flags ra Ld None (Based 2 above)) old mid → PutsAlone flags (load_slots flags fp Ld None (Based 2 below)) mid new → PutsAlone flags (stack_load_slots flags (setup_loads frame)) old new
+pub setup_put : (flags : IsaFlags) (frame : FrameLayout) (ra fp : ℕ) (above below : ℤ) (old mid new : Buffer) → frame.setup_area_size ≢ 0 → ra ≡ 1 → fp ≡ 8 → above ≡ pos (sp_to_fp_of frame + 8) → below ≡ pos (sp_to_fp_of frame) → PutsAlone flags (load_line_slots flags ra Ld None (Based 2 above)) old mid → PutsAlone flags (load_line_slots flags fp Ld None (Based 2 below)) mid new → PutsAlone flags (stack_load_slots flags (setup_loads frame)) old new
 setup_put flags frame ra fp above below old mid new some link pointer up down p q =
     let e : (frame.setup_area_size == 0) ≡ false = grind (arith, nat_tests) in
     let link_load : StackLoad = record { register = ra; op = Ld; offset = above } in
@@ -137,12 +138,12 @@ setup_put flags frame ra fp above below old mid new some link pointer up down p 
     subst (λ c. PutsAlone flags (stack_load_slots flags (if c then [] else record { register = 1; op = Ld; offset = pos (sp_to_fp_of frame + 8) } ∷ record { register = 8; op = Ld; offset = pos (sp_to_fp_of frame) } ∷ [])) old new) (sym e)
     (subst (λ loads. PutsAlone flags (stack_load_slots flags loads) old new) named both)
 
-pub load_long : {flags : IsaFlags} (rd : ℕ) (o : ℤ) (old new : Buffer) → PutsAlone flags (load_slots flags rd Ld None (Based 2 o)) old new → length (bytes_of new) ≤ length (bytes_of old) + 28
+pub load_long : {flags : IsaFlags} (rd : ℕ) (o : ℤ) (old new : Buffer) → PutsAlone flags (load_line_slots flags rd Ld None (Based 2 o)) old new → length (bytes_of new) ≤ length (bytes_of old) + 28
 load_long {flags} rd o old new p =
     let l : StackLoad = record { register = rd; op = Ld; offset = o } in
-    let a = alone_long (load_slots flags rd Ld None (Based 2 o)) old new p in
-    let b = loads_long flags (l ∷ []) in
-    let c = ap size_of (append-nil (load_slots flags rd Ld None (Based 2 o))) in
+    let a = alone_long (load_line_slots flags rd Ld None (Based 2 o)) old new p in
+    let b = loads_long flags (l ∷ []) (eight_short flags rd o, tt) in
+    let c = ap size_of (append-nil (load_line_slots flags rd Ld None (Based 2 o))) in
     omega arith
 
 -- ---- the stack pointer's step
@@ -201,14 +202,14 @@ addi_named {flags} {old} {new} rd rs imm a b p = subst (λ d. PutsAlone flags (O
 
 -- ---- the whole frame
 
-pub loads_room : {flags : IsaFlags} (loads : List StackLoad) (old new : Buffer) → PutsAlone flags (stack_load_slots flags loads) old new → length (bytes_of new) ≤ length (bytes_of old) + 28 * length loads
-loads_room {flags} loads old new p = let a = alone_long (stack_load_slots flags loads) old new p in let b = loads_long flags loads in omega arith
+pub loads_room : {flags : IsaFlags} (loads : List StackLoad) (old new : Buffer) → AreShortLoads flags loads → PutsAlone flags (stack_load_slots flags loads) old new → length (bytes_of new) ≤ length (bytes_of old) + 28 * length loads
+loads_room {flags} loads old new short p = let a = alone_long (stack_load_slots flags loads) old new p in let b = loads_long flags loads short in omega arith
 
 pub saves_room : {flags : IsaFlags} (o : ℤ) (saves : List (Writable PReg)) (old new : Buffer) → PutsAlone flags (stack_load_slots flags (saves_from o saves)) old new → length (bytes_of new) ≤ length (bytes_of old) + 28 * length saves
-saves_room o saves old new p = let a = loads_room (saves_from o saves) old new p in let b = saves_long o saves in omega arith
+saves_room {flags} o saves old new p = let a = loads_room (saves_from o saves) old new (saves_short flags o saves) p in let b = saves_long o saves in omega arith
 
 pub setup_room : {flags : IsaFlags} (frame : FrameLayout) (old new : Buffer) → PutsAlone flags (stack_load_slots flags (setup_loads frame)) old new → length (bytes_of new) ≤ length (bytes_of old) + 56
-setup_room frame old new p = let a = loads_room (setup_loads frame) old new p in let b = setup_few frame in omega arith
+setup_room {flags} frame old new p = let a = loads_room (setup_loads frame) old new (setup_short flags frame) p in let b = setup_few frame in omega arith
 
 pub saves_there : {flags : IsaFlags} (frame : FrameLayout) (below : ℕ) (saves : List (Writable PReg)) (old new : Buffer) → below ≡ sp_to_fp_of frame → saves ≡ frame.clobbered_callee_saves → PutsAlone flags (stack_load_slots flags (saves_from (pos below -ℤ pos 8) saves)) old new → PutsAlone flags (stack_load_slots flags (saves_from (pos (sp_to_fp_of frame) -ℤ pos 8) frame.clobbered_callee_saves)) old new
 saves_there {flags} frame below saves old new is all p = subst (λ loads. PutsAlone flags (stack_load_slots flags loads) old new) (λ i. saves_from (pos (is i) -ℤ pos 8) (all i)) p

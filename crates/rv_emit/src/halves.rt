@@ -29,7 +29,7 @@ use rv_inst::LabelUse;
 use rv_ops::{AluOPRRR, FRM, FpuOPRR, FpuOPWidth, LoadOP, StoreOP};
 
 /// Returns whether the machine has a load.
-fn has_load(flags: IsaFlags, op: LoadOP) -> bool
+pub(crate) fn has_load(flags: IsaFlags, op: LoadOP) -> bool
     ensures { result ≡ has_load flags op }
 {
     match op {
@@ -75,7 +75,7 @@ pub(crate) fn put_load_line(
 }
 
 /// A half goes to x31, gets ones above it there, and is moved to its register.
-fn put_half_load(
+pub(crate) fn put_half_load(
     sink: &mut MachBuffer<LabelUse>,
     flags: IsaFlags,
     rd: WritableReg,

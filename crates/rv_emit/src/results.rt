@@ -80,7 +80,7 @@ fn put_loads(
     defs: &[CallRetPair],
 ) -> Result<(), OutOfMemory>
     requires results { AreFineResults defs.now }
-    requires room { length (bytes_of sink.old) + 28 * count_by is_stacked defs.now + 28 < code_limit }
+    requires room { length (bytes_of sink.old) + 28 * count_by is_stacked defs.now + 40 < code_limit }
     requires sound { IsSoundBuffer sink.old }
     ensures slots { OnOk result (PutsAlone flags (stack_load_slots flags (result_loads defs.now)) sink.old sink.new) }
     ensures refused { OnErr result (spoiled_of sink.new ≡ true) }
@@ -98,7 +98,7 @@ fn put_result(
     def: CallRetPair,
 ) -> Result<(), OutOfMemory>
     requires fine { IsFineResult def.vreg.reg def.location }
-    requires room { length (bytes_of sink.old) + 28 < code_limit }
+    requires room { length (bytes_of sink.old) + 40 < code_limit }
     requires sound { IsSoundBuffer sink.old }
     ensures slots { OnOk result (PutsAlone flags (stack_load_slots flags (location_loads def.vreg.reg def.location)) sink.old sink.new) }
     ensures refused { OnErr result (spoiled_of sink.new ≡ true) }
@@ -119,7 +119,7 @@ fn put_typed(
 ) -> Result<(), OutOfMemory>
     requires rd { IsRealRegister rd.reg }
     requires typed { IsSome (result_load ty) }
-    requires room { length (bytes_of sink.old) + 28 < code_limit }
+    requires room { length (bytes_of sink.old) + 40 < code_limit }
     requires sound { IsSoundBuffer sink.old }
     ensures slots { OnOk result (PutsAlone flags (stack_load_slots flags (typed_loads (number_of rd.reg) offset (result_load ty))) sink.old sink.new) }
     ensures refused { OnErr result (spoiled_of sink.new ≡ true) }

@@ -5,7 +5,6 @@ ghost use Rattle.rv_base.specs.Frame.{sp_to_args_end};
 ghost use Rattle.rv_base.specs.LabelUse.{code_limit};
 ghost use Rattle.rv_base.specs.Regs.{number_of};
 ghost use Rattle.rv_ops.specs.declared.memory.LoadOP.TheVariants.{Ld};
-ghost use Rattle.rv_encode.specs.Operations.{has_load};
 ghost use Rattle.rv_encode.specs.Registers.{IsIntRegister, IsRealRegister};
 ghost use Rattle.mach_buffer.specs.Buffer.{shape_of, bytes_of, allocated_of, spoiled_of};
 ghost use Rattle.mach_buffer.specs.Constants.{reserve_of};
@@ -16,11 +15,12 @@ ghost use Rattle.rv_inst.specs.Returns.{saved_load, saves_from, setup_loads, fra
 ghost use Rattle.rv_inst.specs.Sizes.{return_size};
 ghost use Rattle.rv_emit.specs.Emission.{PutsAlone, PutsParts};
 ghost use Rattle.rv_emit.specs.Emitted.{IsSoundBuffer, pending};
-ghost use Rattle.rv_code.specs.InstParts.{load_slots, stack_load_slots, far_step_slots, stack_step_slots, return_slots, tail_slots, t0_slots};
+ghost use Rattle.rv_code.specs.InstParts.{load_line_slots, stack_load_slots, far_step_slots, stack_step_slots, return_slots, tail_slots, t0_slots};
 ghost use Rattle.rv_code.specs.Slots.{Ask, Slots};
 
+use crate::halves::{has_load, put_half_load};
 use crate::island::emit_island_if_needed;
-use crate::memory::put_based_load;
+use crate::memory::{Place, put_based_load};
 use crate::numbers::put_number;
 use crate::shortest::{put_jalr, put_rri, put_rrr};
 use crate::symbols::{put_call_site, put_call_to};
@@ -174,7 +174,7 @@ fn put_saves(
     below: u32,
     saves: &[Writable<PReg>],
 ) -> Result<(), OutOfMemory>
-    requires room { length (bytes_of sink.old) + 28 * length saves.now < code_limit }
+    requires room { length (bytes_of sink.old) + 28 * length saves.now + 12 < code_limit }
     requires sound { IsSoundBuffer sink.old }
     ensures slots { OnOk result (PutsAlone flags (stack_load_slots flags (saves_from (pos below -ℤ pos 8) saves.now)) sink.old sink.new) }
     ensures refused { OnErr result (spoiled_of sink.new ≡ true) }
@@ -193,9 +193,9 @@ fn put_save(
     below: u32,
     index: u32,
 ) -> Result<(), OutOfMemory>
-    requires room { length (bytes_of sink.old) + 28 < code_limit }
+    requires room { length (bytes_of sink.old) + 40 < code_limit }
     requires sound { IsSoundBuffer sink.old }
-    ensures slots { OnOk result (PutsAlone flags (load_slots flags save.reg.number (saved_load save.reg.class) None (Based 2 (pos below -ℤ pos 8 -ℤ pos (8 * index)))) sink.old sink.new) }
+    ensures slots { OnOk result (PutsAlone flags (load_line_slots flags save.reg.number (saved_load save.reg.class) None (Based 2 (pos below -ℤ pos 8 -ℤ pos (8 * index)))) sink.old sink.new) }
     ensures refused { OnErr result (spoiled_of sink.new ≡ true) }
 {
     let rd = Writable {
@@ -234,7 +234,7 @@ fn put_setup(
     frame: &FrameLayout,
 ) -> Result<(), OutOfMemory>
     requires frame { sp_to_args_end frame.now < 2 ^ 31 }
-    requires room { length (bytes_of sink.old) + 56 < code_limit }
+    requires room { length (bytes_of sink.old) + 68 < code_limit }
     requires sound { IsSoundBuffer sink.old }
     ensures slots { OnOk result (PutsAlone flags (stack_load_slots flags (setup_loads frame.now)) sink.old sink.new) }
     ensures refused { OnErr result (spoiled_of sink.new ≡ true) }
@@ -255,15 +255,15 @@ fn put_above(
     above: u32,
 ) -> Result<(), OutOfMemory>
     requires rd { IsRealRegister rd.reg }
-    requires room { length (bytes_of sink.old) + 28 < code_limit }
+    requires room { length (bytes_of sink.old) + 40 < code_limit }
     requires sound { IsSoundBuffer sink.old }
-    ensures slots { OnOk result (PutsAlone flags (load_slots flags (number_of rd.reg) Ld None (Based 2 (pos above))) sink.old sink.new) }
+    ensures slots { OnOk result (PutsAlone flags (load_line_slots flags (number_of rd.reg) Ld None (Based 2 (pos above))) sink.old sink.new) }
     ensures refused { OnErr result (spoiled_of sink.new ≡ true) }
 {
     put_stack_load(sink, flags, rd, LoadOP::Ld, i64::from(above))
 }
 
-/// Loads from so far above the stack pointer.
+/// Loads from so far above the stack pointer: a half by integer registers, where the machine has no load of halves.
 pub(crate) fn put_stack_load(
     sink: &mut MachBuffer<LabelUse>,
     flags: IsaFlags,
@@ -271,14 +271,17 @@ pub(crate) fn put_stack_load(
     op: LoadOP,
     offset: i64,
 ) -> Result<(), OutOfMemory>
-    requires has { has_load flags op ≡ true }
     requires rd { IsRealRegister rd.reg }
-    requires room { length (bytes_of sink.old) + 28 < code_limit }
+    requires room { length (bytes_of sink.old) + 40 < code_limit }
     requires sound { IsSoundBuffer sink.old }
-    ensures slots { OnOk result (PutsAlone flags (load_slots flags (number_of rd.reg) op None (Based 2 offset)) sink.old sink.new) }
+    ensures slots { OnOk result (PutsAlone flags (load_line_slots flags (number_of rd.reg) op None (Based 2 offset)) sink.old sink.new) }
     ensures refused { OnErr result (spoiled_of sink.new ≡ true) }
 {
-    put_based_load(sink, flags, rd, op, None, stack_reg(), offset)
+    if has_load(flags, op) {
+        put_based_load(sink, flags, rd, op, None, stack_reg(), offset)
+    } else {
+        put_half_load(sink, flags, rd, None, Place::Based(stack_reg(), offset))
+    }
 }
 
 /// The stack pointer rises by so many bytes.

@@ -30,7 +30,7 @@ use Rattle.rv_machine.specs.declared.ops.BaseOp.TheVariants.{Auipc as AuipcOp}
 use Rattle.rv_encode.specs.Operations.{decoded, decoded_rri, has_load, has_store, decoded_fpu_rrr}
 use Rattle.rv_machine.specs.State.{low64}
 use Rattle.rv_machine.specs.Arithmetic.{low_word}
-use Rattle.rv_inst.specs.Addresses.{Location, Based, AtLabel, AtConstant, location_of, is_near, is_splittable, inline_size, far_size, address_size, load_size_at, store_size_at, load_own_size, store_own_size}
+use Rattle.rv_inst.specs.Addresses.{Location, Based, AtLabel, AtConstant, location_of, is_near, is_splittable, inline_size, far_size, address_size, store_size_at, load_own_size, store_own_size}
 use Rattle.rv_inst.specs.Halves.{load_line_size, load_line_own_size, store_line_size, store_line_own_size, is_moved_first}
 use Rattle.rv_inst.specs.Generators.{canonical_type}
 use Rattle.rv_inst.specs.Forms.{short_rrr, short_rri, short_lui, short_jalr, short_ebreak, short_load, short_store, jump_size}
@@ -189,7 +189,7 @@ table_size flags index tmp2 labels = extend_size flags 31 index false 32 + numbe
 -- loads from the stack, one after the other
 abbrev pub stack_loads_size : IsaFlags → List StackLoad → ℕ
 stack_loads_size flags [] = 0
-stack_loads_size flags (l ∷ loads) = load_size_at flags l.op l.register (Based 2 l.offset) + stack_loads_size flags loads
+stack_loads_size flags (l ∷ loads) = load_line_size flags l.op l.register (Based 2 l.offset) + stack_loads_size flags loads
 
 -- The stack pointer rises by addi, or by the sum with a number in x31; not at all by 0.
 abbrev pub stack_step_size : IsaFlags → ℤ → ℕ

@@ -34,8 +34,8 @@ fn has_result_load(ty: IrType) -> bool
 {
     match ty {
         IrType::I8 | IrType::I16 | IrType::I32 | IrType::I64 => true,
-        IrType::F32 | IrType::F64 => true,
-        IrType::I128 | IrType::F16 | IrType::F128 => false,
+        IrType::F16 | IrType::F32 | IrType::F64 => true,
+        IrType::I128 | IrType::F128 => false,
         IrType::Vector(_) => false,
     }
 }

@@ -17,7 +17,7 @@ put_result-requires-clause-fine c = subst (λ (d : CallRetPair). IsFineResult d.
 
 pub put_result-requires-clause-room : goal.put_result-requires-clause-room
 put_result-requires-clause-room c =
-    let long = results_long c.args.defs.now c.loop-def.def-index c.args.sink.now c.loop-def.sink c.loop-def.invariant in
+    let long = results_long c.args.defs.now c.loop-def.def-index c.args.sink.now c.loop-def.sink c.requires.results c.loop-def.invariant in
     let room = c.requires.room in
     omega arith
 

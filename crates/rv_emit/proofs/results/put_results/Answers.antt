@@ -19,7 +19,7 @@ put_loads-requires-clause-sound c = island_sound c.results_space-space.result c.
 pub put_continuation-requires-clause-room : goal.put_continuation-requires-clause-room
 put_continuation-requires-clause-room c =
     let left = results_room c.results_space-space.result (32 * count_by is_stacked c.args.defs.now) c.args.sink.now c.emit_island_if_needed.new.sink _ c.requires.room c.in_ok-emit_island_if_needed.ensures.made in
-    let long = all_long c.args.defs.now c.emit_island_if_needed.new.sink c.put_loads.new.sink c.in_ok-put_loads.ensures.slots in
+    let long = all_long c.args.defs.now c.emit_island_if_needed.new.sink c.put_loads.new.sink c.requires.results c.in_ok-put_loads.ensures.slots in
     omega arith
 
 pub put_continuation-requires-clause-sound : goal.put_continuation-requires-clause-sound
