@@ -243,7 +243,7 @@ is_movable Int type = is_int_type type
 is_movable Float type = is_float_type type
 is_movable Vector type = false
 
--- whether a result is on the stack, and of a type that is loaded from there: an integer of at most 64 bits, f32 or f64
+-- whether a result is on the stack, and of a type that is loaded from there: an integer of at most 64 bits, f16, f32 or f64
 abbrev pub is_loaded_from : RetLocation → Bool
 is_loaded_from (InReg s) = false
 is_loaded_from (OnStack offset type) = is_some (result_load type)
