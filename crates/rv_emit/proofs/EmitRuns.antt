@@ -5,6 +5,7 @@ use Rattle.rv_base.specs.Flags.{no_flags}
 use Rattle.rv_base.specs.declared.flags.IsaFlags.{IsaFlags}
 use Rattle.rv_base.specs.LabelUse.{code_limit}
 use Rattle.rv_base.specs.declared.call.UserStackMap.{UserStackMap}
+use Rattle.rv_base.specs.declared.label.MachLabel.{MachLabel}
 use Rattle.rv_inst.specs.Context.{Context}
 use Rattle.rv_inst.specs.Frames.{is_bad_frame_for}
 use Rattle.rv_inst.specs.LabelUse.{label_kinds}
@@ -16,11 +17,12 @@ use Rattle.rv_inst.specs.declared.label_use.LabelUse.{LabelUse}
 use Rattle.mach_records.specs.declared.records.ConstPlace.{ConstPlace}
 use Rattle.mach_records.specs.declared.records.MachRecord.{MachRecord}
 use Rattle.mach_uses.specs.declared.uses.Use.{Use}
-use Rattle.mach_buffer.specs.Buffer.{shape_of, bytes_of, uses_of, records_of, named_of, constants_of}
+use Rattle.mach_buffer.specs.Buffer.{shape_of, bytes_of, uses_of, records_of, named_of, constants_of, place_of}
+use Rattle.mach_buffer.specs.Constants.{AllStand}
 use Rattle.mach_buffer.specs.Windows.{AreWindows}
 use Rattle.mach_buffer.specs.Growth.{Lasts}
-use Rattle.mach_buffer.specs.Shape.{Shape}
-use Rattle.mach_buffer.proofs.Laws.{even_length, windows_none}
+use Rattle.mach_buffer.specs.Shape.{Shape, with_label}
+use Rattle.mach_buffer.proofs.Laws.{even_length, lasts_label, stands_last, windows_none}
 use Rattle.rv_code.specs.InstParts.{parts_of}
 use Rattle.rv_code.specs.Sites.{Site, PartsStand}
 use Rattle.rv_code.specs.declared.state.EmitVState.{EmitVState}
@@ -30,6 +32,7 @@ use Rattle.rv_code.proofs.OneOperations.{reads_operation}
 use Rattle.rv_emit.specs.Emission.{EmitsIn}
 use Rattle.rv_emit.specs.EmitRuns.{IsBuilt, HasCode, RunsBetween, EmitsRun, GapLeads}
 use Rattle.rv_emit.specs.Emitted.{Buffer, IsSoundBuffer, CanEmit, IslandIfNeeded}
+use Rattle.rv_emit.specs.Images.{FieldsStand}
 use Rattle.rv_emit.specs.StackMaps.{with_map}
 use Rattle.rv_emit.specs.Standing.{PartsIn}
 use Rattle.rv_emit.proofs.InstKeeps.{appended_records, appended_named, emitted_keeps}
@@ -152,3 +155,16 @@ empty_built b bytes uses records constants sound = record {
 
     no_constant : (j : ℕ) (c : ConstPlace) → slice_get [] j ≡ Some c → ⊥
     no_constant j c h = absurd (cc)
+
+-- ---- a label
+
+-- one that is bound puts nothing; so what was built stays so, and what stood lasts
+pub bound_built : (label : MachLabel) (old new : Buffer) → shape_of new ≡ with_label label (shape_of old) → place_of old label.number ≡ None → IsSoundBuffer new → IsBuilt old → IsBuilt new × Lasts label_kinds (shape_of old) (shape_of new)
+bound_built label old new is unbound sound built =
+    let lasts = lasts_label label_kinds label (shape_of old) unbound in
+    (record {
+      sound = sound;
+      windows = subst (λ (s : Shape LabelUse). AreWindows label_kinds s.bytes s.uses) (sym is) built.windows;
+      fields = subst FieldsStand (sym is) (record { ends = built.fields.ends; clear = built.fields.clear });
+      constants = subst (AllStand label_kinds) (sym is) (stands_last lasts refl built.constants);
+    }, subst (Lasts label_kinds (shape_of old)) (sym is) lasts)

@@ -22,8 +22,8 @@ pub use Rattle.rv_code.proofs.TableSlots.{table_most}
 pub use Rattle.rv_emit.proofs.TableAppends.{AppendsAfter, appends_table, table_parts_long, table_some, table_stands}
 pub use Rattle.rv_code.proofs.TailSlots.{return_most}
 pub use Rattle.rv_emit.proofs.TailAppends.{appends, appends_tail, appends_t0, tail_parts_long, t0_parts_long}
--- a buffer in which nothing stands yet
-pub use Rattle.rv_emit.proofs.EmitRuns.{empty_built}
+-- a buffer in which nothing stands yet; and one in which a label more is bound
+pub use Rattle.rv_emit.proofs.EmitRuns.{empty_built, bound_built}
 -- what an instruction lacks by its extent, and what records, constants and labels it leaves
 pub use Rattle.rv_emit.proofs.InstKeeps.{Lacks, lacks, room_records, appended_records, room_named, appended_named, room_keeps, emitted_keeps}
 -- a call: where its words stand, and how many they are at most
