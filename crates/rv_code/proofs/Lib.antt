@@ -65,6 +65,7 @@ mod HalfStores
 pub mod NumberRuns
 pub mod NumberSlots
 pub mod OffsetSizes
+pub mod ShortLoads
 pub mod TailRules
 pub mod TailSlots
 mod NumberTests
