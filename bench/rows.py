@@ -32,10 +32,10 @@ say('set f a 3f800000'); say('set f b 40000000')
 say('give bits ffffffff40000000')
 say('step 00b50553', 'Stepped')
 say('show f a', 'ffffffff40000000')
-say('show trace', '1: Float(S, Fadd) avl 0 vtype 0 frm 0 inputs 3f800000 40000000 span')
+say('show trace', '1: Float(S, Fadd) avl 0 vtype 0 frm 0 inputs 3f800000 40000000 span answer bits ffffffff40000000')
 say('show pc', '1004')
 say('step 00b50553', 'NeedsAnswer')
-say('show trace', '1: Float(S, Fadd) avl 0 vtype 0 frm 0 inputs 3f800000 40000000 span')
+say('show trace', '1: Float(S, Fadd) avl 0 vtype 0 frm 0 inputs 3f800000 40000000 span answer bits ffffffff40000000')
 
 # float operations that write an integer register, read one, read three, or none
 say('new')
@@ -46,7 +46,7 @@ for k, (text, dest, inputs, name) in enumerate([
         ('fsqrt.h fa0, fa1', 'f', '7', 'Float(H, Fsqrt)'), ('fsgnj.s fa0, fa1, fa1', 'f', '7 7', 'Float(S, Fsgnj)'), ('fsgnj.d fa0, fa1, fa2', 'f', '7 8', 'Float(D, Fsgnj)')]):
     say('give bits %x' % (0x1230 + k)); step(text)
     say('show %s a' % dest, '%x' % (0x1230 + k))
-    say('show trace', '%d: %s avl 0 vtype 0 frm 0 inputs %s span' % (k + 1, name, inputs))
+    say('show trace', '%d: %s avl 0 vtype 0 frm 0 inputs %s span answer bits %x' % (k + 1, name, inputs, 0x1230 + k))
 
 # exact ones: moves and signs
 say('new')
@@ -122,6 +122,12 @@ conditional(['lr.w a0, (a1)', 'set foreign 3004 5'], True, '0', True)           
 conditional(['lr.w a0, (a1)', 'set foreign 2fff 5'], True, '0', True)
 conditional(['lr.w a0, (a1)', 'amoadd.w a3, zero, (a1)'], True, '0', True)          # this one's own store ends none
 conditional(['amoadd.w a3, zero, (a1)'], True, '1', False)                          # and makes none
+old, new = 0x8877665580443322, 0x0123456789abcdef
+say('set x c %x' % new)
+for width, size, read in (('w', 4, sx(old, 32)), ('d', 8, old)):
+    say('set bytes 3000 %x' % old); step('lr.%s a0, (a1)' % width); say('show x a', '%x' % read)
+    say('give success true'); step('sc.%s a0, a2, (a1)' % width); say('show x a', '0')
+    for k in range(8): say('show byte %x' % (0x3000 + k), '%x' % ((new if k < size else old) >> 8 * k & 255))
 step('lr.w a0, (a1)'); step('sc.w a0, a2, (a1)', 'NeedsAnswer')
 say('give bits 1'); step('sc.w a0, a2, (a1)', 'NeedsAnswer')
 say('show trace', '0')
@@ -132,7 +138,7 @@ for text, old, new in (('csrrw a0, frm, a1', 0, 5), ('csrrs a0, frm, a1', 5, 5),
                        ('csrrci a0, frm, 3', 7, 4)):
     step(text); say('show x a', '%x' % old); say('show frm', '%x' % new)
 say('give bits 9'); step('fadd.d fa0, fa1, fa2')
-say('show trace', '1: Float(D, Fadd) avl 0 vtype 0 frm 4 inputs 0 0 span')
+say('show trace', '1: Float(D, Fadd) avl 0 vtype 0 frm 4 inputs 0 0 span answer bits 9')
 say('decode 00202573', 'Decoded { op: Csr(Csrrs), rd: 10, rs1: 0, rs2: 0, rs3: 0, imm: 0, rm: 0, vm: false, len: 4 }')
 say('decode 00302573', '-')
 
@@ -151,10 +157,11 @@ say('give vectors 20 5'); step('vadd.vv v1, v2, v3', 'NeedsAnswer')             
 say('new'); say('set setting 4 d0')
 for n in range(4): say('set v %x %x' % (n, 0x10 + n))
 say('set x b 44'); say('set f b 55')
+VECTORS = 'vectors 1 ffffffffffffffffffffffffffffff01 4 abc'
 def taken(text, name, inputs, count, span=''):
-    say('give vectors 1 ffffffffffffffffffffffffffffff01 4 abc'); step(text)
+    say('give ' + VECTORS); step(text)
     say('show v 1', 'ffffffffffffffffffffffffffffff01'); say('show v 4', 'abc'); say('set v 1 11'); say('set v 4 0')
-    say('show trace', '%d: %s avl 4 vtype d0 frm 0 inputs %s span%s' % (count, name, inputs, span))
+    say('show trace', '%d: %s avl 4 vtype d0 frm 0 inputs %s span%s answer %s' % (count, name, inputs, span, VECTORS))
 taken('vadd.vv v1, v2, v3', 'Vec { funct6: 0, funct3: 0 }', '13 12 11', 1)
 taken('vadd.vv v1, v2, v3, v0.t', 'Vec { funct6: 0, funct3: 0 }', '13 12 11 10', 2)
 taken('vadd.vx v1, v2, a1', 'Vec { funct6: 0, funct3: 4 }', '44 12 11', 3)
@@ -162,18 +169,18 @@ taken('vadd.vi v1, v2, -3', 'Vec { funct6: 0, funct3: 3 }', '12 11', 4)
 taken('vfadd.vf v1, v2, fa1', 'Vec { funct6: 0, funct3: 5 }', '55 12 11', 5)
 taken('vmul.vx v1, v2, a1', 'Vec { funct6: 37, funct3: 6 }', '44 12 11', 6)
 say('give bits 99'); step('vmv.x.s a0, v2'); say('show x a', '99')
-say('show trace', '7: Vec { funct6: 16, funct3: 2 } avl 4 vtype d0 frm 0 inputs 10 12 0 span')
+say('show trace', '7: Vec { funct6: 16, funct3: 2 } avl 4 vtype d0 frm 0 inputs 10 12 0 span answer bits 99')
 say('give bits 98'); step('vfmv.f.s fa0, v2'); say('show f a', '98')
 say('set bytes 3000 8877665544332211'); say('set bytes 3008 100f0e0d0c0b0a09'); say('set x b 3000')
 taken('vle32.v v1, (a1)', 'VecMem(Vle32)', '3000 11', 9, ' 11 22 33 44 55 66 77 88 9 a b c d e f 10')
 taken('vle8.v v1, (a1), v0.t', 'VecMem(Vle8)', '3000 11 10', 10, ' 11 22 33 44')
 step('vmv2r.v v4, v2'); say('show v 4', '12'); say('show v 5', '13'); step('vmv1r.v v6, v5'); say('show v 6', '13')
-say('show trace', '10: VecMem(Vle8) avl 4 vtype d0 frm 0 inputs 3000 11 10 span 11 22 33 44')
+say('show trace', '10: VecMem(Vle8) avl 4 vtype d0 frm 0 inputs 3000 11 10 span 11 22 33 44 answer ' + VECTORS)
 say('give stored 1 2 3'); step('vse8.v v2, (a1)', 'NeedsAnswer')                    # too few bytes
 say('new'); say('set setting 4 c0'); say('set v 2 12'); say('set x b ffffffffffffffff'); say('set bytes ffffffffffffffff 1111111111111111')
 say('give stored a1 - a3 -'); step('vse8.v v2, (a1)')
 for at, byte in ((M64, 'a1'), (0, '11'), (1, 'a3'), (2, '11')): say('show byte %x' % at, byte)
-say('show trace', '1: VecMem(Vse8) avl 4 vtype c0 frm 0 inputs ffffffffffffffff 12 span')
+say('show trace', '1: VecMem(Vse8) avl 4 vtype c0 frm 0 inputs ffffffffffffffff 12 span answer stored a1 - a3 -')
 say('give length 5'); step('vsetivli a0, 4, e32, m1, ta, ma', 'NeedsAnswer')
 say('new'); say('give length 4'); step('vsetivli a0, 4, e32, m1, ta, ma'); say('show x a', '4'); say('show setting', '4 d0')
 say('give length 1'); step('vsetivli zero, 8, e8, mf8, tu, mu'); say('show setting', '8 5')
@@ -189,7 +196,7 @@ say('decode 02b55553', '-')                                                     
 FADD = '00b50553'
 say('new'); say('set bytes 1000 ' + FADD * 2); say('give bits 1'); say('run 5', '1'); say('show pc', '1004'); say('show f a', '1')
 say('run 5', '0'); say('give success true'); say('run 5', '0'); say('show pc', '1004')
-say('show trace', '1: Float(S, Fadd) avl 0 vtype 0 frm 0 inputs 0 0 span')
+say('show trace', '1: Float(S, Fadd) avl 0 vtype 0 frm 0 inputs 0 0 span answer bits 1')
 say('new'); say('set bytes 1000 ' + FADD * 2); say('give bits 1'); say('give bits 2'); say('give bits 3'); say('run 64', '2')
 say('show pc', '1008'); say('show f a', '2'); say('run 64', '0'); say('show pc', '1008')
 say('new'); say('set bytes 1000 ' + FADD + '00c5a023'); say('set x b 1004'); say('set x c 150513'); say('give bits 4')        # sw a2, 0(a1)
@@ -200,8 +207,8 @@ say('run 9', '2'); say('show pc', '1008'); say('show x a', '1')
 digests = subprocess.run([sys.executable, str(HERE / 'decode.py'), 'digests'], capture_output=True, text=True).stdout
 for line in digests.splitlines():
     kind, *rest = line.split(' ')
-    if kind == 'halves': say('digest halves ' + ' '.join(rest[1:]), rest[0])
-    else: say('digest words %s %x %s' % (rest[0], int(rest[1]), ' '.join(rest[3:])), rest[2])
+    if kind == 'words': say('digest words %s %x %s' % (rest[0], int(rest[1]), ' '.join(rest[3:])), rest[2])
+    else: say(f'digest {kind} ' + ' '.join(rest[1:]), rest[0])
 
 texts = sorted({line[1] for line, _ in lines if isinstance(line, tuple)})
 words = dict(zip(texts, assembled(texts)))

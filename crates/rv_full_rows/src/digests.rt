@@ -39,6 +39,12 @@ fn line_of(alloc: Global, decoded: Option<Decoded>) -> Result<String, OutOfMemor
     }
 }
 
+/// FNV-1a of the line of one word more.
+fn hashed_word(alloc: Global, hash: u64, flags: IsaFlags, word: u32) -> Result<u64, OutOfMemory> {
+    let line = line_of(alloc, decode(flags, word))?;
+    Ok(hashed(hash, line.as_bytes()))
+}
+
 /// The digest over all halfwords.
 pub fn digest_of_halves(alloc: Global, flags: IsaFlags) -> Result<u64, OutOfMemory> {
     let mut hash = 0xcbf29ce484222325;
@@ -87,8 +93,34 @@ pub fn digest_of_words(
         let (second, pick) = next(first);
         let (third, kind) = next(second);
         state = third;
-        let line = line_of(alloc, decode(flags, word_near(random, pick, kind)))?;
-        hash = hashed(hash, line.as_bytes());
+        hash = hashed_word(alloc, hash, flags, word_near(random, pick, kind))?;
+    }
+    Ok(hash)
+}
+
+/// The fields 11:7, 14:12, 19:15, 24:20, 25, 31:20, 31:25 and 31:27 of a word.
+const FIELDS: [u32; 8] = [
+    0x0000_0f80,
+    0x0000_7000,
+    0x000f_8000,
+    0x01f0_0000,
+    0x0200_0000,
+    0xfff0_0000,
+    0xfe00_0000,
+    0xf800_0000,
+];
+
+/// The digest over words in hex and, after each, those that differ from it in one field, which is 0, 1, its top bit alone or all ones.
+pub fn digest_of_edges(alloc: Global, words: &str, flags: IsaFlags) -> Result<u64, OutOfMemory> {
+    let mut hash = 0xcbf29ce484222325;
+    for digits in words.split(' ') {
+        let word = u32::from_str_radix(digits, 16).unwrap_or(0);
+        hash = hashed_word(alloc, hash, flags, word)?;
+        for field in FIELDS {
+            for value in [0, field & !(field << 1), field & !(field >> 1), field] {
+                hash = hashed_word(alloc, hash, flags, (word & !field) | value)?;
+            }
+        }
     }
     Ok(hash)
 }

@@ -2,7 +2,7 @@
 
 ghost use Rattle.std.specs.Prelude.{◌<◌};
 
-use crate::digests::{digest_of_halves, digest_of_words, flags_of};
+use crate::digests::{digest_of_edges, digest_of_halves, digest_of_words, flags_of};
 use rv_base::{List, OutOfMemory};
 use rv_full::{Answer, Entry, FullMachine};
 use rv_machine::decode;
@@ -74,6 +74,38 @@ fn answer_of(alloc: Global, kind: &str, rest: &str) -> Result<Option<Answer>, Ou
     }
 }
 
+/// An answer as a line gives it.
+fn answer_text(alloc: Global, answer: &Answer) -> Result<String, OutOfMemory> {
+    match answer {
+        Answer::Bits(bits) => Ok(format!(in alloc; "bits {bits:x}")?),
+        Answer::Success(success) => Ok(format!(in alloc; "success {success}")?),
+        Answer::Length(length) => Ok(format!(in alloc; "length {length:x}")?),
+        Answer::Stored(bytes) => stored_text(alloc, bytes.as_slice()),
+        Answer::Vectors(registers) => vectors_text(alloc, registers.as_slice()),
+    }
+}
+
+fn stored_text(alloc: Global, bytes: &[Option<u8>]) -> Result<String, OutOfMemory> {
+    let mut text = text_of(alloc, "stored")?;
+    for byte in bytes {
+        let more = match byte {
+            Some(byte) => format!(in alloc; " {byte:x}")?,
+            None => text_of(alloc, " -")?,
+        };
+        text.push_str(more.as_str())?;
+    }
+    Ok(text)
+}
+
+fn vectors_text(alloc: Global, registers: &[(u8, u128)]) -> Result<String, OutOfMemory> {
+    let mut text = text_of(alloc, "vectors")?;
+    for (register, value) in registers {
+        let more = format!(in alloc; " {register:x} {value:x}")?;
+        text.push_str(more.as_str())?;
+    }
+    Ok(text)
+}
+
 fn entry_text(alloc: Global, entry: &Entry) -> Result<String, OutOfMemory> {
     let mut text = format!(in alloc;
         "{:?} avl {} vtype {:x} frm {} inputs",
@@ -88,6 +120,9 @@ fn entry_text(alloc: Global, entry: &Entry) -> Result<String, OutOfMemory> {
         let more = format!(in alloc; " {byte:x}")?;
         text.push_str(more.as_str())?;
     }
+    let answer = answer_text(alloc, &entry.answer)?;
+    text.push_str(" answer ")?;
+    text.push_str(answer.as_str())?;
     Ok(text)
 }
 
@@ -155,6 +190,11 @@ fn digest(alloc: Global, what: &str, rest: &str) -> Result<String, OutOfMemory> 
             let (seed, rest) = split(rest);
             let (count, names) = split(rest);
             let hash = digest_of_words(alloc, number(seed), number(count), flags_of(names))?;
+            Ok(format!(in alloc; "{hash:016x}")?)
+        }
+        "edges" => {
+            let (names, words) = rest.split_once(" of ").unwrap_or((rest, ""));
+            let hash = digest_of_edges(alloc, words, flags_of(names))?;
             Ok(format!(in alloc; "{hash:016x}")?)
         }
         _ => text_of(alloc, "?"),
