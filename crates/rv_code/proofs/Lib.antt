@@ -65,6 +65,7 @@ mod HalfStores
 pub mod NumberRuns
 pub mod NumberSlots
 pub mod OffsetSizes
+pub mod ShortLoads
 pub mod TailRules
 pub mod TailSlots
 mod NumberTests
@@ -90,3 +91,7 @@ pub mod FloatAccessRuns
 pub mod FullStackRuns
 pub mod FullCallRuns
 pub mod FullReturnRuns
+mod IntegerMeaning
+pub mod MeaningAgrees
+mod RowRuns
+pub mod FullInstRuns

@@ -1,5 +1,6 @@
 -- How many bytes loads from the stack have: 28 at most, halves by integer registers among them, whose offset is at most 2^30.
-use Rattle.std.proofs.Common.{◌≡◌, ℕ, ◌+◌, ◌^◌, ◌*◌, ◌≤◌, Bool, true, false, List, [], ◌∷◌, length, Option, Some, None, ℤ, pos, ◌-ℤ◌, arith, ints, lit≤, refl, subst, sym}
+use Rattle.std.proofs.Common.{◌≡◌, ℕ, ◌+◌, ◌^◌, ◌*◌, ◌≤◌, Bool, true, false, List, [], ◌∷◌, length, Option, Some, None, ℤ, pos, ◌-ℤ◌, arith, lit≤, refl, subst, sym}
+use Rattle.std.proofs.lemmas.Int.{ints}
 use Rattle.std.specs.Prelude.{IsSome, ◌==◌, if◌then◌else◌}
 use Rattle.std.specs.List.{AllByRecursion}
 use Rattle.rv_base.specs.declared.call.CallRetPair.{CallRetPair}
