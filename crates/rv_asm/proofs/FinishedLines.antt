@@ -36,7 +36,6 @@ use Rattle.rv_asm.proofs.Images.{placed_at, keeps_outside, is_filled, fields_wit
 use Rattle.rv_asm.proofs.Finish.{bound_place}
 use Rattle.rv_asm.proofs.LinesJoin.{Known, site_of, LineIn, IsThreaded, line_at, threaded_runs}
 use Rattle.rv_asm.proofs.FullRuns.{full_runs}
-use Rattle.rv_asm.proofs.OtherLines.{other_lines, returns_come}
 
 module _ (job : Job) (code : Code) (b : Buffer) (built : LinesStand (context_of job) job.lines code.lines b) (f : IsFinishedTo (shape_of b) code.bytes) (constants : code.constants ≡ f.finishes.put.constants) (relocs : code.relocs ≡ relocs_in (records_of b)) (traps : code.traps ≡ traps_in (records_of b)) (ruled : (i : ℕ) (line : Line) → slice_get job.lines i ≡ Some line → broken_rule (context_of job) line ≡ None) where
   abbrev known : Known
@@ -127,6 +126,4 @@ module _ (job : Job) (code : Code) (b : Buffer) (built : LinesStand (context_of 
   built_runs short end returns fit named = threaded_runs job code known (built_threaded short end returns fit named)
 
   pub built_full_runs : length code.bytes < code_limit → code.end ≡ length (bytes_of b) → code.returns ≡ returns_from job.flags code.lines 0 job.lines → ((i : ℕ) (line : Line) → slice_get job.lines i ≡ Some line → is_stuck job.frame line ≡ false) → ((i : ℕ) (line : Line) → slice_get job.lines i ≡ Some line → AllBound job.lines (named_labels line)) → FullRuns job code
-  built_full_runs short end returns fit named =
-      let threaded = built_threaded short end returns fit named in
-      full_runs job code (threaded_runs job code known threaded) (other_lines job code known threaded) (returns_come job code known threaded) named
+  built_full_runs short end returns fit named = full_runs job code known (built_threaded short end returns fit named)

@@ -39,10 +39,3 @@ mod IslandEnds
 mod FullRuns
 mod OneComes
 mod LinesComeOut
-mod RowLines
-mod UnitLines
-mod FloatLines
-mod FloatMoves
-mod FloatChoices
-mod CallLines
-mod OtherLines

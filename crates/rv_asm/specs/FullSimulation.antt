@@ -1,7 +1,9 @@
 -- What it is for code to run as its job says on the machine with all units: from an entry on, over any number of lines, while the units'
 -- answers are taken in order.
-use Rattle.std.specs.Prelude.{◌≡◌, ℕ, zero, suc, ◌+◌, ◌*◌, ◌<◌, ◌≤◌, ◌⊎◌, ◌||◌, Bool, true, false, List, [], ◌++◌, length, slice_get, slice_index, Some}
+use Rattle.std.specs.Prelude.{◌≡◌, ℕ, zero, suc, ◌+◌, ◌*◌, ◌<◌, ◌≤◌, ◌⊎◌, ◌||◌, ◌&&◌, Bool, true, false, List, [], ◌∷◌, ◌++◌, length, slice_get, slice_index, Some}
+use Rattle.rv_base.specs.declared.frame.FrameLayout.{FrameLayout}
 use Rattle.rv_inst.specs.Context.{context_of}
+use Rattle.rv_inst.specs.Core.{is_integer_line}
 use Rattle.rv_inst.specs.Forms.{IsOwnForm}
 use Rattle.rv_inst.specs.Operands.{Return, return_of}
 use Rattle.rv_inst.specs.declared.code.Code.{Code}
@@ -19,10 +21,20 @@ use Rattle.rv_full.specs.declared.answer.Answer.{Answer}
 use Rattle.rv_full.specs.Steps.{Asks, fiter, fnext}
 use Rattle.rv_full.specs.Units.{FullState, FullValues, IsFullState, values_of}
 use Rattle.rv_full.specs.Vectors.{is_legal}
-use Rattle.rv_asm.specs.FullMeaning.{FullMeaning, SameFull, SameFullBut, meaning_of, all_core}
+use Rattle.rv_code.specs.FullMeaning.{FullMeaning, SameFull, SameFullBut, inst_meaning, of_integers}
 use Rattle.rv_asm.specs.Placed.{Addresses, IsPlaced}
 use Rattle.rv_asm.specs.Reported.{start_of}
 use Rattle.rv_asm.specs.Simulation.{Point, At, Returned, Out, End, Stop, Trapped, InData, Entry, IsBack, IsStopped, Leads, address_of, entry_point, environment_of, exit_from, temporaries_from}
+
+-- what a line means from where it is entered: its instruction's meaning, or, of one that binds a label, that on integers
+abbrev pub meaning_of : Entry → Line → FullMeaning
+meaning_of entry (Put inst) = inst_meaning entry inst
+meaning_of entry (Bind label) = of_integers entry (Bind label)
+
+-- each line is of the integer core, in a frame
+abbrev pub all_core : FrameLayout → List Line → Bool
+all_core frame [] = true
+all_core frame (line ∷ lines) = is_integer_line frame line && all_core frame lines
 
 -- the code of a job, and where it is placed
 pub record Placing : Type 0 where

@@ -17,5 +17,4 @@ pub mod LineRuns
 pub mod FineLines
 pub mod StoredNumbers
 pub mod Users
-pub mod FullMeaning
 pub mod FullSimulation

@@ -13,7 +13,7 @@ use Rattle.rv_inst.specs.Sizes.{operation_of}
 use Rattle.rv_inst.specs.declared.code.Code.{Code}
 use Rattle.rv_inst.specs.declared.code.CallReturn.{CallReturn}
 use Rattle.rv_inst.specs.Operands.{Return, return_of}
-use Rattle.rv_inst.specs.Meaning.{Environment, Exit, Next, To, Leave, Break, Trap, Data, exit_of, return_exit, effect_of, return_effect, writes_of, temporaries_of, AreOutside}
+use Rattle.rv_inst.specs.Meaning.{Environment, Exit, Next, To, Leave, Break, Trap, Data, writes_of, AreOutside}
 use Rattle.rv_machine.specs.State.{State, IsState, Values, AreValues, Memory, wrap}
 use Rattle.rv_base.specs.declared.flags.IsaFlags.{IsaFlags}
 use Rattle.rv_machine.specs.declared.decoding.Decoded.{Decoded}
@@ -21,6 +21,7 @@ use Rattle.rv_machine.specs.Decode.{int_decode}
 use Rattle.rv_machine.specs.Steps.{IsBreak, IsZeroHalf, fetch, iter}
 use Rattle.rv_inst.specs.Forms.{IsOwnForm}
 use Rattle.rv_inst.specs.SameValues.{Same, SameBut}
+pub use Rattle.rv_code.specs.Entries.{Entry, AtStart, AtReturn, effect_from, exit_from, temporaries_from}
 use Rattle.rv_asm.specs.Placed.{Addresses, address_of_name, IsPlaced}
 use Rattle.rv_asm.specs.Reported.{start_of, end_of, binding_line, label_start}
 
@@ -62,27 +63,10 @@ environment_of job code base symbols slots i = record { start = wrap (base + sta
 abbrev pub WritesOutside : Job → Code → ℕ → Addresses → Addresses → ℕ → Line → Values → Type 0
 WritesOutside job code base symbols slots i line v = AreOutside base (length code.bytes) (writes_of (environment_of job code base symbols slots i) line v)
 
--- a line is entered at its start, or, where it is a call, where that returns
-pub data Entry : Type 0 where
-  AtStart : Entry
-  AtReturn : Entry
-
+-- the point where a line is entered
 abbrev pub entry_point : Entry → ℕ → Point
 entry_point AtStart i = At i
 entry_point AtReturn i = Returned i
-
--- what a line makes of the values from there, how it is left, and which registers may hold anything then
-abbrev pub effect_from : Entry → Environment → Line → Values → Values
-effect_from AtStart env line v = effect_of env line v
-effect_from AtReturn env line v = return_effect env line v
-
-abbrev pub exit_from : Entry → Environment → Line → Values → Exit
-exit_from AtStart env line v = exit_of env line v
-exit_from AtReturn env line v = return_exit line
-
-abbrev pub temporaries_from : Entry → Line → List ℕ
-temporaries_from AtStart line = temporaries_of line
-temporaries_from AtReturn line = []
 
 -- one line of the integer core at once, from a point and values to a point and values; the line's temporaries may hold anything after it
 pub record OneLine (job : Job) (code : Code) (base : ℕ) (symbols slots : Addresses) (p : Point) (v : Values) (q : Point) (w : Values) : Type 0 where

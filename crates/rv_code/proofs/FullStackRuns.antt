@@ -87,7 +87,7 @@ in_course k = record { here = k.here; is_state = k.is_state.state; values = k.in
 pub ends_by : {site : Site} {start after offset size : ℕ} {exit : Exit} {made : FullValues} {b : FullState} (c : FullComes site offset size made b) → ComesOut site start after exit [] made.ints c.state.state → FullEnds site start after exit [] made [] b
 ends_by c out = record { steps = c.steps; state = c.state; ran = c.ran; last = out; units = c.course.units; is_state = c.course.is_state; answers = c.answers; setting = c.setting }
 
-pub ends_at_once : {site : Site} {start after : ℕ} {exit : Exit} {b : FullState} {w : Values} (v : FullValues) → v.units ≡ b.units → IsFullState b → ComesOut site start after exit [] w b.state → FullEnds site start after exit [] (with_ints w v) [] b
+pub ends_at_once : {site : Site} {start after : ℕ} {exit : Exit} {free : List ℕ} {b : FullState} {w : Values} (v : FullValues) → v.units ≡ b.units → IsFullState b → ComesOut site start after exit free w b.state → FullEnds site start after exit free (with_ints w v) [] b
 ends_at_once {site} {b = b} v units full out = record { steps = 0; state = b; ran = fiter_none site.context.flags b; last = out; units = units; is_state = full; answers = refl; setting = refl }
 
 -- ---- what loads leave

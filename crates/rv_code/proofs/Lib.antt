@@ -91,3 +91,7 @@ pub mod FloatAccessRuns
 pub mod FullStackRuns
 pub mod FullCallRuns
 pub mod FullReturnRuns
+mod IntegerMeaning
+pub mod MeaningAgrees
+mod RowRuns
+pub mod FullInstRuns

@@ -76,7 +76,7 @@ row_comes pc w (Does x) (Does y) answers r fit = inl (record { took = []; left =
 row_comes pc w (Does x) (Takes l g) answers r fit = absurd r
 row_comes pc w (Takes k f) Absent answers r fit = absurd r
 row_comes pc w (Takes k f) (Does y) answers r fit = absurd r
-row_comes pc w (Takes k f) (Takes l g) [] r fit = inr (record { kind = k; gives = f; takes = refl; asks = refl })
+row_comes pc w (Takes k f) (Takes l g) [] r fit = inr (record { kind = k; gives = f; takes = refl; lacks = refl; asks = refl })
 row_comes pc w (Takes k f) (Takes l g) (a ∷ more) r fit = on (fits k a) refl
   where
     next : (c : Bool) → fits k a ≡ c → row_next pc (Takes l g) (a ∷ more) ≡ (if c then Goes (full_at pc (g a) more) else Asks)
@@ -84,7 +84,7 @@ row_comes pc w (Takes k f) (Takes l g) (a ∷ more) r fit = on (fits k a) refl
 
     on : (c : Bool) → fits k a ≡ c → RowGoes pc w (Takes k f) (Takes l g) (a ∷ more) ⊎ RowAsks pc (Takes k f) (Takes l g) (a ∷ more)
     on true e = inl (record { took = a ∷ []; left = more; made = f a; after = g a; parted = refl; takes = ap (λ t. if t then Some (f a, []) else None) e; next = next true e; agree = r.1 a e fit.0; fit = fit.1 })
-    on false e = inr (record { kind = k; gives = f; takes = refl; asks = next false e })
+    on false e = inr (record { kind = k; gives = f; takes = refl; lacks = ap (λ t. if t then Some (f a, more) else None) e; asks = next false e })
 
 -- ---- registers
 

@@ -1,4 +1,4 @@
--- What it is for an instruction to run as it means on the machine with all units where its last words are integer words: links of the proof.
+-- What it is for an instruction to come out on the machine with all units: its last words, or none, are integer words.
 use Rattle.std.specs.Prelude.{◌≡◌, ℕ, ◌++◌, List, Some}
 use Rattle.rv_full.specs.declared.answer.Answer.{Answer}
 use Rattle.rv_full.specs.Steps.{fiter}
@@ -7,8 +7,8 @@ use Rattle.rv_inst.specs.Meaning.{Exit}
 use Rattle.rv_code.specs.InstRuns.{ComesOut}
 use Rattle.rv_code.specs.Sites.{Site}
 
--- In some steps the machine comes to where the integer words that are left come out at an exit, with values that are these, declared
--- temporaries apart. It took these answers, and left the setting.
+-- In some steps the machine comes to where the integer words that are left come out at an exit, as they do on the integer machine, with
+-- values that are these, declared temporaries apart. It took these answers, and left the setting.
 pub record FullEnds (site : Site) (start after : ℕ) (exit : Exit) (free : List ℕ) (made : FullValues) (took : List Answer) (b : FullState) : Type 0 where
   pub steps : ℕ
   pub state : FullState

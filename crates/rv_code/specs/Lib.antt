@@ -20,3 +20,6 @@ pub mod FullValues
 pub mod FullReturns
 pub mod FullEnds
 pub mod UnitRuns
+pub mod Entries
+pub mod FullMeaning
+pub mod FullInstRuns

@@ -1,5 +1,5 @@
 -- What it is for a unit's operation to do the same on the machine and on values of the listing: links of the proof.
-use Rattle.std.specs.Prelude.{◌≡◌, ℕ, ◌+◌, ◌<◌, ◌≤◌, true, List, [], ◌∷◌, ◌++◌, Some}
+use Rattle.std.specs.Prelude.{◌≡◌, ℕ, ◌+◌, ◌<◌, true, List, [], ◌∷◌, ◌++◌, Some, None}
 use Rattle.std.specs.List.{AllByRecursion}
 use Rattle.rv_base.specs.declared.regs.RegClass.{RegClass}
 use Rattle.rv_base.specs.declared.regs.RegClass.TheVariants.{Int, Float, Vector}
@@ -100,6 +100,7 @@ pub record RowAsks (pc : ℕ) (x y : Row) (answers : List Answer) : Type 0 where
   pub kind : Kind
   pub gives : Answer → FullValues
   pub takes : x ≡ Takes kind gives
+  pub lacks : row_takes x answers ≡ None
   pub asks : row_next pc y answers ≡ Asks
 
 -- In some steps the machine with all units comes to the end of an instruction's parts, with values that are these, declared temporaries

@@ -27,6 +27,7 @@ use Rattle.rv_code.specs.InstParts.{parts_of}
 use Rattle.rv_code.specs.Sites.{Site, PartsStand}
 use Rattle.rv_code.specs.declared.state.EmitVState.{EmitVState}
 use Rattle.rv_code.proofs.CallRuns.{inst_resumes}
+use Rattle.rv_code.proofs.FullInstRuns.{resumes_fully, runs_fully}
 use Rattle.rv_code.proofs.InstRuns.{inst_runs}
 use Rattle.rv_code.proofs.OneOperations.{reads_operation}
 use Rattle.rv_emit.specs.Emission.{EmitsIn}
@@ -71,13 +72,15 @@ module _ (setting : EmitVState) (inst : Inst) (start end : ℕ) (f : Shape Label
   parts_run = record {
     run = λ s v core placed pc is_state are_values same outside. (inst_runs site setting inst core rule restores).run start end s v (record { even = even; within = stand.3; short = short; labels = bound; stands = stand.0; placed = placed; pc = pc; is_state = is_state; are_values = are_values; same = same }) outside;
     back = λ r s v core is placed pc is_state are_values same. (inst_resumes site setting inst r core rule is).run start end s v (record { even = even; within = stand.3; short = short; stands = stand.0; placed = placed; pc = pc; is_state = is_state; are_values = are_values; same = same });
+    full = runs_fully site setting inst start end rule even stand.3 short bound stand.0 restores;
+    full_back = resumes_fully site setting inst start end rule even stand.3 short bound stand.0;
     reads = λ d mem is placed. reads_operation site start d setting inst end is stand.0 mem placed;
   }
 
 -- whatever map a call records, it runs as it means
 runs_given : (map : Option UserStackMap) (site : Site) (inst : Inst) (start end : ℕ) → RunsBetween site (with_map map inst) start end → RunsBetween site inst start end
-runs_given map site (Call info) start end h = record { run = h.run; back = h.back; reads = h.reads }
-runs_given map site (CallInd info) start end h = record { run = h.run; back = h.back; reads = h.reads }
+runs_given map site (Call info) start end h = record { run = h.run; back = h.back; full = h.full; full_back = h.full_back; reads = h.reads }
+runs_given map site (CallInd info) start end h = record { run = h.run; back = h.back; full = h.full; full_back = h.full_back; reads = h.reads }
 runs_given map site inst start end h = h
 
 constant_given : (map : Option UserStackMap) (inst : Inst) → inst_constant (with_map map inst) ≡ inst_constant inst

@@ -53,18 +53,8 @@ pub use Rattle.rv_emit.proofs.Fields.{ends_later, clear_there, slot_fields_end}
 pub use Rattle.rv_emit.proofs.PlacedBytes.{window_byte, window_length}
 -- the operation of an instruction of one machine word, where it starts, in its own form
 pub use Rattle.rv_code.proofs.OneOperations.{IsAlone, one_slot, stands_alone, has_operation, reads_operation}
--- a step at a unit's operation, and what it does
-pub use Rattle.rv_code.proofs.UnitRuns.{fiter_one, unit_next_at, row_comes, shape_agrees}
--- a choice of registers of any class
-pub use Rattle.rv_code.proofs.FullChoices.{full_select}
-pub use Rattle.rv_code.proofs.UnitRules.{are_usable_in}
-pub use Rattle.rv_code.proofs.AddressOperands.{full_load_kept, full_store_kept}
-pub use Rattle.rv_code.proofs.FloatAccessRuns.{full_load, full_store}
--- registers of both files that come from the stack
-pub use Rattle.rv_code.proofs.FullStackRuns.{left_integers, loaded_integers}
-pub use Rattle.rv_code.proofs.FullCallRuns.{call_starts, full_resumes}
-pub use Rattle.rv_code.proofs.FullReturnRuns.{full_leaves}
-pub use Rattle.rv_code.proofs.AccessRows.{not_true}
-pub use Rattle.rv_code.proofs.UnitWordRuns.{IsUnitOperation, parts_are, unit_operation}
+-- an instruction on the machine with all units; and in environments that agree
+pub use Rattle.rv_code.proofs.FullInstRuns.{inst_full_runs, inst_full_resumes}
+pub use Rattle.rv_code.proofs.MeaningAgrees.{MeansSame, meaning_agrees}
 -- how long the operations of a jump by a register are
 pub use Rattle.rv_code.proofs.ShortOps.{jalr_sized}

@@ -21,6 +21,8 @@ use Rattle.mach_buffer.specs.Buffer.{shape_of, bytes_of, place_of, labels_of, re
 use Rattle.mach_buffer.specs.Constants.{AllStand}
 use Rattle.mach_buffer.specs.Growth.{Lasts}
 use Rattle.mach_buffer.specs.Shape.{Shape}
+use Rattle.rv_code.specs.Entries.{AtReturn, AtStart}
+use Rattle.rv_code.specs.FullInstRuns.{RunsFully}
 use Rattle.rv_code.specs.InstRuns.{ComesOut, environment}
 use Rattle.rv_code.specs.Sites.{Site, IsPlacedAt, LeadsOn}
 use Rattle.rv_emit.specs.Emitted.{Buffer, IsSoundBuffer, HasWindows}
@@ -48,11 +50,15 @@ pub record HasCode (context : Context) (f : Shape LabelUse) (site : Site) : Type
   pub keeps : KeepsOutside site bytes
   pub filled : IsFilled site bytes
 
--- Where the instruction is of the integer core: from the first of two offsets, and from where a call returns, the machine comes out as the
--- instruction means, where that writes on no byte of the code; and where one operation stands for it, that is read at the first offset.
+-- From the first of two offsets, and from where a call returns, on the machine with all units: the machine comes out as the instruction means
+-- with the answers that it took, or asks for one that its meaning takes. Where the instruction is of the integer core, the integer machine
+-- comes out as it means. That is where it writes on no byte of the code. And where one operation stands for it, that is read at the first
+-- offset.
 pub record RunsBetween (site : Site) (inst : Inst) (start end : ℕ) : Type 0 where
   pub run : (s : State) (v : Values) → is_integer_in site.context.frame inst ≡ true → IsPlacedAt site s.values.mem → s.pc ≡ wrap (site.base + start) → IsState s → AreValues v → Same v s.values → AreOutside site.base (length site.bytes) (inst_writes (environment site start end) inst v) → ComesOut site start end (inst_exit (environment site start end) inst v) (inst_temporaries inst) (inst_effect (environment site start end) inst v) s
   pub back : (r : Return) (s : State) (v : Values) → is_integer inst ≡ true → return_of site.context.flags inst ≡ Some r → IsPlacedAt site s.values.mem → s.pc ≡ wrap (site.base + (start + r.offset)) → IsState s → AreValues v → Same v s.values → ComesOut site start end (try_exit (try_call_of inst)) [] (resumed r v) s
+  pub full : RunsFully site start end inst AtStart start
+  pub full_back : (r : Return) → return_of site.context.flags inst ≡ Some r → RunsFully site start end inst AtReturn (start + r.offset)
   pub reads : (d : Decoded) (mem : Memory) → operation_of site.context inst ≡ Some d → IsPlacedAt site mem → decode site.context.flags (fetch mem (site.base + start)) ≡ Some d
 
 -- What was put between the ends of two buffers runs so wherever the second one's code is finished, with what came after it; what stood

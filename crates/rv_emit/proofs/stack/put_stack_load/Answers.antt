@@ -21,5 +21,5 @@ pub returns-else-has_load-clause-slots : goal.returns-else-has_load-clause-slots
 returns-else-has_load-clause-slots c =
     on_ok_weaker c.put_half_load.result
     (λ p. load_line_put (number_of c.args.rd.reg) c.args.op None (Based 2 c.args.offset) false c.args.sink.now c.put_half_load.new.sink (sym c.has_load.ensures ∙ c.if-has_load.false)
-    (subst (λ n. PutsAlone c.args.flags (half_load_slots c.args.flags (number_of c.args.rd.reg) None (Based n c.args.offset)) c.args.sink.now c.put_half_load.new.sink) (real_number c.stack_reg-2.result _ 2 c.stack_reg-2.ensures) p))
+    (subst (λ n. PutsAlone c.args.flags (half_load_slots c.args.flags (number_of c.args.rd.reg) None (Based n c.args.offset)) c.args.sink.now c.put_half_load.new.sink) (real_number c.stack_reg-else-has_load.result _ 2 c.stack_reg-else-has_load.ensures) p))
     (rw (to_z-of_z w64 c.args.offset c.ranges.offset) at c.put_half_load.ensures.slots)

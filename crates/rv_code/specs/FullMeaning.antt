@@ -1,20 +1,18 @@
--- What a line means on the machine with all units: what it makes of the values with the units' answers. Each family of instructions is
--- a case: those of integers take no answer, and leave the units as they were; a float operation does what its row does. A load or a store
--- of a floating-point register takes no answer either, nor does a call, whose results and restored registers are of both files. A move of a
--- floating-point register does what its operation's row does, and a choice copies its registers exactly, of any class.
-use Rattle.std.specs.Prelude.{ℕ, ◌&&◌, Bool, true, if◌then◌else◌, List, [], ◌∷◌, Option, Some, None}
+-- What an instruction means on the machine with all units: what it makes of the values with the units' answers. Each family of
+-- instructions is a case: those of integers take no answer, and leave the units as they were; a float operation does what its row does. A
+-- load or a store of a floating-point register takes no answer either, nor does a call, whose results and restored registers are of both
+-- files. A move of a floating-point register does what its operation's row does, and a choice copies its registers exactly, of any class.
+use Rattle.std.specs.Prelude.{ℕ, if◌then◌else◌, List, [], Option, Some, None}
 use Rattle.rv_base.specs.declared.amode.AMode.{AMode}
-use Rattle.rv_base.specs.declared.frame.FrameLayout.{FrameLayout}
 use Rattle.rv_base.specs.declared.regs.Reg.{Reg}
 use Rattle.rv_base.specs.Regs.{number_of}
 use Rattle.rv_inst.specs.Context.{context_by}
-use Rattle.rv_inst.specs.Core.{is_integer_line}
 use Rattle.rv_inst.specs.declared.inst.Family.{Family}
 use Rattle.rv_inst.specs.declared.inst.Family.TheVariants.{Pseudo, Integer, Memory, Control, Loop, Symbols, Calls, Float}
 use Rattle.rv_inst.specs.declared.inst.Inst.{Inst}
 use Rattle.rv_inst.specs.declared.inst.Inst.TheVariants.{Load, Store, Mov, Select}
 use Rattle.rv_inst.specs.declared.inst.Line.{Line}
-use Rattle.rv_inst.specs.declared.inst.Line.TheVariants.{Inst as Put, Bind}
+use Rattle.rv_inst.specs.declared.inst.Line.TheVariants.{Inst as Put}
 use Rattle.rv_inst.specs.Families.{family_of}
 use Rattle.rv_inst.specs.Meaning.{Environment, address_of, addresses_from, writes_of, inst_effect}
 use Rattle.rv_inst.specs.declared.inst.SelectInfo.{SelectInfo}
@@ -32,11 +30,11 @@ use Rattle.rv_full.specs.Units.{FullValues}
 pub use Rattle.rv_code.specs.FloatAccesses.{float_loaded, float_stored}
 pub use Rattle.rv_code.specs.FullValues.{SameFull, SameFullBut, chosen}
 pub use Rattle.rv_code.specs.FullReturns.{full_left, full_resumed, with_ints}
-use Rattle.rv_asm.specs.Simulation.{Entry, AtStart, AtReturn, effect_from}
+use Rattle.rv_code.specs.Entries.{Entry, AtStart, AtReturn, effect_from}
 
--- What a line means from where it is entered: the values that come of values and answers, with the answers that are left; the addresses
--- of the bytes that it writes with these answers; how many answers its own operations take; and which of those that the machine took in
--- it are theirs.
+-- What a line, or an instruction, means from where it is entered: the values that come of values and answers, with the answers that are
+-- left; the addresses of the bytes that it writes with these answers; how many answers its own operations take; and which of those that
+-- the machine took in it are theirs.
 pub record FullMeaning : Type 0 where
   pub takes : Environment → FullValues → List Answer → Option (FullValues × List Answer)
   pub writes : Environment → FullValues → List Answer → List ℕ
@@ -170,11 +168,5 @@ meaning_by Symbols entry inst = of_integers entry (Put inst)
 meaning_by Calls entry inst = of_call entry inst
 meaning_by Float entry inst = of_unit entry inst
 
-abbrev pub meaning_of : Entry → Line → FullMeaning
-meaning_of entry (Put inst) = meaning_by (family_of inst) entry inst
-meaning_of entry (Bind label) = of_integers entry (Bind label)
-
--- each line is of the integer core, in a frame
-abbrev pub all_core : FrameLayout → List Line → Bool
-all_core frame [] = true
-all_core frame (line ∷ lines) = is_integer_line frame line && all_core frame lines
+abbrev pub inst_meaning : Entry → Inst → FullMeaning
+inst_meaning entry inst = meaning_by (family_of inst) entry inst
