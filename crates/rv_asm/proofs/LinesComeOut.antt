@@ -22,8 +22,8 @@ use Rattle.rv_full.specs.Units.{FullState, FullValues, put}
 use Rattle.rv_full.specs.Vectors.{is_legal}
 use Rattle.rv_full.proofs.LargerMachine.{integer_run}
 use Rattle.rv_full.proofs.Runs.{fiter_after, fiter_none}
-use Rattle.rv_code.specs.FullEnds.{FullEnds}
-use Rattle.rv_code.specs.FullInstRuns.{ComesFully}
+use Rattle.rv_code.specs.FullEnds.{EndsAsMeant, FullEnds}
+use Rattle.rv_code.specs.FullInstRuns.{FullyAsks}
 use Rattle.rv_code.specs.FullMeaning.{FullMeaning, inst_meaning}
 use Rattle.rv_code.specs.InstParts.{parts_of}
 use Rattle.rv_code.specs.InstRuns.{Resumes, environment}
@@ -153,7 +153,7 @@ module _ (job : Job) (code : Code) (known : Known) (t : IsThreaded job code know
         means : MeansSame m own env v
         means = meaning_agrees v AtStart inst agree
 
-        led : ComesFully site start end m (inst_exit own inst v.ints) (inst_temporaries inst) v b → OneComes placing (At i) v b
+        led : EndsAsMeant site start end m (inst_exit own inst v.ints) (inst_temporaries inst) v b ⊎ FullyAsks site start end m v b → OneComes placing (At i) v b
         led (inl o) = inl (led_out job code known t base symbols slots i (Put inst) v b AtStart listed s (inst_exit own inst v.ints) (sym (exit_agrees (Put inst) v.ints agree)) (exit_bound job.lines own (Put inst) v.ints (t.named i (Put inst) listed)) o.ends (sym (means.takes (m.own_of o.took)) ∙ o.takes))
         led (inr a) = inr (inl (record { there = there; steps = a.steps; state = a.state; ran = a.ran; asks = a.asks; took = a.took; answers = a.answers; few = subst (λ n. length a.took < 2 * n) means.own a.few }))
 

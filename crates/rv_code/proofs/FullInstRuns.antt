@@ -1,6 +1,6 @@
 -- Every instruction that breaks no rule runs as it means on the machine with all units, wherever its parts stand in finished code: from its
 -- start, and from where a call returns.
-use Rattle.std.proofs.Common.{◌≡◌, ℕ, ◌+◌, ◌%◌, ◌<◌, ◌≤◌, Bool, true, false, List, [], length, Option, Some, None, arith, refl, sym, ap, subst, ◌∙◌, inl}
+use Rattle.std.proofs.Common.{◌≡◌, ℕ, ◌+◌, ◌%◌, ◌<◌, ◌≤◌, Bool, true, false, List, [], length, Option, Some, None, arith, refl, sym, ap, subst, ◌∙◌, inl, inr}
 use Rattle.std.specs.Prelude.{◌&&◌, if◌then◌else◌, is_some, not}
 use Rattle.rv_base.specs.LabelUse.{code_limit}
 use Rattle.rv_base.specs.declared.amode.AMode.{AMode}
@@ -16,7 +16,7 @@ use Rattle.rv_ops.specs.Memory.{load_format, store_format}
 use Rattle.rv_inst.specs.Core.{is_integer, is_integer_family, is_integer_in, restores_float}
 use Rattle.rv_inst.specs.Families.{family_of}
 use Rattle.rv_inst.specs.Frames.{is_bad_frame_for}
-use Rattle.rv_inst.specs.Meaning.{AreOutside, Environment, Next, inst_effect, inst_exit, inst_writes, try_exit}
+use Rattle.rv_inst.specs.Meaning.{AreOutside, Environment, Exit, Next, inst_effect, inst_exit, inst_writes, try_exit}
 use Rattle.rv_inst.specs.Operands.{Return, inst_temporaries, is_float, operands_of, return_of, tail_call_of, try_call_of}
 use Rattle.rv_inst.specs.Rules.{inst_rule}
 use Rattle.rv_inst.specs.declared.inst.Family.TheVariants.{Calls}
@@ -26,11 +26,13 @@ use Rattle.rv_inst.specs.declared.inst.Line.TheVariants.{Inst as Put}
 use Rattle.rv_inst.specs.declared.inst.SelectInfo.{SelectInfo}
 use Rattle.rv_inst.specs.declared.tail_calls.TailCall.{TailCall}
 use Rattle.rv_inst.proofs.UnitWords.{is_unit}
-use Rattle.rv_full.specs.Units.{FullState, FullValues, IsFullState, values_of}
+use Rattle.rv_full.specs.Units.{FullState, FullValues, IsFullState, put, values_of}
+use Rattle.rv_full.proofs.LargerMachine.{integer_run}
+use Rattle.rv_full.proofs.Runs.{fiter_after}
 use Rattle.rv_code.specs.declared.state.EmitVState.{EmitVState}
 use Rattle.rv_code.specs.Entries.{AtReturn, AtStart}
-use Rattle.rv_code.specs.FullEnds.{FullEnds}
-use Rattle.rv_code.specs.FullInstRuns.{FullyOut, RunsFully}
+use Rattle.rv_code.specs.FullEnds.{EndsAsMeant, FullEnds}
+use Rattle.rv_code.specs.FullInstRuns.{ComesFully, FullyOut, RunsFully}
 use Rattle.rv_code.specs.FullMeaning.{FullMeaning, call_returned, call_started, full_left, full_resumed, inst_meaning, meaning_by, of_access, of_choice, of_float_load, of_float_store, of_integers, with_ints}
 use Rattle.rv_code.specs.FullValues.{SameFull}
 use Rattle.rv_code.specs.InstParts.{parts_of}
@@ -195,7 +197,7 @@ inst_full_runs {site} {start} {after} {v} {b} setting inst rule restores e same 
 
 -- ---- from where it returns
 
-pub inst_full_resumes : {site : Site} {start after : ℕ} {v : FullValues} {b : FullState} (setting : EmitVState) (inst : Inst) (r : Return) → inst_rule site.context inst ≡ None → return_of site.context.flags inst ≡ Some r → ((label at : ℕ) → site.place label ≡ Some at → at ≤ length site.bytes) → Resumes site start after (start + r.offset) (parts_of site.context setting inst) b.state v.ints → SameFull v (values_of b) → IsFullState b → FullyOut site start after (inst_meaning AtReturn inst) (try_exit (try_call_of inst)) [] v b
+pub inst_full_resumes : {site : Site} {start after : ℕ} {v : FullValues} {b : FullState} (setting : EmitVState) (inst : Inst) (r : Return) → inst_rule site.context inst ≡ None → return_of site.context.flags inst ≡ Some r → ((label at : ℕ) → site.place label ≡ Some at → at ≤ length site.bytes) → Resumes site start after (start + r.offset) (parts_of site.context setting inst) b.state v.ints → SameFull v (values_of b) → IsFullState b → EndsAsMeant site start after (inst_meaning AtReturn inst) (try_exit (try_call_of inst)) [] v b
 inst_full_resumes {site} {start} {after} {v} {b} setting inst r rule is labels e same full = record {
   took = [];
   made = full_resumed r v;
@@ -205,9 +207,35 @@ inst_full_resumes {site} {start} {after} {v} {b} setting inst r rule is labels e
 
 -- ---- both, of an instruction whose parts stand in the code
 
+-- its last integer words run on this machine, too
+out_fully : {site : Site} {start after : ℕ} {m : FullMeaning} {exit : Exit} {free : List ℕ} {v : FullValues} {b : FullState} → EndsAsMeant site start after m exit free v b → FullyOut site start after m exit free v b
+out_fully {site} {b = b} h =
+    let g = h.ends in
+    let out = g.last in
+    record {
+      steps = out.steps + g.steps;
+      state = put out.state g.state;
+      moved = let moved = out.moved in omega arith;
+      ran = fiter_after site.context.flags out.steps g.steps b g.state g.ran ∙ integer_run site.context.flags out.steps out.state g.state out.ran;
+      arrives = out.arrives;
+      took = h.took;
+      answers = g.answers;
+      made = h.made;
+      takes = h.takes;
+      same = record { ints = out.same; units = g.units };
+      is_state = record { state = out.is_state; units = g.is_state.units; answers = g.is_state.answers };
+      are_values = out.are_values;
+      setting = g.setting;
+      placed = out.placed;
+    }
+
+come_fully : {site : Site} {start after : ℕ} {v : FullValues} {b : FullState} (inst : Inst) → ComesAsMeant site start after inst v b → ComesFully site start after (inst_meaning AtStart inst) (inst_exit (environment site start after) inst v.ints) (inst_temporaries inst) v b
+come_fully inst (inl out) = inl (out_fully out)
+come_fully inst (inr asks) = inr asks
+
 module _ (site : Site) (setting : EmitVState) (inst : Inst) (start after : ℕ) (rule : inst_rule site.context inst ≡ None) (even : start % 2 ≡ 0) (within : after ≤ length site.bytes) (short : length site.bytes < code_limit) (labels : (label at : ℕ) → site.place label ≡ Some at → at ≤ length site.bytes) (stands : PartsStand site start after (parts_of site.context setting inst)) where
   pub runs_fully : is_bad_frame_for site.context.frame (tail_call_of inst) ≡ false → RunsFully site start after inst AtStart start
-  runs_fully restores v b a clear = inst_full_runs setting inst rule restores (record { even = even; within = within; short = short; labels = labels; stands = stands; placed = a.placed; pc = a.pc; is_state = a.is_state.state; are_values = a.are_values; same = a.same.ints }) a.same a.is_state clear
+  runs_fully restores v b a clear = come_fully inst (inst_full_runs setting inst rule restores (record { even = even; within = within; short = short; labels = labels; stands = stands; placed = a.placed; pc = a.pc; is_state = a.is_state.state; are_values = a.are_values; same = a.same.ints }) a.same a.is_state clear)
 
   pub resumes_fully : (r : Return) → return_of site.context.flags inst ≡ Some r → RunsFully site start after inst AtReturn (start + r.offset)
-  resumes_fully r is v b a clear = inl (inst_full_resumes setting inst r rule is labels (record { even = even; within = within; short = short; stands = stands; placed = a.placed; pc = a.pc; is_state = a.is_state.state; are_values = a.are_values; same = a.same.ints }) a.same a.is_state)
+  resumes_fully r is v b a clear = inl (out_fully (inst_full_resumes setting inst r rule is labels (record { even = even; within = within; short = short; stands = stands; placed = a.placed; pc = a.pc; is_state = a.is_state.state; are_values = a.are_values; same = a.same.ints }) a.same a.is_state))

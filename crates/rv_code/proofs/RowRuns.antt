@@ -38,8 +38,8 @@ use Rattle.rv_code.specs.declared.state.EmitVState.{EmitVState}
 use Rattle.rv_code.specs.Chains.{IsAt}
 use Rattle.rv_code.specs.Choices.{move_action, move_pieces}
 use Rattle.rv_code.specs.Entries.{AtStart}
-use Rattle.rv_code.specs.FullEnds.{FullEnds}
-use Rattle.rv_code.specs.FullInstRuns.{ComesFully, FullyAsks, FullyOut}
+use Rattle.rv_code.specs.FullEnds.{EndsAsMeant, FullEnds}
+use Rattle.rv_code.specs.FullInstRuns.{FullyAsks}
 use Rattle.rv_code.specs.FullMeaning.{FullMeaning, answers_of, inst_meaning, meaning_by, move_row, of_float_move, of_integers, operation_row}
 use Rattle.rv_code.specs.FullValues.{SameFull}
 use Rattle.rv_code.specs.InstParts.{access_slots, parts_of, slots_alone, unit_parts}
@@ -56,12 +56,13 @@ use Rattle.rv_code.proofs.UnitRules.{are_usable_in}
 use Rattle.rv_code.proofs.UnitRuns.{fiter_one, row_comes, shape_agrees, unit_next_at}
 use Rattle.rv_code.proofs.UnitWordRuns.{parts_are, unit_operation}
 
--- what the machine with all units comes out with that goes on to the next instruction
-abbrev pub ComesAsMeant : Site → ℕ → ℕ → Inst → FullValues → FullState → Type 0
-ComesAsMeant site start after inst v b = ComesFully site start after (inst_meaning AtStart inst) (inst_exit (environment site start after) inst v.ints) (inst_temporaries inst) v b
-
+-- the machine with all units comes out of an instruction, from its start, as that means
 abbrev pub OutAsMeant : Site → ℕ → ℕ → Inst → FullValues → FullState → Type 0
-OutAsMeant site start after inst v b = FullyOut site start after (inst_meaning AtStart inst) (inst_exit (environment site start after) inst v.ints) (inst_temporaries inst) v b
+OutAsMeant site start after inst v b = EndsAsMeant site start after (inst_meaning AtStart inst) (inst_exit (environment site start after) inst v.ints) (inst_temporaries inst) v b
+
+-- or it asks for an answer
+abbrev pub ComesAsMeant : Site → ℕ → ℕ → Inst → FullValues → FullState → Type 0
+ComesAsMeant site start after inst v b = OutAsMeant site start after inst v b ⊎ FullyAsks site start after (inst_meaning AtStart inst) v b
 
 -- where the parts end, it is out
 pub out_at_end : {site : Site} {after : ℕ} {made : FullValues} {took : List Answer} {b : FullState} (start : ℕ) (inst : Inst) (v : FullValues) → FullComesOut site after (inst_temporaries inst) made took b → inst_exit (environment site start after) inst v.ints ≡ Next → (inst_meaning AtStart inst).takes (environment site start after) v ((inst_meaning AtStart inst).own_of took) ≡ Some (made, []) → OutAsMeant site start after inst v b

@@ -1,10 +1,12 @@
--- What it is for an instruction to come out on the machine with all units: its last words, or none, are integer words.
-use Rattle.std.specs.Prelude.{◌≡◌, ℕ, ◌++◌, List, Some}
+-- What it is for an instruction to come out on the machine with all units where its last words, if any, are integer words: links of the
+-- proof.
+use Rattle.std.specs.Prelude.{◌≡◌, ℕ, ◌++◌, List, [], Some}
 use Rattle.rv_full.specs.declared.answer.Answer.{Answer}
 use Rattle.rv_full.specs.Steps.{fiter}
 use Rattle.rv_full.specs.Units.{FullState, FullValues, IsFullState}
 use Rattle.rv_inst.specs.Meaning.{Exit}
-use Rattle.rv_code.specs.InstRuns.{ComesOut}
+use Rattle.rv_code.specs.FullMeaning.{FullMeaning}
+use Rattle.rv_code.specs.InstRuns.{ComesOut, environment}
 use Rattle.rv_code.specs.Sites.{Site}
 
 -- In some steps the machine comes to where the integer words that are left come out at an exit, as they do on the integer machine, with
@@ -18,3 +20,10 @@ pub record FullEnds (site : Site) (start after : ℕ) (exit : Exit) (free : List
   pub is_state : IsFullState state
   pub answers : b.answers ≡ took ++ state.answers
   pub setting : state.units.setting ≡ b.units.setting
+
+-- They come out so with the values that the meaning gives with exactly the answers that were taken.
+pub record EndsAsMeant (site : Site) (start after : ℕ) (m : FullMeaning) (exit : Exit) (free : List ℕ) (v : FullValues) (b : FullState) : Type 0 where
+  pub took : List Answer
+  pub made : FullValues
+  pub takes : m.takes (environment site start after) v (m.own_of took) ≡ Some (made, [])
+  pub ends : FullEnds site start after exit free made took b

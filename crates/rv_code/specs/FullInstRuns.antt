@@ -1,5 +1,5 @@
 -- What it is for the parts of an instruction to run as it means on the machine with all units, from where it is entered.
-use Rattle.std.specs.Prelude.{◌≡◌, ◌⊎◌, ℕ, ◌+◌, ◌*◌, ◌<◌, List, [], ◌++◌, length, Some, None}
+use Rattle.std.specs.Prelude.{◌≡◌, ◌⊎◌, ℕ, ◌+◌, ◌*◌, ◌<◌, ◌≤◌, List, [], ◌++◌, length, Some, None}
 use Rattle.rv_machine.specs.State.{AreValues, wrap}
 use Rattle.rv_full.specs.declared.answer.Answer.{Answer}
 use Rattle.rv_full.specs.Steps.{Asks, fiter, fnext}
@@ -8,10 +8,9 @@ use Rattle.rv_inst.specs.declared.inst.Inst.{Inst}
 use Rattle.rv_inst.specs.declared.inst.Line.TheVariants.{Inst as Put}
 use Rattle.rv_inst.specs.Meaning.{AreOutside, Exit}
 use Rattle.rv_code.specs.Entries.{Entry, exit_from, temporaries_from}
-use Rattle.rv_code.specs.FullEnds.{FullEnds}
 use Rattle.rv_code.specs.FullMeaning.{FullMeaning, inst_meaning}
-use Rattle.rv_code.specs.FullValues.{SameFull}
-use Rattle.rv_code.specs.InstRuns.{environment}
+use Rattle.rv_code.specs.FullValues.{SameFull, SameFullBut}
+use Rattle.rv_code.specs.InstRuns.{Arrives, environment, least_steps}
 use Rattle.rv_code.specs.Sites.{Site, IsPlacedAt}
 
 -- the machine stands at an offset of the code, beside the listing's values
@@ -22,12 +21,23 @@ pub record FullAt (site : Site) (at : ℕ) (v : FullValues) (b : FullState) : Ty
   pub are_values : AreValues v.ints
   pub same : SameFull v (values_of b)
 
--- It comes out at an exit, with the values that the meaning gives with exactly the answers that it took.
+-- In some steps it comes where an exit leads, with the values that the meaning gives with exactly the answers that it took, declared
+-- temporaries apart. It left the setting and the code.
 pub record FullyOut (site : Site) (start after : ℕ) (m : FullMeaning) (exit : Exit) (free : List ℕ) (v : FullValues) (b : FullState) : Type 0 where
+  pub steps : ℕ
+  pub state : FullState
+  pub moved : least_steps exit ≤ steps
+  pub ran : fiter site.context.flags steps b ≡ Some state
+  pub arrives : Arrives site start after exit state.state
   pub took : List Answer
+  pub answers : b.answers ≡ took ++ state.answers
   pub made : FullValues
   pub takes : m.takes (environment site start after) v (m.own_of took) ≡ Some (made, [])
-  pub ends : FullEnds site start after exit free made took b
+  pub same : SameFullBut free made (values_of state)
+  pub is_state : IsFullState state
+  pub are_values : AreValues made.ints
+  pub setting : state.units.setting ≡ b.units.setting
+  pub placed : IsPlacedAt site state.state.values.mem
 
 -- Or it comes to where an operation asks for an answer, since the meaning takes one and gives nothing with those that there were. It took
 -- fewer than twice as many as the instruction's own operations take.

@@ -164,10 +164,12 @@ empty_built b bytes uses records constants sound = record {
 -- one that is bound puts nothing; so what was built stays so, and what stood lasts
 pub bound_built : (label : MachLabel) (old new : Buffer) → shape_of new ≡ with_label label (shape_of old) → place_of old label.number ≡ None → IsSoundBuffer new → IsBuilt old → IsBuilt new × Lasts label_kinds (shape_of old) (shape_of new)
 bound_built label old new is unbound sound built =
-    let lasts = lasts_label label_kinds label (shape_of old) unbound in
-    (record {
-      sound = sound;
-      windows = subst (λ (s : Shape LabelUse). AreWindows label_kinds s.bytes s.uses) (sym is) built.windows;
-      fields = subst FieldsStand (sym is) (record { ends = built.fields.ends; clear = built.fields.clear });
-      constants = subst (AllStand label_kinds) (sym is) (stands_last lasts refl built.constants);
-    }, subst (Lasts label_kinds (shape_of old)) (sym is) lasts)
+    let lasts = lasts_label label_kinds label (shape_of old) unbound in (
+      record {
+        sound = sound;
+        windows = subst (λ (s : Shape LabelUse). AreWindows label_kinds s.bytes s.uses) (sym is) built.windows;
+        fields = subst FieldsStand (sym is) (record { ends = built.fields.ends; clear = built.fields.clear });
+        constants = subst (AllStand label_kinds) (sym is) (stands_last lasts refl built.constants);
+      },
+      subst (Lasts label_kinds (shape_of old)) (sym is) lasts,
+    )
