@@ -100,6 +100,8 @@ fn call(alloc: Global, dest: ExternalName) -> Result<Inst, OutOfMemory> {
 pub fn lines(alloc: Global, host: ExternalName) -> Result<Vec<Line>, OutOfMemory> {
     let done = MachLabel::from_u32(0);
     let mut lines = Vec::new(alloc);
+    // the function's entry: no bytes, and an offset in the report
+    lines.push(Line::Inst(Inst::default()))?;
     lines.push(Line::Inst(move_stack_pointer(Imm12::from_i16(-16))))?;
     lines.push(Line::Inst(save_return_address()))?;
     lines.push(Line::Inst(branch_if_greater(done)))?;

@@ -372,7 +372,7 @@ impl Pending {
     }
 
     /// Returns whether the veneers of all that is due by some deadline, put from `start` on, end past it.
-    #[tactic(auto, using(crate::proofs::QueueContents::slack_shown, crate::proofs::QueueContents::bound_none, crate::proofs::Slack::due_le_length, crate::proofs::Slack::due_mono, crate::proofs::Slack::deadlines_few))]
+    #[tactic(auto, using(crate::proofs::QueueContents::slack_shown))]
     pub fn is_tight<L: MachInstLabelUse>(
         &self,
         uses: &[Use<L>],
@@ -386,6 +386,22 @@ impl Pending {
         if self.has_slack(start) {
             return false;
         }
+        self.is_tight_by_count(uses, labels, start)
+    }
+
+    /// The same, by the numbers of uses that are due.
+    #[inline(never)]
+    #[tactic(auto, using(crate::proofs::Slack::due_le_length, crate::proofs::Slack::due_mono, crate::proofs::Slack::deadlines_few, crate::proofs::QueueContents::bound_none))]
+    fn is_tight_by_count<L: MachInstLabelUse>(
+        &self,
+        uses: &[Use<L>],
+        labels: &Labels,
+        start: u64,
+    ) -> bool
+        requires kept { AreKept L.kinds (place_in labels.now) uses.now self.now }
+        requires margin { island_margin ≤ start }
+        ensures { result ≡ is_needed_from (start - island_margin) (deadlines (pending L.kinds (place_in labels.now)) L.kinds uses.now) (deadlines (pending L.kinds (place_in labels.now)) L.kinds uses.now) }
+    {
         let mut count = uses.len();
         'fewer: while count > 0 {
             let due = self.count_due(uses, labels, start as u128 + 8 * count as u128 - 1);

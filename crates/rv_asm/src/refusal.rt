@@ -119,6 +119,7 @@ fn bind_labels(alloc: Global, lines: &[Line]) -> Result<LabelTable<()>, EmitErro
 }
 
 /// Binds the label of a line that binds one.
+#[inline(always)]
 pub fn bind_label_of(bound: &mut LabelTable<()>, line: &Line) -> Result<(), EmitError>
     ensures once { Finds (twice_in (is_in bound.old) line.now) result }
     ensures added { OnOk result ((label : ℕ) → is_in bound.new label ≡ binds line.now label || is_in bound.old label) }
@@ -129,6 +130,7 @@ pub fn bind_label_of(bound: &mut LabelTable<()>, line: &Line) -> Result<(), Emit
     }
 }
 
+#[inline(never)]
 fn bind_label(bound: &mut LabelTable<()>, label: MachLabel) -> Result<(), EmitError>
     ensures once { Finds (twice_of (is_in bound.old) label) result }
     ensures added { OnOk result ((q : ℕ) → is_in bound.new q ≡ nat_eq label.number q || is_in bound.old q) }

@@ -29,6 +29,7 @@ use rv_ops::{AluOPRRI, IntegerCompare};
 
 /// The low bits of a register, as many as these, sign-extended or zero-extended: by `andi` of 255 for a byte that is
 /// zero-extended, and else by a shift to the left and one back.
+#[inline(never)]
 pub(crate) fn put_extend(
     sink: &mut MachBuffer<LabelUse>,
     flags: IsaFlags,
@@ -118,6 +119,7 @@ fn others(bits: u8) -> Imm12
 
 /// The registers of one value or of another: the one is moved, and then the other, unless a branch leads over that. Where the
 /// results are the other's registers already, the two change places.
+#[inline(never)]
 pub(crate) fn put_select(
     sink: &mut MachBuffer<LabelUse>,
     flags: IsaFlags,

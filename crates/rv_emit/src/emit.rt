@@ -151,6 +151,7 @@ fn put(
 
 /// Puts an island where one is needed before so many bytes, and the sequence of a branch by a table, of a tail call, or of a call
 /// that loads results, whose island is put before x31 is used. Returns whether nothing is known of the vector unit's setting after it.
+#[inline(never)]
 fn put_asking(
     sink: &mut MachBuffer<LabelUse>,
     alloc: Global,

@@ -63,6 +63,7 @@ pub(crate) fn put_trap(
 }
 
 /// A trap where the comparison holds. Label 0 stands after it.
+#[inline(never)]
 pub(crate) fn put_trap_if(
     sink: &mut MachBuffer<LabelUse>,
     flags: IsaFlags,
@@ -96,6 +97,7 @@ fn trap_if_code(cmp: IntegerCompare, code: TrapCode) -> [CodePiece; 4]
 }
 
 /// A constant among the code, and before it the code that loads it and jumps over it.
+#[inline(never)]
 pub(crate) fn put_constant(
     sink: &mut MachBuffer<LabelUse>,
     flags: IsaFlags,

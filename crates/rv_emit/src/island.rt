@@ -35,6 +35,7 @@ pub fn emit_island_if_needed(
 }
 
 /// Puts an island.
+#[inline(never)]
 fn put_island(sink: &mut MachBuffer<LabelUse>) -> Result<(), OutOfMemory>
     requires sound { IsSoundBuffer sink.old }
     requires reach { CanReach (length (bytes_of sink.old)) (pending sink.old) }

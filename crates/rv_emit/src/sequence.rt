@@ -85,6 +85,7 @@ pub(crate) fn put_sequence(
 }
 
 /// Those calls that ask for no island.
+#[inline(never)]
 fn put_calls(
     sink: &mut MachBuffer<LabelUse>,
     flags: IsaFlags,
@@ -106,6 +107,7 @@ fn put_calls(
     }
 }
 
+#[inline(never)]
 fn put_pseudo(
     sink: &mut MachBuffer<LabelUse>,
     flags: IsaFlags,
@@ -242,6 +244,7 @@ fn put_memory(
     }
 }
 
+#[inline(never)]
 fn put_loop(
     sink: &mut MachBuffer<LabelUse>,
     flags: IsaFlags,
@@ -280,6 +283,7 @@ fn put_loop(
     }
 }
 
+#[inline(never)]
 fn put_symbol(
     sink: &mut MachBuffer<LabelUse>,
     flags: IsaFlags,

@@ -24,6 +24,7 @@ use rv_encode::{
 use rv_inst::{Inst, LabelUse};
 
 /// One word, whatever the flags are.
+#[inline(never)]
 pub(crate) fn put_unit(sink: &mut MachBuffer<LabelUse>, inst: &Inst) -> Result<(), OutOfMemory>
     requires fine { IsFine (registered_of sink.old) inst.now }
     requires room { length (bytes_of sink.old) + sequence_limit < code_limit }

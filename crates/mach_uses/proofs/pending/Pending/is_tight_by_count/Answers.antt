@@ -1,7 +1,7 @@
 use Rattle.std.proofs.Common.{◌+◌, ◌-◌, ◌*◌, sym, arith}
 use Rattle.mach_uses.proofs.Words.{place_in, is_pending, deadlines}
 use Rattle.mach_uses.proofs.QueueContents.{bound_many}
-use Rattle.mach_uses.proofs.pending.Pending.is_tight.Goals as goal
+use Rattle.mach_uses.proofs.pending.Pending.is_tight_by_count.Goals as goal
 
 pub returns-then-due-count : goal.returns-then-due-count
 returns-then-due-count g c =
