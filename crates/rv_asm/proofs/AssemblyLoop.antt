@@ -1,50 +1,174 @@
 -- The loop over lines: what it keeps, turn by turn, and what it ends with.
-use Rattle.std.proofs.Common.{◌≡◌, ℕ, zero, suc, ◌+◌, ◌^◌, ◌<◌, ◌≤◌, Bool, true, false, List, [], ◌∷◌, ◌++◌, length, take, Some, None, refl, ap, sym, ◌∙◌, subst, arith}
-use Rattle.std.specs.Prelude.{slice_get, slice_index_or, nat_eq}
-use Rattle.std.proofs.lemmas.Bool.Decides.{nat_tests}
-use Rattle.std.proofs.lemmas.Option.{same_Some}
-use Rattle.rv_base.specs.declared.flags.IsaFlags.{IsaFlags}
-use Rattle.rv_base.specs.declared.label.MachLabel.{MachLabel}
-use Rattle.rv_inst.specs.Context.{Context}
-use Rattle.rv_inst.specs.declared.inst.Line.{Line}
-use Rattle.rv_inst.specs.declared.inst.Line.TheVariants.{Inst as Put, Bind}
-use Rattle.rv_inst.specs.declared.code.Code.{Code}
-use Rattle.rv_inst.specs.declared.code.LineSpan.{LineSpan}
-use Rattle.rv_inst.specs.declared.code.CallReturn.{CallReturn}
-use Rattle.rv_inst.specs.LabelUse.{label_kinds}
-use Rattle.mach_buffer.specs.Finish.{CanFinish, Finishes}
-use Rattle.mach_records.specs.Records.{relocs_in, traps_in, calls_in, tries_in, patches_in, maps_in, unwinds_in, offset_or_zero}
-use Rattle.mach_buffer.specs.Buffer.{shape_of, bytes_of, uses_of, place_of, labels_of, records_of, allocated_of, registered_of, named_of, constants_of}
-use Rattle.rv_code.specs.declared.state.EmitVState.{EmitVState}
-use Rattle.rv_emit.specs.Emitted.{Buffer, IsSoundBuffer}
-use Rattle.rv_asm.specs.Refusal.{has_bad_frame, binds, is_bound, lines_sum, size_sum, lines_refusal}
-use Rattle.rv_inst.specs.Sizes.{line_sum}
-use Rattle.rv_asm.specs.LinesInBuffer.{LinesStand, Named, Sized, CanPut, LinePut, ReturnsWithin}
-use Rattle.rv_asm.specs.Reported.{line_returns, returns_from}
-use Rattle.rv_asm.specs.AfterLastIsland.{AfterLastIsland}
-use Rattle.rv_asm.specs.Reach.{NotEarly}
-use Rattle.rv_asm.specs.FinishedCode.{IsFinished}
-use Rattle.rv_asm.specs.StraightUses.{GoStraight}
-use Rattle.rv_asm.proofs.LinesInBuffer.{line_added}
-use Rattle.rv_asm.proofs.StraightUses.{straight_none, straight_next}
-use Rattle.rv_asm.proofs.RefusalOrder.{frame_small, none_stuck, no_rule_broken, bound_once, bound_by, named_is_bound, sum_small, lines_small}
-use Rattle.rv_asm.proofs.Finish.{can_finish, finished_short}
-use Rattle.rv_asm.proofs.AppendedLines.{line_appends}
-use Rattle.rv_asm.proofs.CallReturns.{returns_next, returns_within}
-use Rattle.rv_asm.proofs.OneLineMore.{built_none, built_next}
-use Rattle.rv_asm.proofs.LabelNames.{named_none, named_next, low_label}
-use Rattle.rv_asm.proofs.Sizes.{sized_none, sized_next}
-use Rattle.rv_asm.proofs.AfterLastIsland.{since_none, since_next}
-use Rattle.rv_asm.proofs.NoEarlyIsland.{early_none, early_next}
+use Rattle.std.proofs.Common.{[], ap, arith, Bool, cond, drop, false, inl, inr, length, List, None, not, refl, Some, subst, suc, sym, take, true, zero, ℕ, ◌&&◌, ◌++◌, ◌+◌, ◌-◌, ◌<◌, ◌^◌, ◌∙◌, ◌∷◌, ◌≡◌, ◌≤◌, ◌⊎◌}
+use Rattle.std.specs.Prelude.{is_none, slice_get, slice_index_or}
+use Rattle.mach_buffer.specs.Buffer.{labels_of}
+use Rattle.rv_asm.specs.Refusal.{lines_refusal}
+use Rattle.rv_asm.proofs.Words.{After, AfterLastIsland, allocated_of, Appends, AppendsBy, Around, before_or_last, below, Bind, BindPut, binds, Buffer, bytes_of, CallReturn, calls_in, CanFinish, CanPut, Code, constants_of, Context, EmitVState, end_of, eqb-true, Extent, extent_of, false_from_ne_true}
+use Rattle.rv_asm.proofs.Words.{Finishes, first_after_island, GoStraight, has_bad_frame, has_veneer_of, Inst, is_bound, is_reached, IsaFlags, IsFinished, IsIn, Island, IsSoundBuffer, label_kinds, LabelUse, Lacks, lacks, length-take-le, Line, line_returns, line_sum, LinePut, LineSpan, LinesStand}
+use Rattle.rv_asm.proofs.Words.{MachLabel, maps_in, Named, named_of, NotEarly, offset_or_zero, passing, patches_in, pending_at, place_of, Put, records_of, registered_of, relocs_in, returns_from, ReturnsWithin, same_Some, shape_of, size_sum, Sized, slice_get-append, slice_get_read, slice_get_within}
+use Rattle.rv_asm.proofs.Words.{start_of, take_all, traps_in, tries_in, unwinds_in, Use, uses_after_island, uses_bare, uses_from, uses_in, uses_of, Words}
+use Rattle.rv_asm.proofs.AfterLastIsland.{early_next, early_none, since_next, since_none}
+use Rattle.rv_asm.proofs.LabelNames.{can_finish, finished_short, low_label, named_next, named_none, sized_next, sized_none}
+use Rattle.rv_asm.proofs.LinesInBuffer.{built_next, built_none, LastsTo, line_added, line_appends, LineAppends, returns_within}
+use Rattle.rv_asm.proofs.RefusalOrder.{bind_at, bound_once, frame_small, lines_small, lines_take, names_bound, no_rule_broken, none_stuck, parts, sum_small}
+use Rattle.std.proofs.lemmas.List.{take_more}
+use Rattle.std.proofs.lemmas.Option.{get_or_from_slice_get}
+use Rattle.rv_asm.proofs.Spans.{end_last, end_more, get_drop, open_more, returns_next, start_last, start_more}
+use Rattle.std.proofs.lemmas.Bool.{cond_both}
+
+-- ---- among uses
+
+in_later : (v : Use LabelUse) (uses : List (Use LabelUse)) (u : Use LabelUse) → IsIn uses u → IsIn (v ∷ uses) u
+in_later v uses u h = record { index = suc h.index; there = h.there }
+
+in_first : (uses more : List (Use LabelUse)) (u : Use LabelUse) → IsIn uses u → IsIn (uses ++ more) u
+in_first uses more u h = record { index = h.index; there = slice_get-append uses more h.index u h.there }
+
+in_second : (uses more : List (Use LabelUse)) (u : Use LabelUse) → IsIn more u → IsIn (uses ++ more) u
+in_second [] more u h = h
+in_second (v ∷ uses) more u h = in_later v (uses ++ more) u (in_second uses more u h)
+
+not_in : (u : Use LabelUse) → IsIn [] u → ⊥
+not_in u h = let none : slice_get [] h.index ≡ Some u = h.there in absurd (cc)
+
+-- what passes a test is among those that do
+passes : (test : Use LabelUse → Bool) (uses : List (Use LabelUse)) (j : ℕ) (u : Use LabelUse) → slice_get uses j ≡ Some u → test u ≡ true → IsIn (passing test uses) u
+passes test [] j u h e = absurd (cc)
+passes test (v ∷ uses) zero u h e = record { index = 0; there = (λ i. slice_get (cond ((ap test (same_Some v u h) ∙ e) i) (v ∷ passing test uses) (passing test uses)) 0) ∙ h }
+passes test (v ∷ uses) (suc j) u h e =
+    let rest = passes test uses j u h e in
+    cond_both (test v) (v ∷ passing test uses) (passing test uses) (λ us. IsIn us u) (λ holds. in_later v (passing test uses) u rest) (λ fails. rest)
+
+-- and among all
+passed : (test : Use LabelUse → Bool) (uses : List (Use LabelUse)) (u : Use LabelUse) → IsIn (passing test uses) u → IsIn uses u
+passed test [] u h = h
+passed test (v ∷ uses) u h =
+    cond_both (test v) (v ∷ passing test uses) (passing test uses) (λ us. IsIn us u → IsIn (v ∷ uses) u) (λ holds g. at g.index g.there (passed test uses u)) (λ fails g. in_later v uses u (passed test uses u g)) h
+  where
+    at : (j : ℕ) → slice_get (v ∷ passing test uses) j ≡ Some u → (IsIn (passing test uses) u → IsIn uses u) → IsIn (v ∷ uses) u
+    at zero e rest = record { index = 0; there = e }
+    at (suc j) e rest = in_later v uses u (rest (record { index = j; there = e }))
+
+-- ---- the uses of lines
+
+line_uses_in : (context : Context) (spans : List LineSpan) (first : ℕ) (lines : List Line) (i : ℕ) (inst : Inst) (k : ℕ) (u : Use LabelUse) → slice_get lines i ≡ Some (Put inst) → slice_get (uses_in context (start_of spans (first + i)) (end_of spans (first + i)) inst) k ≡ Some u → IsIn (uses_from context spans first lines) u
+line_uses_in context spans first [] i inst k u there own = absurd (cc)
+line_uses_in context spans first (Put x ∷ lines) zero inst k u there own =
+    let here : first + 0 ≡ first = omega arith in
+    let same : inst ≡ x = cc in
+    in_first _ (uses_from context spans (suc first) lines) u (record { index = k; there = (λ j. slice_get (uses_in context (start_of spans (sym here j)) (end_of spans (sym here j)) (sym same j)) k) ∙ own })
+line_uses_in context spans first (Bind l ∷ lines) zero inst k u there own = absurd (cc)
+line_uses_in context spans first (Put x ∷ lines) (suc i) inst k u there own =
+    let next : first + suc i ≡ suc first + i = omega arith in
+    in_second (uses_in context (start_of spans first) (end_of spans first) x) _ u (line_uses_in context spans (suc first) lines i inst k u there (subst (λ n. slice_get (uses_in context (start_of spans n) (end_of spans n) inst) k ≡ Some u) next own))
+line_uses_in context spans first (Bind l ∷ lines) (suc i) inst k u there own =
+    let next : first + suc i ≡ suc first + i = omega arith in
+    line_uses_in context spans (suc first) lines i inst k u there (subst (λ n. slice_get (uses_in context (start_of spans n) (end_of spans n) inst) k ≡ Some u) next own)
+
+-- a use of a line after which no island stands
+open_use : (context : Context) (lines : List Line) (spans : List LineSpan) (i : ℕ) (inst : Inst) (k : ℕ) (u : Use LabelUse) → first_after_island context lines spans (length lines) ≤ i → slice_get lines i ≡ Some (Put inst) → slice_get (uses_in context (start_of spans i) (end_of spans i) inst) k ≡ Some u → IsIn (uses_after_island context lines spans) u
+open_use context lines spans i inst k u le there own =
+    let n = first_after_island context lines spans (length lines) in
+    let same : i ≡ n + (i - n) = omega arith in
+    line_uses_in context spans n (drop n lines) (i - n) inst k u (get_drop lines n (i - n) ∙ ap (slice_get lines) (sym same) ∙ there) (subst (λ m. slice_get (uses_in context (start_of spans m) (end_of spans m) inst) k ≡ Some u) same own)
+
+-- while its label isn't bound, it is in the buffer
+still_there : (context : Context) (lines : List Line) (spans : List LineSpan) (b : Buffer) (i : ℕ) (inst : Inst) (k : ℕ) (u : Use LabelUse) → AfterLastIsland context lines spans b → first_after_island context lines spans (length lines) ≤ i → slice_get lines i ≡ Some (Put inst) → slice_get (uses_in context (start_of spans i) (end_of spans i) inst) k ≡ Some u → has_veneer_of u.kind ≡ true → place_of b u.label.number ≡ None → IsIn (uses_of b) u
+still_there context lines spans b i inst k u since le there own served unbound =
+    let test = pending_at (place_of b) in
+    let waits : test u ≡ true = λ j. served j && (is_none (uses_bare context (start_of spans i) (end_of spans i) inst k u own j) && not (is_reached label_kinds (unbound j) u)) in
+    let among = open_use context lines spans i inst k u le there own in
+    passed test (uses_of b) u (subst (λ us. IsIn us u) (sym since.ends.same) (passes test (uses_after_island context lines spans) among.index u among.there waits))
+
+-- ---- what is put
+
+-- the uses of an instruction that was put are in the buffer as they were put
+own_there : (context : Context) (inst : Inst) (mid new : Buffer) (start end k : ℕ) (u : Use LabelUse) → start ≡ length (bytes_of mid) → end ≡ length (bytes_of new) → Appends context inst mid new → slice_get (uses_in context start end inst) k ≡ Some u → IsIn (uses_of new) u
+own_there context inst mid new start end k u starts ends e own = by (extent_of context inst) (lacks context inst) e
+  where
+    placed : IsIn (uses_in context (length (bytes_of mid)) (length (bytes_of new)) inst) u
+    placed = record { index = k; there = (λ j. slice_get (uses_in context (sym starts j) (sym ends j) inst) k) ∙ own }
+
+    none : (uses_in context start end inst ≡ []) → ⊥
+    none is = not_in u (record { index = k; there = ap (λ us. slice_get us k) (sym is) ∙ own })
+
+    by : (x : Extent) → Lacks context x inst → AppendsBy context x inst mid new → IsIn (uses_of new) u
+    by (Words size) lack words = subst (λ us. IsIn us u) (sym words.adds.uses) (in_second (uses_of mid) _ u (in_first _ words.direct u placed))
+    by (Island space) lack room = absurd (none (lack.0 start end))
+    by (After space size more) lack rest = absurd (none (lack.0 start end))
+    by (Around before space after) lack a = subst (λ us. IsIn us u) (sym a.second.adds.uses) (in_second (uses_of a.last) _ u placed)
+
+-- ---- the loop
+
+pub straight_none : (context : Context) (b : Buffer) → GoStraight context [] [] b
+straight_none context b = record { each = λ i inst k u m l hi own served hm is reached le. absurd (cc) }
+
+module _ (context : Context) (lines : List Line) (spans : List LineSpan) (line : Line) (span : LineSpan) (old new : Buffer) (built : LinesStand context lines spans old) (since : AfterLastIsland context lines spans old) (lasts : LastsTo old new) (put : LineAppends context line old new span) (known : GoStraight context lines spans old) where
+  count : length spans ≡ length lines
+  count = built.count
+
+  abbrev all : List LineSpan
+  all = spans ++ span ∷ []
+
+  -- a line's offsets are as they were
+  old_use : (i : ℕ) (inst : Inst) (k : ℕ) (u : Use LabelUse) → i < length lines → slice_get (uses_in context (start_of all i) (end_of all i) inst) k ≡ Some u → slice_get (uses_in context (start_of spans i) (end_of spans i) inst) k ≡ Some u
+  old_use i inst k u lt own =
+      (λ j. slice_get (uses_in context (sym (start_more spans (span ∷ []) i (omega (arith, count, lt))) j) (sym (end_more spans (span ∷ []) i (omega (arith, count, lt))) j) inst) k) ∙ own
+
+  -- a label that was bound by a line before
+  bound_there : (m : ℕ) (l : MachLabel) (label : ℕ) → slice_get lines m ≡ Some (Bind l) → l.number ≡ label → place_of old label ≡ Some (start_of spans m)
+  bound_there m l label hm is = ap (place_of old) (sym is) ∙ (built.each m (Bind l) hm).there.1
+
+  both_old : (i : ℕ) (inst : Inst) (k : ℕ) (u : Use LabelUse) (m : ℕ) (l : MachLabel) → slice_get lines i ≡ Some (Put inst) → slice_get (uses_in context (start_of spans i) (end_of spans i) inst) k ≡ Some u → has_veneer_of u.kind ≡ true → slice_get lines m ≡ Some (Bind l) → l.number ≡ u.label.number → is_reached label_kinds (Some (start_of spans m)) u ≡ true → first_after_island context lines spans m ≤ i → IsIn (uses_of new) u
+  both_old i inst k u m l hi own served hm is reached le =
+      let was = known.each i inst k u m l hi own served hm is reached le in
+      let bare : u.veneer ≡ None = uses_bare context (start_of spans i) (end_of spans i) inst k u own in
+      record { index = was.index; there = lasts.straight was.index u was.there bare (ap (λ place. is_reached label_kinds place u) (bound_there m l u.label.number hm is) ∙ reached) }
+
+  label_put : (l : MachLabel) → line ≡ Bind l → BindPut l old new span
+  label_put l is = subst (λ x. LineAppends context x old new span) is put
+
+  use_put : (inst : Inst) (k : ℕ) (u : Use LabelUse) → line ≡ Put inst → slice_get (uses_in context span.start span.end inst) k ≡ Some u → IsIn (uses_of new) u
+  use_put inst k u is own =
+      let p : LineAppends context (Put inst) old new span = subst (λ x. LineAppends context x old new span) is put in
+      own_there context inst p.mid new span.start span.end k u p.start p.end p.emitted own
+
+  each : (i : ℕ) (inst : Inst) (k : ℕ) (u : Use LabelUse) (m : ℕ) (l : MachLabel) → (slice_get lines i ≡ Some (Put inst)) ⊎ ((i ≡ length lines) × (line ≡ Put inst)) → slice_get (uses_in context (start_of all i) (end_of all i) inst) k ≡ Some u → has_veneer_of u.kind ≡ true → (slice_get lines m ≡ Some (Bind l)) ⊎ ((m ≡ length lines) × (line ≡ Bind l)) → l.number ≡ u.label.number → is_reached label_kinds (Some (start_of all m)) u ≡ true → first_after_island context (lines ++ line ∷ []) all m ≤ i → IsIn (uses_of new) u
+  each i inst k u m l (inl hi) own served (inl hm) is reached le =
+      let m_lt = below lines m (Bind l) hm in
+      let start = start_more spans (span ∷ []) m (omega (arith, count, m_lt)) in
+      let opens = open_more context lines (line ∷ []) spans (span ∷ []) m (omega (arith, count)) (omega (arith, m_lt)) in
+      both_old i inst k u m l hi (old_use i inst k u (below lines i (Put inst) hi) own) served hm is (ap (λ n. is_reached label_kinds (Some n) u) (sym start) ∙ reached) (omega (arith, opens, le))
+  each i inst k u m l (inl hi) own served (inr (e, binds)) is reached le =
+      let p = label_put l binds in
+      let opens = open_more context lines (line ∷ []) spans (span ∷ []) (length lines) (omega (arith, count)) (omega arith) in
+      let here : first_after_island context (lines ++ line ∷ []) all (length lines) ≤ i = subst (λ n. first_after_island context (lines ++ line ∷ []) all n ≤ i) e le in
+      subst (λ us. IsIn us u) (sym p.uses)
+      (still_there context lines spans old i inst k u since (omega (arith, opens, here)) hi (old_use i inst k u (below lines i (Put inst) hi) own) served (ap (place_of old) (sym is) ∙ p.unbound))
+  each i inst k u m l (inr (e, puts)) own served (inl hm) is reached le =
+      let at : i ≡ length spans = e ∙ sym count in
+      use_put inst k u puts ((λ j. slice_get (uses_in context (sym (ap (start_of all) at ∙ start_last spans span) j) (sym (ap (end_of all) at ∙ end_last spans span) j) inst) k) ∙ own)
+  each i inst k u m l (inr (e, puts)) own served (inr (g, binds)) is reached le = absurd (cc)
+
+  pub straight_next : GoStraight context (lines ++ line ∷ []) all new
+  straight_next = record {
+    each = λ i inst k u m l hi own served hm is reached le. each i inst k u m l (before_or_last lines line i (Put inst) hi) own served (before_or_last lines line m (Bind l) hm) is reached le;
+  }
+
+-- ==== The loop over lines: what it keeps, turn by turn, and what it ends with.
+
+-- after some lines
+pub record Built (context : Context) (lines : List Line) (spans : List LineSpan) (b : Buffer) : Type 0 where
+  pub built : LinesStand context lines spans b
+  pub named : Named lines spans b
+  pub sized : Sized context lines b
+  pub since : AfterLastIsland context lines spans b
+  pub early : NotEarly context lines spans
+  pub straight : GoStraight context lines spans b
 
 -- after so many lines
-pub record SoFar (context : Context) (lines : List Line) (count : ℕ) (spans : List LineSpan) (b : Buffer) : Type 0 where
-  pub built : LinesStand context (take count lines) spans b
-  pub named : Named (take count lines) spans b
-  pub sized : Sized context (take count lines) b
-  pub since : AfterLastIsland context (take count lines) spans b
-  pub early : NotEarly context (take count lines) spans
-  pub straight : GoStraight context (take count lines) spans b
+abbrev pub SoFar : Context → List Line → ℕ → List LineSpan → Buffer → Type 0
+SoFar context lines count spans b = Built context (take count lines) spans b
 
 -- before the first
 pub so_far_none : (context : Context) (lines : List Line) (b : Buffer) → bytes_of b ≡ [] → uses_of b ≡ [] → ((label : ℕ) → place_of b label ≡ None) → labels_of b ≡ [] → allocated_of b ≡ 0 → records_of b ≡ [] → registered_of b ≡ context.constants → named_of b ≡ [] → constants_of b ≡ [] → IsSoundBuffer b → SoFar context lines 0 [] b
@@ -60,85 +184,52 @@ so_far_none context lines b bytes uses places labels allocated records registere
 -- ---- lists by an index
 
 take_next : (lines : List Line) (n : ℕ) (line : Line) → slice_get lines n ≡ Some line → take (n + 1) lines ≡ take n lines ++ line ∷ []
-take_next [] n line h = absurd (cc)
-take_next (l ∷ lines) zero line h = ap (λ (x : Line). x ∷ []) (same_Some _ _ h)
-take_next (l ∷ lines) (suc n) line h = let more : suc n + 1 ≡ suc (n + 1) = omega arith in ap (λ k. take k (l ∷ lines)) more ∙ ap (λ (ls : List Line). l ∷ ls) (take_next lines n line h)
-
-take_whole : (lines : List Line) (n : ℕ) → length lines ≤ n → take n lines ≡ lines
-take_whole [] zero le = refl
-take_whole [] (suc n) le = refl
-take_whole (l ∷ lines) zero le = absurd (omega arith)
-take_whole (l ∷ lines) (suc n) le = ap (λ (ls : List Line). l ∷ ls) (take_whole lines n (omega arith))
+take_next lines n line h = let lt = slice_get_within lines n line h in take_more lines n line lt ∙ ap (λ x. take n lines ++ x ∷ []) (get_or_from_slice_get lines n line line h)
 
 take_count : (lines : List Line) (n : ℕ) (line : Line) → slice_get lines n ≡ Some line → length (take n lines) ≡ n
-take_count [] n line h = absurd (cc)
-take_count (l ∷ lines) zero line h = refl
-take_count (l ∷ lines) (suc n) line h = ap suc (take_count lines n line h)
+take_count lines n line h = let lt = slice_get_within lines n line h in length-take-le n lines (omega (arith, lt))
 
 -- what stands among the first lines stands there among all
-record Among (lines : List Line) (n j : ℕ) (line : Line) : Type 0 where
-  there : slice_get lines j ≡ Some line
-  before : j < n
-
-among : (lines : List Line) (n j : ℕ) (line : Line) → slice_get (take n lines) j ≡ Some line → Among lines n j line
+among : (lines : List Line) (n j : ℕ) (line : Line) → slice_get (take n lines) j ≡ Some line → (slice_get lines j ≡ Some line) × (j < n)
 among lines zero j line h = absurd (cc)
 among [] (suc n) j line h = absurd (cc)
-among (l ∷ lines) (suc n) zero line h = record { there = h; before = omega arith }
-among (l ∷ lines) (suc n) (suc j) line h = let a = among lines n j line h in record { there = a.there; before = let b = a.before in omega arith }
-
--- the first lines and the next one count for no more than all
-lines_take : (context : Context) (lines : List Line) (n : ℕ) (line : Line) → slice_get lines n ≡ Some line → lines_sum context (take n lines) + line_sum context line ≤ lines_sum context lines
-lines_take context [] n line h = absurd (cc)
-lines_take context (l ∷ lines) zero line h = let same : line_sum context l ≡ line_sum context line = ap (line_sum context) (same_Some _ _ h) in omega arith
-lines_take context (l ∷ lines) (suc n) line h = let rest = lines_take context lines n line h in omega arith
+among (l ∷ lines) (suc n) zero line h = (h, omega arith)
+among (l ∷ lines) (suc n) (suc j) line h = let a = among lines n j line h in let lt = a.1 in (a.0, omega (arith, lt))
 
 sum_take : (context : Context) (lines : List Line) (n : ℕ) (line : Line) → slice_get lines n ≡ Some line → size_sum context (take n lines) + line_sum context line ≤ size_sum context lines
 sum_take context lines n line h = let least = lines_take context lines n line h in omega (arith, least)
 
 -- the line that a turn reads
 pub line_read : (lines : List Line) (n : ℕ) (line : Line) → n < length lines → line ≡ slice_index_or lines n line → slice_get lines n ≡ Some line
-line_read [] n line lt e = absurd (omega arith)
-line_read (l ∷ lines) zero line lt e = ap Some (sym e)
-line_read (l ∷ lines) (suc n) line lt e = line_read lines n line (omega arith) e
+line_read lines n line lt e = slice_get_read lines (length lines) n line refl lt e
 
 -- ---- a turn
 
-label_is : (l : MachLabel) (label : ℕ) → nat_eq l.number label ≡ true → l.number ≡ label
-label_is l label e = grind (arith, nat_tests)
-
 -- what the next line binds is not bound yet
 not_bound : (context : Context) (lines : List Line) (n : ℕ) (l : MachLabel) → lines_refusal context lines ≡ None → slice_get lines n ≡ Some (Bind l) → is_bound (take n lines) l.number ≡ false
-not_bound context lines n l e h = on (is_bound (take n lines) l.number) refl
-  where
-    on : (c : Bool) → is_bound (take n lines) l.number ≡ c → is_bound (take n lines) l.number ≡ false
-    on false g = g
-    on true g =
-        let by = bound_by (take n lines) l g in
-        let a = among lines n by.0 (Bind l) by.1 in
-        let same = bound_once context lines e by.0 n l l a.there h refl in
-        let lt = a.before in
-        absurd (omega arith)
+not_bound context lines n l e h = false_from_ne_true _ (λ g.
+    let by = bind_at (take n lines) l.number g in
+    let a = among lines n _ (Bind by.0) by.1 in
+    absurd (omega (arith, bound_once context lines e _ n by.0 l a.0 h by.2, a.1)))
 
 unbound_next : (context : Context) (lines : List Line) (n : ℕ) (spans : List LineSpan) (b : Buffer) (line : Line) → lines_refusal context lines ≡ None → SoFar context lines n spans b → slice_get lines n ≡ Some line → (label : ℕ) → binds line label ≡ true → place_of b label ≡ None
 unbound_next context lines n spans b (Put inst) e s h label is = absurd (cc)
 unbound_next context lines n spans b (Bind l) e s h label is =
-    subst (λ k. place_of b k ≡ None) (label_is l label is) (s.named.unbound l.number (low_label context l (no_rule_broken context lines e n (Bind l) h)) (not_bound context lines n l e h))
+    subst (λ k. place_of b k ≡ None) (eqb-true l.number label is) (s.named.unbound l.number (low_label context l (no_rule_broken context lines e n (Bind l) h)) (not_bound context lines n l e h))
 
 -- the next line can be put
 pub can_put : (context : Context) (lines : List Line) (n : ℕ) (spans : List LineSpan) (b : Buffer) (line : Line) → has_bad_frame context.frame lines ≡ false → lines_refusal context lines ≡ None → SoFar context lines n spans b → slice_get lines n ≡ Some line → CanPut context line b
 can_put context lines n spans b line frame e s h =
     let small = sum_small context lines e in
     let least = sum_take context lines n line h in
-    let size = s.sized.size in
-    let allocated = s.sized.allocated in
     record {
       rule = no_rule_broken context lines e n line h;
       frame = frame_small context.frame lines frame;
       fit = none_stuck context.frame lines frame n line h;
       sound = s.built.sound;
       reach = s.sized.reach;
-      few = omega (arith, small, least, allocated);
-      room = omega (arith, small, least, size);
+      few = omega (arith, small, least, s.sized.allocated);
+      room = omega (arith, small, least, s.sized.size);
       unbound = unbound_next context lines n spans b line e s h;
     }
 
@@ -146,26 +237,15 @@ can_put context lines n spans b line frame e s h =
 pub so_far_next : (context : Context) (setting : EmitVState) (lines : List Line) (n : ℕ) (spans new_spans : List LineSpan) (old new : Buffer) (line : Line) (span : LineSpan) → lines_refusal context lines ≡ None → SoFar context lines n spans old → slice_get lines n ≡ Some line → span.index ≡ n → LinePut context setting line old new span → new_spans ≡ spans ++ span ∷ [] → SoFar context lines (n + 1) new_spans new
 so_far_next context setting lines n spans new_spans old new line span e s h index put pushed =
     let rule = no_rule_broken context lines e n line h in
-    let count = take_count lines n line h in
-    let at : span.index ≡ length (take n lines) = index ∙ sym count in
     let p = line_appends context setting line old new span rule s.built.sound put in
-    let built = built_next context setting (take n lines) line spans span old new rule s.built put at in
-    let named = named_next context (take n lines) spans line span old new rule s.named s.built.count p in
-    let sized = sized_next context (take n lines) line old new span rule (lines_small context lines e n line h) s.sized p in
-    let since = since_next context (take n lines) spans line span old new s.built s.since rule p in
-    let early = early_next context (take n lines) spans line span old new s.built s.since p s.early in
-    let straight = straight_next context (take n lines) spans line span old new s.built s.since (line_added context setting line old new span rule s.built.sound s.built.windows s.built.fields put).lasts p s.straight in
-    subst (λ ss. SoFar context lines (n + 1) ss new) (sym pushed) (moved (sym (take_next lines n line h)) built named sized since early straight)
-  where
-    moved : take n lines ++ line ∷ [] ≡ take (n + 1) lines → LinesStand context (take n lines ++ line ∷ []) (spans ++ span ∷ []) new → Named (take n lines ++ line ∷ []) (spans ++ span ∷ []) new → Sized context (take n lines ++ line ∷ []) new → AfterLastIsland context (take n lines ++ line ∷ []) (spans ++ span ∷ []) new → NotEarly context (take n lines ++ line ∷ []) (spans ++ span ∷ []) → GoStraight context (take n lines ++ line ∷ []) (spans ++ span ∷ []) new → SoFar context lines (n + 1) (spans ++ span ∷ []) new
-    moved more built named sized since early straight = record {
-      built = subst (λ ls. LinesStand context ls (spans ++ span ∷ []) new) more built;
-      named = subst (λ ls. Named ls (spans ++ span ∷ []) new) more named;
-      sized = subst (λ ls. Sized context ls new) more sized;
-      since = subst (λ ls. AfterLastIsland context ls (spans ++ span ∷ []) new) more since;
-      early = subst (λ ls. NotEarly context ls (spans ++ span ∷ [])) more early;
-      straight = subst (λ ls. GoStraight context ls (spans ++ span ∷ []) new) more straight;
-    }
+    subst (λ ss. SoFar context lines (n + 1) ss new) (sym pushed) (subst (λ ls. Built context ls (spans ++ span ∷ []) new) (sym (take_next lines n line h)) (record {
+      built = built_next context setting (take n lines) line spans span old new rule s.built put (index ∙ sym (take_count lines n line h));
+      named = named_next context (take n lines) spans line span old new rule s.named s.built.count p;
+      sized = sized_next context (take n lines) line old new span rule (lines_small context lines e n line h) s.sized p;
+      since = since_next context (take n lines) spans line span old new s.built s.since rule p;
+      early = early_next context (take n lines) spans line span old new s.built s.since p s.early;
+      straight = straight_next context (take n lines) spans line span old new s.built s.since (line_added context setting line old new span rule s.built.sound s.built.windows s.built.fields put).lasts p s.straight;
+    }))
 
 -- where its call returns is within it
 pub within_line : (context : Context) (setting : EmitVState) (lines : List Line) (n : ℕ) (spans : List LineSpan) (old new : Buffer) (line : Line) (span : LineSpan) → lines_refusal context lines ≡ None → SoFar context lines n spans old → slice_get lines n ≡ Some line → LinePut context setting line old new span → ReturnsWithin context.flags line span
@@ -175,47 +255,28 @@ within_line context setting lines n spans old new line span e s h put = returns_
 pub returns_so_far : (context : Context) (flags : IsaFlags) (lines : List Line) (n : ℕ) (spans new_spans : List LineSpan) (b : Buffer) (returns new_returns : List CallReturn) (line : Line) (span : LineSpan) → SoFar context lines n spans b → slice_get lines n ≡ Some line → span.index ≡ n → new_spans ≡ spans ++ span ∷ [] → returns ≡ returns_from flags spans 0 (take n lines) → new_returns ≡ returns ++ line_returns flags span.index span.start line → new_returns ≡ returns_from flags new_spans 0 (take (n + 1) lines)
 returns_so_far context flags lines n spans new_spans b returns new_returns line span s h index pushed before added =
     added
-    ∙ (λ i. before i ++ line_returns flags (index i) span.start line)
-    ∙ sym (returns_next flags (take n lines) n spans line span s.built.count (take_count lines n line h))
+    ∙ (λ i. before i ++ line_returns flags ((index ∙ sym (s.built.count ∙ take_count lines n line h)) i) span.start line)
+    ∙ sym (returns_next flags (take n lines) spans line span s.built.count)
     ∙ (λ i. returns_from flags (sym pushed i) 0 (sym (take_next lines n line h) i))
 
 -- after the last
-record AtEnd (context : Context) (lines : List Line) (spans : List LineSpan) (b : Buffer) : Type 0 where
-  built : LinesStand context lines spans b
-  named : Named lines spans b
-  sized : Sized context lines b
-  since : AfterLastIsland context lines spans b
-  early : NotEarly context lines spans
-  straight : GoStraight context lines spans b
-
-at_end : (context : Context) (lines : List Line) (n : ℕ) (spans : List LineSpan) (b : Buffer) → length lines ≤ n → SoFar context lines n spans b → AtEnd context lines spans b
-at_end context lines n spans b le s =
-    let whole = take_whole lines n le in
-    record {
-      built = subst (λ ls. LinesStand context ls spans b) whole s.built;
-      named = subst (λ ls. Named ls spans b) whole s.named;
-      sized = subst (λ ls. Sized context ls b) whole s.sized;
-      since = subst (λ ls. AfterLastIsland context ls spans b) whole s.since;
-      early = subst (λ ls. NotEarly context ls spans) whole s.early;
-      straight = subst (λ ls. GoStraight context ls spans b) whole s.straight;
-    }
+at_end : (context : Context) (lines : List Line) (n : ℕ) (spans : List LineSpan) (b : Buffer) → length lines ≤ n → SoFar context lines n spans b → Built context lines spans b
+at_end context lines n spans b le s = subst (λ ls. Built context ls spans b) (take_all n lines le) s
 
 -- after the last, the buffer can be finished
 pub ready : (context : Context) (lines : List Line) (n : ℕ) (spans : List LineSpan) (b : Buffer) → lines_refusal context lines ≡ None → length lines ≤ n → SoFar context lines n spans b → CanFinish label_kinds (shape_of b)
 ready context lines n spans b e le s =
     let all = at_end context lines n spans b le s in
-    can_finish context lines spans b all.built all.named all.sized (sum_small context lines e) (named_is_bound context lines e)
+    can_finish context lines spans b all.built all.named all.sized (sum_small context lines e) (names_bound lines lines (parts context lines e).unbound)
 
 -- and then it is finished
 pub finished : (context : Context) (lines : List Line) (n : ℕ) (code : Code) (b : Buffer) → lines_refusal context lines ≡ None → length lines ≤ n → SoFar context lines n code.lines b → code.returns ≡ returns_from context.flags code.lines 0 (take n lines) → (f : Finishes label_kinds (shape_of b) code.bytes) → code.constants ≡ f.put.constants → code.labels ≡ labels_of b → code.relocs ≡ relocs_in (records_of b) → code.traps ≡ traps_in (records_of b) → code.call_sites ≡ calls_in (records_of b) → code.try_call_sites ≡ tries_in (offset_or_zero (place_of b)) (records_of b) → code.patchable_call_sites ≡ patches_in (records_of b) → code.stack_maps ≡ maps_in (records_of b) → code.unwinds ≡ unwinds_in (records_of b) → code.end ≡ length (bytes_of b) → IsFinished context lines code
 finished context lines n code b e le s returns f constants labels relocs traps call_sites try_call_sites patchable_call_sites stack_maps unwinds end =
     let all = at_end context lines n code.lines b le s in
-    record { sink = b; built = all.built; named = all.named; sized = all.sized; since = all.since; early = all.early; straight = all.straight; ready = ready context lines n code.lines b e le s; finished = f; constants = constants; returns = returns ∙ ap (returns_from context.flags code.lines 0) (take_whole lines n le); labels = labels; relocs = relocs; traps = traps; call_sites = call_sites; try_call_sites = try_call_sites; patchable_call_sites = patchable_call_sites; stack_maps = stack_maps; unwinds = unwinds; end = end }
+    record { sink = b; built = all.built; named = all.named; sized = all.sized; since = all.since; early = all.early; straight = all.straight; ready = ready context lines n code.lines b e le s; finished = f; constants = constants; returns = returns ∙ ap (returns_from context.flags code.lines 0) (take_all n lines le); labels = labels; relocs = relocs; traps = traps; call_sites = call_sites; try_call_sites = try_call_sites; patchable_call_sites = patchable_call_sites; stack_maps = stack_maps; unwinds = unwinds; end = end }
 
 -- the code is short
 pub code_short : (context : Context) (lines : List Line) (n : ℕ) (spans : List LineSpan) (b : Buffer) (bytes : List ℕ) → lines_refusal context lines ≡ None → length lines ≤ n → SoFar context lines n spans b → Finishes label_kinds (shape_of b) bytes → length bytes < 2 ^ 32
 code_short context lines n spans b bytes e le s f =
     let all = at_end context lines n spans b le s in
-    let short = finished_short context lines b bytes all.built.sound all.sized f in
-    let small = sum_small context lines e in
-    omega arith
+    omega (arith, finished_short context lines b bytes all.built.sound all.sized f, sum_small context lines e)

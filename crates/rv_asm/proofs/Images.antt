@@ -1,40 +1,21 @@
 -- Code that stands in the memory, filled by a linker, by what relocations ask and by what the buffer recorded.
-use Rattle.std.proofs.Common.{◌≡◌, inl, inr, ⊎_elim, ℕ, zero, suc, ◌+◌, ◌-◌, ◌^◌, ◌<◌, ◌≤◌, ℤ, pos, ◌-ℤ◌, List, [], ◌∷◌, ◌++◌, length, Option, Some, None, arith, refl, sym, ap, subst, ◌∙◌}
-use Rattle.std.specs.Prelude.{slice_get, slice_index, unwrap_or}
-use Rattle.std.specs.Int.{cast_signed, to_le_bytes, w64}
-use Rattle.std.specs.List.{flat_map}
+use Rattle.std.proofs.Common.{[], ap, arith, inl, inr, length, List, None, Option, pos, refl, Some, subst, suc, sym, zero, ℕ, ℤ, ⊎_elim, ◌++◌, ◌+◌, ◌-ℤ◌, ◌-◌, ◌<◌, ◌^◌, ◌∙◌, ◌∷◌, ◌≡◌, ◌≤◌}
+use Rattle.std.specs.Int.{to_le_bytes, w64}
 use Rattle.std.specs.Option.{option_map}
-use Rattle.std.proofs.lemmas.Grind.{same_number_lists}
-use Rattle.std.proofs.lemmas.Option.{same_Some}
-use Rattle.rv_base.specs.LabelUse.{SameOutside}
-use Rattle.rv_base.specs.declared.reloc.Reloc.{Reloc}
-use Rattle.rv_base.specs.declared.reloc.Reloc.TheVariants.{RiscvCallPlt, RiscvGotHi20, RiscvPCRelHi20, RiscvPCRelLo12I, Abs8}
-use Rattle.rv_base.specs.declared.external_name.ExternalName.{ExternalName}
-use Rattle.rv_base.specs.declared.trap.TrapCode.{TrapCode}
-use Rattle.mach_records.specs.Records.{relocs_in, traps_in, record_relocs, record_traps, event_relocs}
-use Rattle.mach_uses.specs.Windows.{window, IsApart}
+use Rattle.std.specs.Prelude.{slice_get, slice_index, unwrap_or}
 use Rattle.mach_records.specs.declared.records.Event.{Event}
-use Rattle.mach_records.specs.declared.records.Event.TheVariants as event
 use Rattle.mach_records.specs.declared.records.FinalizedRelocTarget.{FinalizedRelocTarget}
+use Rattle.rv_base.specs.CondCodes.{complement_of}
+use Rattle.rv_code.specs.Pieces.{Branch, New, slots_of}
+use Rattle.rv_code.specs.Slots.{Data}
+use Rattle.mach_records.specs.declared.records.Event.TheVariants as event
 use Rattle.mach_records.specs.declared.records.FinalizedRelocTarget.TheVariants as target
-use Rattle.mach_records.specs.declared.records.MachRecord.{MachRecord}
-use Rattle.mach_records.specs.declared.records.MachReloc.{MachReloc}
-use Rattle.mach_buffer.specs.Shape.{Shape}
-use Rattle.mach_buffer.proofs.Laws.{locate, slice_get-append}
-use Rattle.rv_machine.specs.State.{Memory, byte, wrap, low64}
-use Rattle.rv_inst.specs.Context.{Context}
-use Rattle.rv_inst.specs.LabelUse.{Aims, marks_of}
-use Rattle.rv_inst.specs.Records.{IsRecorded, IsTrapAt}
-use Rattle.rv_inst.specs.Relocations.{field_size, IsOutside}
-use Rattle.rv_inst.specs.declared.code.Code.{Code}
-use Rattle.rv_inst.specs.declared.label_use.LabelUse.{LabelUse}
-use Rattle.rv_inst.specs.declared.label_use.LabelUse.TheVariants.{PCRel32, PCRelHi20, PCRelLo12I}
-use Rattle.rv_emit.specs.Images.{EndsWithin, IsClear, AllClear, FieldsStand, KeepsOutside, HoldsDistance, IsFilledWith, IsLinkedWith, IsFilled}
-use Rattle.rv_code.specs.Sites.{Site, IsPlacedAt}
-use Rattle.rv_code.specs.Slots.{Symbol, AddressOf, SlotOf, upper_event, lower_event, call_event}
-use Rattle.rv_emit.specs.Standing.{IsFinishedTo}
-use Rattle.rv_emit.proofs.Laws.{window_byte, window_length, bits_back, ends_later}
-use Rattle.rv_asm.specs.Placed.{Addresses, address_of_name, bytes_from, distance_to, IsFilledAt, IsPlaced}
+use Rattle.rv_asm.proofs.Words.{Abs8, address_of_name, Addresses, AddressOf, Aims, AllClear, AllEnd, bits_back, Buffer, byte, bytes_from, call_event, clear_there, Code, Context, context_of, distance_to, end_of, ends_later, EndsWithin, event_relocs, ExternalName, field_size, FieldsEnd, FieldsStand}
+use Rattle.rv_asm.proofs.Words.{flat_map, Here, HoldsDistance, IntegerCompare, IsaFlags, IsFilled, IsFilledAt, IsFilledWith, IsFinishedTo, IsLinkedWith, IsOutside, IsPlaced, IsPlacedAt, IsRecorded, IsTrapAt, Job, KeepsOutside, label_kinds, LabelUse, Lasts, lasts_after_slots, lasts_more}
+use Rattle.rv_asm.proofs.Words.{length-append, LinesStand, locate, low64, lower_event, MachRecord, MachReloc, marks_of, Memory, Notes, number_of, parts_of, PartsIn, PCRel32, PCRelHi20, PCRelLo12I, piece_finished, Put, Puts, puts_bytes, puts_ends, RawData, record_relocs, record_traps, records_of}
+use Rattle.rv_asm.proofs.Words.{Reloc, relocs_in, RiscvCallPlt, RiscvGotHi20, RiscvPCRelHi20, RiscvPCRelLo12I, same_number_lists, same_Some, SameOutside, Shape, shape_of, Site, size_of, slice_get-append, Slot, slot_fields_end, SlotOf, SlotsIn, Stands, start_of, Symbol, trap_bytes, trap_size}
+use Rattle.rv_asm.proofs.Words.{TrapCode, TrapIf, traps_in, Udf, upper_event, window, window_byte, window_length, wrap, zeros}
+use Rattle.rv_asm.proofs.Spans.{get_after, of_cond}
 
 -- ---- bytes of a memory
 
@@ -47,16 +28,19 @@ from_byte mem a zero k lt = absurd (omega arith)
 from_byte mem a (suc n) zero lt = let e : a ≡ a + 0 = omega arith in ap (byte mem) e
 from_byte mem a (suc n) (suc k) lt = let e : a + 1 + k ≡ a + suc k = omega arith in from_byte mem (a + 1) n k (omega arith) ∙ ap (byte mem) e
 
+-- bytes are these where each of them is
+bytes_are : (mem : Memory) (a n : ℕ) (xs : List ℕ) → length xs ≡ n → ((k : ℕ) → k < n → byte mem (a + k) ≡ slice_index xs k) → bytes_from mem a n ≡ xs
+bytes_are mem a n xs long each =
+    let whole = from_long mem a n in
+    same_number_lists (bytes_from mem a n) xs (whole ∙ sym long) (λ k lt. let short : k < n = omega (arith, whole, lt) in from_byte mem a n k short ∙ each k short)
+
 -- a window of them is such bytes too
 window_from : (mem : Memory) (a n from size : ℕ) → from + size ≤ n → window (bytes_from mem a n) from size ≡ bytes_from mem (a + from) size
 window_from mem a n from size le =
-    let whole = from_long mem a n in
-    let long : length (window (bytes_from mem a n) from size) ≡ size = window_length (bytes_from mem a n) from size (omega arith) in
-    same_number_lists (window (bytes_from mem a n) from size) (bytes_from mem (a + from) size) (long ∙ sym (from_long mem (a + from) size))
+    sym (bytes_are mem (a + from) size (window (bytes_from mem a n) from size) (window_length (bytes_from mem a n) from size (omega (arith, from_long mem a n, le)))
     (λ k lt.
-    let short : k < size = omega arith in
-    let e : a + (from + k) ≡ a + from + k = omega arith in
-    window_byte (bytes_from mem a n) from size k short ∙ from_byte mem a n (from + k) (omega arith) ∙ ap (byte mem) e ∙ sym (from_byte mem (a + from) size k short))
+    let e : a + from + k ≡ a + (from + k) = omega arith in
+    ap (byte mem) e ∙ sym (from_byte mem a n (from + k) (omega arith)) ∙ sym (window_byte (bytes_from mem a n) from size k lt)))
 
 -- ---- what records give
 
@@ -74,14 +58,10 @@ comes_from f (x ∷ xs) j y h = ⊎_elim
     (λ rest. let t = comes_from f xs rest.index y rest.there in record { index = suc t.index; from = t.from; there = t.there; place = t.place; gives = t.gives })
     (locate (f x) (flat_map f xs) j y h)
 
-get_after : {Y : Type 0} (ys zs : List Y) (j : ℕ) (y : Y) → slice_get zs j ≡ Some y → slice_get (ys ++ zs) (length ys + j) ≡ Some y
-get_after [] zs j y h = let e : 0 + j ≡ j = omega arith in ap (slice_get zs) e ∙ h
-get_after (x ∷ ys) zs j y h = let e : suc (length ys) + j ≡ suc (length ys + j) = omega arith in ap (slice_get (x ∷ (ys ++ zs))) e ∙ get_after ys zs j y h
-
 gives : {X Y : Type 0} (f : X → List Y) (xs : List X) (k : ℕ) (x : X) (y : Y) → slice_get xs k ≡ Some x → slice_get (f x) 0 ≡ Some y → (j : ℕ) × (slice_get (flat_map f xs) j ≡ Some y)
 gives f [] k x y h first = absurd (cc)
 gives f (z ∷ xs) zero x y h first = (0, slice_get-append (f z) (flat_map f xs) 0 y (ap (λ w. slice_get (f w) 0) (same_Some z x h) ∙ first))
-gives f (z ∷ xs) (suc k) x y h first = let t = gives f xs k x y h first in (length (f z) + t.0, get_after (f z) (flat_map f xs) t.0 y t.1)
+gives f (z ∷ xs) (suc k) x y h first = let t = gives f xs k x y h first in (length (f z) + t.0, get_after (f z) (flat_map f xs) t.0 ∙ t.1)
 
 -- a trap that was recorded is reported
 pub trap_reported : (records : List MachRecord) (at : ℕ) (cause : TrapCode) → IsRecorded records at (event.Trap cause) → IsTrapAt (traps_in records) at cause
@@ -91,9 +71,7 @@ trap_reported records at cause r = let t = gives record_traps records r.index _ 
 
 distance_leads : (from to : ℕ) → from < 2 ^ 64 → to < 2 ^ 64 → wrap (from + low64 (distance_to from to)) ≡ to
 distance_leads from to lt fits =
-    let d = wrap (to + (2 ^ 64 - from)) in
-    let back : wrap (low64 (cast_signed w64 d)) ≡ d = bits_back d (omega arith) in
-    omega arith
+    omega (arith, bits_back (wrap (to + (2 ^ 64 - from))) (omega arith))
 
 -- where a name with an addend leads
 sum_leads : (o : Option ℕ) (addend : ℤ) (to : ℕ) → option_map (λ (a : ℕ). wrap (a + low64 addend)) o ≡ Some to → wrap (unwrap_or o 0 + low64 addend) ≡ to
@@ -110,39 +88,25 @@ name_leads (Some a) to h = let e = same_Some (wrap a) to h in (e, omega arith)
 pub fields_within : (s : Shape LabelUse) (bytes : List ℕ) → IsFinishedTo s bytes → FieldsStand s → (k : ℕ) (r : MachRecord) → slice_get s.records k ≡ Some r → EndsWithin (length bytes) r.offset r.event
 fields_within s bytes f fields k r h = ends_later (length s.bytes) (length bytes) r.offset r.event (let a = f.finishes.grows.longer in let b = f.finishes.same_length in omega arith) (fields.ends k r h)
 
+-- a relocation that is reported was recorded
+reloc_recorded : (relocs : List MachReloc) (records : List MachRecord) → relocs ≡ relocs_in records → (j : ℕ) (r : MachReloc) → slice_get relocs j ≡ Some r → IsRecorded records r.offset (event.Reloc r.kind r.target r.addend)
+reloc_recorded relocs records same j r h =
+    let t = comes_from record_relocs records j r (ap (λ rs. slice_get rs j) (sym same) ∙ h) in
+    record { index = t.index; there = t.there ∙ ap Some (on t.from.offset t.from.event t.place t.gives) }
+  where
+    on : (offset : ℕ) (e : Event) (i : ℕ) → slice_get (event_relocs offset e) i ≡ Some r → ◌≡◌ {A = MachRecord} (record { offset = offset; event = e }) (record { offset = r.offset; event = event.Reloc r.kind r.target r.addend })
+    on offset (event.Reloc kind to addend) zero gives =
+        let same : (record { offset = offset; kind = kind; target = to; addend = addend }) ≡ r = same_Some _ r gives in
+        ap (λ (x : MachReloc). record { offset = x.offset; event = event.Reloc x.kind x.target x.addend }) same
+    on offset e i gives = absurd (cc)
+
 -- and so does what relocations that are reported fill
 pub reloc_ends : (n : ℕ) (relocs : List MachReloc) (records : List MachRecord) → relocs ≡ relocs_in records → ((k : ℕ) (r : MachRecord) → slice_get records k ≡ Some r → EndsWithin n r.offset r.event) → (j : ℕ) (r : MachReloc) → slice_get relocs j ≡ Some r → r.offset + field_size r.kind ≤ n
-reloc_ends n relocs records same ends j r h =
-    let t = comes_from record_relocs records j r (ap (λ rs. slice_get rs j) (sym same) ∙ h) in
-    on t.from.offset t.from.event t.place t.gives (ends t.index t.from t.there)
-  where
-    on : (offset : ℕ) (e : Event) (i : ℕ) → slice_get (event_relocs offset e) i ≡ Some r → EndsWithin n offset e → r.offset + field_size r.kind ≤ n
-    on offset (event.Trap cause) i gives c = absurd (cc)
-    on offset (event.Unwind u) i gives c = absurd (cc)
-    on offset event.CallSite i gives c = absurd (cc)
-    on offset (event.TryCallSite to_fp handlers) i gives c = absurd (cc)
-    on offset (event.PatchableCallSite len) i gives c = absurd (cc)
-    on offset (event.StackMap span entries) i gives c = absurd (cc)
-    on offset (event.Reloc kind to addend) zero gives c =
-        subst (λ (x : MachReloc). x.offset + field_size x.kind ≤ n) (same_Some (record { offset = offset; kind = kind; target = to; addend = addend }) r gives) c
-    on offset (event.Reloc kind to addend) (suc i) gives c = absurd (cc)
+reloc_ends n relocs records same ends j r h = let t = reloc_recorded relocs records same j r h in ends t.index _ t.there
 
 -- a stretch that is clear of all records is outside what relocations fill
 pub all_outside : (relocs : List MachReloc) (records : List MachRecord) → relocs ≡ relocs_in records → (from size : ℕ) → AllClear records from size → IsOutside relocs from size
-all_outside relocs records same from size clear j r h =
-    let t = comes_from record_relocs records j r (ap (λ rs. slice_get rs j) (sym same) ∙ h) in
-    on t.from.offset t.from.event t.place t.gives (clear t.index t.from t.there)
-  where
-    on : (offset : ℕ) (e : Event) (i : ℕ) → slice_get (event_relocs offset e) i ≡ Some r → IsClear from size offset e → IsApart from size r.offset (field_size r.kind)
-    on offset (event.Trap cause) i gives c = absurd (cc)
-    on offset (event.Unwind u) i gives c = absurd (cc)
-    on offset event.CallSite i gives c = absurd (cc)
-    on offset (event.TryCallSite to_fp handlers) i gives c = absurd (cc)
-    on offset (event.PatchableCallSite len) i gives c = absurd (cc)
-    on offset (event.StackMap span entries) i gives c = absurd (cc)
-    on offset (event.Reloc kind to addend) zero gives c =
-        subst (λ (x : MachReloc). IsApart from size x.offset (field_size x.kind)) (same_Some (record { offset = offset; kind = kind; target = to; addend = addend }) r gives) c
-    on offset (event.Reloc kind to addend) (suc i) gives c = absurd (cc)
+all_outside relocs records same from size clear j r h = let t = reloc_recorded relocs records same j r h in clear t.index _ t.there
 
 module _ (code : Code) (base : ℕ) (symbols slots : Addresses) (mem : Memory) (context : Context) (place : ℕ → Option ℕ) (records : List MachRecord) where
   abbrev site : Site
@@ -165,14 +129,10 @@ module _ (code : Code) (base : ℕ) (symbols slots : Addresses) (mem : Memory) (
   keeps_outside same placed = record {
     long = from_long mem base (length code.bytes);
     bytes = λ k lt. let short : k < length code.bytes = let l = from_long mem base (length code.bytes) in omega arith in subst (λ (b : ℕ). b < 256) (sym (from_byte mem base (length code.bytes) k short)) (placed.bytes k short);
-    same = λ from size le clear.
-        let left = window_from mem base (length code.bytes) from size le in
-        let long : length (window code.bytes from size) ≡ size = window_length code.bytes from size le in
-        left ∙ same_number_lists (bytes_from mem (base + from) size) (window code.bytes from size) (from_long mem (base + from) size ∙ sym long)
+    same = λ from size le clear. window_from mem base (length code.bytes) from size le ∙ bytes_are mem (base + from) size (window code.bytes from size) (window_length code.bytes from size le)
         (λ k lt.
-        let short : k < size = let l = from_long mem (base + from) size in omega arith in
         let e : base + from + k ≡ base + (from + k) = omega arith in
-        from_byte mem (base + from) size k short ∙ ap (byte mem) e ∙ placed.there (from + k) (omega arith) (outside same from size k short clear) ∙ sym (window_byte code.bytes from size k short));
+        ap (byte mem) e ∙ placed.there (from + k) (omega arith) (outside same from size k lt clear) ∙ sym (window_byte code.bytes from size k lt));
   }
 
   -- ---- where its bytes still stand
@@ -182,12 +142,10 @@ module _ (code : Code) (base : ℕ) (symbols slots : Addresses) (mem : Memory) (
     same_byte k lt = still.bytes.there k (let l = from_long mem base (length code.bytes) in omega arith) ∙ from_byte mem base (length code.bytes) k lt
 
     same_bytes : (from size : ℕ) → from + size ≤ length code.bytes → bytes_from new (base + from) size ≡ bytes_from mem (base + from) size
-    same_bytes from size le =
-        same_number_lists (bytes_from new (base + from) size) (bytes_from mem (base + from) size) (from_long new (base + from) size ∙ sym (from_long mem (base + from) size))
+    same_bytes from size le = bytes_are new (base + from) size (bytes_from mem (base + from) size) (from_long mem (base + from) size)
         (λ k lt.
-        let short : k < size = let l = from_long new (base + from) size in omega arith in
         let e : base + from + k ≡ base + (from + k) = omega arith in
-        from_byte new (base + from) size k short ∙ ap (byte new) e ∙ same_byte (from + k) (omega arith) ∙ ap (byte mem) (sym e) ∙ sym (from_byte mem (base + from) size k short))
+        ap (byte new) e ∙ same_byte (from + k) (omega arith) ∙ ap (byte mem) (sym e) ∙ sym (from_byte mem (base + from) size k lt))
 
     -- the code is still placed, since what relocations fill is among its bytes
     pub placed_again : ((j : ℕ) (r : MachReloc) → slice_get code.relocs j ≡ Some r → r.offset + field_size r.kind ≤ length code.bytes) → IsPlaced code base symbols slots mem → IsPlaced code base symbols slots new
@@ -272,8 +230,71 @@ module _ (code : Code) (base : ℕ) (symbols slots : Addresses) (mem : Memory) (
       addresses = λ k at name addend h.
           let u = reloc_reported same k at Abs8 (target.ExternalName name) addend h in
           let f = placed.filled u.0 _ u.1 in
-          let sum = sum_leads (address_of_name symbols name.number) addend f.0 f.1 in
-          let le : at + 8 ≤ length code.bytes = ends k _ h in
-          window_from mem base (length code.bytes) at 8 (omega arith) ∙ f.2 ∙ ap (to_le_bytes w64) (sym sum);
+          window_from mem base (length code.bytes) at 8 (omega (arith, ends k _ h)) ∙ f.2 ∙ ap (to_le_bytes w64) (sym (sum_leads (address_of_name symbols name.number) addend f.0 f.1));
       calls = calls;
     }
+
+-- ==== Bytes that an instruction puts with no use among them, data and those of traps, stand in the finished code, and no relocation fills
+-- one of them.
+
+-- ---- one slot among others
+
+module _ (flags : IsaFlags) (f : Shape LabelUse) (bytes : List ℕ) (fin : IsFinishedTo f bytes) where
+  -- slots that were put, in two parts
+  pub puts_split : (allocated : ℕ) (slots more : List Slot) (s t : Shape LabelUse) → Puts flags allocated (slots ++ more) s t → (m : Shape LabelUse) × Puts flags allocated slots s m × Puts flags allocated more m t
+  puts_split allocated [] more s t p = (s, refl, p)
+  puts_split allocated (slot ∷ slots) more s t p = let r = puts_split allocated slots more p.0 t p.2 in (r.0, (p.0, p.1, r.1), r.2)
+
+  pub fields_after : (allocated : ℕ) (slots : List Slot) (s t : Shape LabelUse) → Puts flags allocated slots s t → FieldsEnd s → FieldsEnd t
+  fields_after allocated [] s t e h = subst FieldsEnd (sym e) h
+  fields_after allocated (slot ∷ slots) s t p h = fields_after allocated slots p.0 t p.2 (slot_fields_end flags allocated slot s p.0 p.1 h)
+
+  -- bytes that stand in the code, clear of all records
+  record AreFound (at : ℕ) (piece : List ℕ) : Type 0 where
+    there : window bytes at (length piece) ≡ piece
+    clear : AllClear f.records at (length piece)
+
+  data_found : (slots : List Slot) (piece : List ℕ) (more : List Slot) (start end : ℕ) → SlotsIn flags (slots ++ Data piece ∷ more) f start end → AreFound (start + size_of slots) piece
+  data_found slots piece more start end q =
+      let p = puts_split q.old.allocated slots (Data piece ∷ more) q.old q.new q.puts in
+      let m : Shape LabelUse = p.0 in
+      let lasts : Lasts label_kinds p.2.0 f = lasts_more (lasts_after_slots flags q.old.allocated more p.2.0 q.new p.2.2) q.lasts in
+      let at : length m.bytes ≡ start + size_of slots = omega (arith, puts_bytes flags q.old.allocated slots q.old m p.1, q.starts) in
+      let ends : AllEnd label_kinds m = puts_ends flags q.old.allocated slots q.old m p.1 q.windows.inside in
+      let quiet : p.2.0.records ≡ m.records = ap (λ (x : Shape LabelUse). x.records) p.2.1 in
+      let longer : length p.2.0.bytes ≡ length m.bytes + length piece = ap (λ (x : Shape LabelUse). length x.bytes) p.2.1 ∙ length-append m.bytes piece in
+      record {
+        there = subst (λ n. window bytes n (length piece) ≡ piece) at (piece_finished m ends (subst (λ (x : Shape LabelUse). Lasts label_kinds x f) p.2.1 lasts) fin.finishes);
+        clear = subst (λ n. AllClear f.records n (length piece)) at (clear_there m p.2.0 f (length piece) (fields_after q.old.allocated slots q.old m p.1 q.fields) quiet longer lasts.records);
+      }
+
+-- ---- of lines
+
+trap_zeros : (flags : IsaFlags) → trap_bytes flags ≡ zeros (trap_size flags)
+trap_zeros flags = sym (of_cond zeros flags.has_zca 2 4)
+
+module _ (job : Job) (code : Code) (b : Buffer) (built : LinesStand (context_of job) job.lines code.lines b) (fin : IsFinishedTo (shape_of b) code.bytes) (relocs : code.relocs ≡ relocs_in (records_of b)) where
+  -- what is found in the code stands there
+  found : (from at : ℕ) (piece : List ℕ) → from ≡ at → AreFound job.flags (shape_of b) code.bytes fin from piece → Stands code at piece
+  found from at piece same h = subst (λ n. Stands code n piece) same (record { there = h.there; unfilled = all_outside code.relocs (records_of b) relocs from (length piece) h.clear })
+
+  pub data_there : (i : ℕ) (bytes : List ℕ) → slice_get job.lines i ≡ Some (Put (RawData bytes)) → Stands code (start_of code.lines i) bytes
+  data_there i bytes e =
+      let stood = (built.each i (Put (RawData bytes)) e).there in
+      found (start_of code.lines i + size_of []) (start_of code.lines i) bytes (omega arith) (data_found job.flags (shape_of b) code.bytes fin [] bytes [] (start_of code.lines i) stood.1.0 stood.1.1)
+
+  pub trap_there : (i : ℕ) (cause : TrapCode) → slice_get job.lines i ≡ Some (Put (Udf cause)) → Stands code (start_of code.lines i) (zeros (trap_size job.flags))
+  trap_there i cause e =
+      let stood = (built.each i (Put (Udf cause)) e).there in
+      let parts : PartsIn job.flags (parts_of (context_of job) stood.0 (Udf cause)) (shape_of b) (start_of code.lines i) (end_of code.lines i) = stood.1 in
+      let slots = Notes (event.Trap cause) ∷ [] in
+      subst (Stands code (start_of code.lines i)) (trap_zeros job.flags)
+      (found (start_of code.lines i + size_of slots) (start_of code.lines i) (trap_bytes job.flags) (omega arith) (data_found job.flags (shape_of b) code.bytes fin slots (trap_bytes job.flags) [] (start_of code.lines i) parts.0 parts.1))
+
+  pub trap_if_there : (i : ℕ) (cmp : IntegerCompare) (cause : TrapCode) → slice_get job.lines i ≡ Some (Put (TrapIf cmp cause)) → Stands code (start_of code.lines i + 4) (zeros (trap_size job.flags))
+  trap_if_there i cmp cause e =
+      let stood = (built.each i (Put (TrapIf cmp cause)) e).there in
+      let parts : PartsIn job.flags (parts_of (context_of job) stood.0 (TrapIf cmp cause)) (shape_of b) (start_of code.lines i) (end_of code.lines i) = stood.1 in
+      let slots = slots_of job.flags (New ∷ Branch (complement_of cmp.kind) (number_of cmp.rs1) (number_of cmp.rs2) 0 ∷ []) ++ Notes (event.Trap cause) ∷ [] in
+      subst (Stands code (start_of code.lines i + 4)) (trap_zeros job.flags)
+      (found (start_of code.lines i + size_of slots) (start_of code.lines i + 4) (trap_bytes job.flags) (omega arith) (data_found job.flags (shape_of b) code.bytes fin slots (trap_bytes job.flags) (Here 0 ∷ []) (start_of code.lines i) parts.0 parts.1))

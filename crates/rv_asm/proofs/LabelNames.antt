@@ -1,84 +1,40 @@
--- Which labels are bound and named, and that a buffer can be finished.
-use Rattle.std.proofs.Common.{◌≡◌, ℕ, ⊎_elim, zero, suc, ◌+◌, ◌<◌, ◌≤◌, ◌⊎◌, inl, inr, Bool, true, false, cond, ◌||◌, List, [], ◌∷◌, ◌++◌, length, Option, Some, None, refl, ap, sym, ◌∙◌, subst, arith}
-use Rattle.std.specs.Prelude.{slice_get, nat_eq, nat_le, nat_lt, is_some, option_map, unwrap_or}
-use Rattle.std.proofs.lemmas.Bool.{true≢false, eq-eqb, leb-false, ltb-true, ltb-false, or_parts, cases_eq, lt-ltb}
-use Rattle.std.proofs.lemmas.List.{append-nil, map-append}
-use Rattle.rv_base.specs.declared.call.TryCallInfo.{TryCallInfo}
-use Rattle.rv_base.specs.declared.label.MachLabel.{MachLabel}
-use Rattle.mach_labels.specs.Table.{first_inner, first_constant}
-use Rattle.rv_inst.specs.Context.{Context}
-use Rattle.rv_inst.specs.declared.code.LineSpan.{LineSpan}
-use Rattle.rv_inst.specs.declared.inst.Inst.{Inst}
-use Rattle.rv_inst.specs.declared.inst.CondBrTarget.TheVariants.{Label, Fallthrough}
-use Rattle.rv_inst.specs.declared.inst.Line.{Line}
-use Rattle.rv_inst.specs.declared.inst.Line.TheVariants.{Inst as Put, Bind}
-use Rattle.rv_inst.specs.declared.label_use.LabelUse.{LabelUse}
-use Rattle.rv_inst.specs.declared.label_use.LabelUse.TheVariants.{Jal20, PCRelLo12I}
-use Rattle.rv_inst.specs.declared.error.Rule.TheVariants as rule_of
-use Rattle.rv_inst.specs.Rules.{broken_rule}
-use Rattle.rv_inst.specs.declared.targets.Targets.{Targets}
-use Rattle.rv_inst.specs.declared.targets.Targets.TheVariants.{Nowhere, Jumps, Branches, Refers, RefersConstant}
-use Rattle.rv_inst.specs.Operands.{targets_of, table_of, labels_of as target_names, inst_labels, try_call_of, try_labels}
-use Rattle.rv_inst.specs.LabelUse.{label_kinds, has_veneer_of}
-use Rattle.rv_inst.specs.Sizes.{Extent, Words, Island, After, Around, extent_of, line_space}
-use Rattle.mach_uses.specs.declared.uses.Use.{Use}
-use Rattle.mach_buffer.specs.Buffer.{bytes_of, uses_of, place_of, labels_of}
-use Rattle.mach_buffer.specs.Shape.{recorded, core}
-use Rattle.mach_uses.specs.Labels.{listed, constant_label}
-use Rattle.mach_buffer.specs.Islands.{is_far}
-use Rattle.mach_buffer.proofs.Laws.{both_lists, comes_from, slice_get-append, slice_get-append_last, append_each, recorded_get}
-use Rattle.rv_emit.specs.Emitted.{Buffer, IsFarUse, AppendsSequence, AppendsInst, AppendsIsland, IslandIfNeeded, AppendsBy, Appends}
-use Rattle.rv_inst.specs.Forms.{jump_kind}
-use Rattle.rv_inst.specs.Sizes.{inst_code}
-use Rattle.rv_inst.specs.Uses.{use_at, target_uses, uses_by, uses_in, uses_start}
-use Rattle.rv_emit.proofs.Laws.{Each, each_none, each_more, uses_kinds, room_keeps, emitted_keeps, no_own, bound_kept}
-use Rattle.rv_asm.specs.Reported.{start_of, end_of, binds_from}
-use Rattle.rv_asm.specs.Refusal.{binds, is_bound}
-use Rattle.rv_asm.specs.LinesInBuffer.{IsNamed, Named, BindPut}
-use Rattle.rv_asm.proofs.AppendedLines.{InstAppends, LineAppends}
+-- Which labels are bound and named, how long code may be, and that a buffer can be finished.
+use Rattle.std.proofs.Common.{[], ap, arith, Bool, cond, false, inl, inr, length, List, None, Option, refl, Some, subst, suc, sym, true, ℕ, ⊎_elim, ◌*◌, ◌++◌, ◌+◌, ◌-◌, ◌<◌, ◌||◌, ◌∙◌, ◌∷◌, ◌≡◌, ◌≤◌, ◌⊎◌}
+use Rattle.std.proofs.lemmas.Bool.{eq-eqb}
+use Rattle.std.proofs.lemmas.List.{append-nil}
+use Rattle.std.specs.Prelude.{is_some, nat_eq, nat_le, slice_get}
+use Rattle.mach_buffer.specs.Buffer.{labels_of}
+use Rattle.mach_uses.specs.Labels.{listed}
+use Rattle.mach_uses.specs.declared.uses.LabelPlace.{LabelPlace}
+use Rattle.rv_inst.specs.declared.inst.CondBrTarget.TheVariants.{Label}
+use Rattle.rv_asm.proofs.Words.{After, allocated_of, append_each, Appends, AppendsBy, AppendsInst, AppendsIsland, AppendsSequence, Around, before_last, Bind, binding_line, BindPut, binds, binds_from, both_lists, bound_kept, Branches, broken_rule, Buffer, bytes_of, bytes_put, CanFinish, CanReach}
+use Rattle.rv_asm.proofs.Words.{cases_eq, cases_lt, code_limit, comes_from, Constant, constant_label, constants_sum, Context, core, deadlines, due_by, due_total, Each, each_more, each_none, emitted_keeps, end_after, ends_within, Extent, extent_of, Fallthrough, few_allocated, few_ways, Finishes}
+use Rattle.rv_asm.proofs.Words.{first_constant, first_inner, has_veneer_of, HasSlack, high_kept, Inst, inst_code, inst_labels, inst_rule, inst_sum, inst_ways, is_bound, is_far, IsConstantLabel, IsFarUse, Island, IslandIfNeeded, IsNamed, IsSoundBuffer, IsUsable, Jal20, jump_kind, Jumps, label_kinds}
+use Rattle.rv_asm.proofs.Words.{LabelUse, last_end, last_near, leb-false, length-append, Line, line_space, line_sum, lines_sum, LineSpan, LinesStand, lt-ltb, MachLabel, map-append, most_counts, Named, named_labels, named_of, no_own, Nowhere, or_parts, PCRelLo12I, pending, pending_at, place_of, Put}
+use Rattle.rv_asm.proofs.Words.{reach_from_slack, reaches_from_slack, recorded, recorded_get, Refers, RefersConstant, registered_of, reserve_from, reserve_of, reserve_other, room_keeps, shape_of, size_limit, size_sum, Sized, slack_from_reach, slack_same, slice_get-append, slice_get-append_last}
+use Rattle.rv_asm.proofs.Words.{space_in, start_of, table_of, target_names, target_uses, Targets, targets_of, total, true≢false, try_call_of, try_labels, TryCallInfo, Use, use_at, use_usable, uses_by, uses_in, uses_kinds, uses_of, uses_start, veneers_reach, ways_more, Words, words_in, words_long}
+use Rattle.rv_asm.proofs.Words.{words_pending, words_within}
+use Rattle.rv_asm.proofs.LinesInBuffer.{InstAppends, LineAppends, room_by}
+use Rattle.rv_asm.proofs.RefusalOrder.{all_at, AllBound, bind_at, test_none}
+use Rattle.rv_asm.proofs.Spans.{get_after, given_from, given_next}
+use Rattle.std.proofs.lemmas.Option.{none-some}
 
 -- ---- the binds of lines
 
--- a span more changes no start before it
-pub start_more : (spans more : List LineSpan) (i : ℕ) → i < length spans → start_of (spans ++ more) i ≡ start_of spans i
-start_more [] more i lt = absurd (omega arith)
-start_more (s ∷ spans) more zero lt = refl
-start_more (s ∷ spans) more (suc i) lt = start_more spans more i (omega arith)
+-- that of a line
+abbrev own_binds : ℕ → ℕ → ℕ → Line → List LabelPlace
+own_binds i start end (Put inst) = []
+own_binds i start end (Bind l) = (record { label = l; offset = start }) ∷ []
 
-pub end_more : (spans more : List LineSpan) (i : ℕ) → i < length spans → end_of (spans ++ more) i ≡ end_of spans i
-end_more [] more i lt = absurd (omega arith)
-end_more (s ∷ spans) more zero lt = refl
-end_more (s ∷ spans) more (suc i) lt = end_more spans more i (omega arith)
-
-pub start_last : (spans : List LineSpan) (span : LineSpan) → start_of (spans ++ span ∷ []) (length spans) ≡ span.start
-start_last spans span = ap (λ o. unwrap_or (option_map (λ (s : LineSpan). s.start) o) 0) (slice_get-append_last spans span)
-
-pub end_last : (spans : List LineSpan) (span : LineSpan) → end_of (spans ++ span ∷ []) (length spans) ≡ span.end
-end_last spans span = ap (λ o. unwrap_or (option_map (λ (s : LineSpan). s.end) o) 0) (slice_get-append_last spans span)
-
--- a span more changes nothing for the lines before it
-binds_spans : (spans more : List LineSpan) (i : ℕ) (lines : List Line) → i + length lines ≤ length spans → binds_from (spans ++ more) i lines ≡ binds_from spans i lines
-binds_spans spans more i [] le = refl
-binds_spans spans more i (Put inst ∷ lines) le = binds_spans spans more (suc i) lines (omega arith)
-binds_spans spans more i (Bind l ∷ lines) le =
-    let rest = binds_spans spans more (suc i) lines (omega arith) in
-    let start = start_more spans more i (omega arith) in
-    λ j. (record { label = l; offset = start j }) ∷ rest j
-
-binds_append : (spans : List LineSpan) (i : ℕ) (lines more : List Line) → binds_from spans i (lines ++ more) ≡ binds_from spans i lines ++ binds_from spans (i + length lines) more
-binds_append spans i [] more = let same : i ≡ i + 0 = omega arith in ap (λ n. binds_from spans n more) same
-binds_append spans i (Put inst ∷ lines) more =
-    let same : suc i + length lines ≡ i + suc (length lines) = omega arith in
-    binds_append spans (suc i) lines more ∙ ap (λ n. binds_from spans (suc i) lines ++ binds_from spans n more) same
-binds_append spans i (Bind l ∷ lines) more =
-    let same : suc i + length lines ≡ i + suc (length lines) = omega arith in
-    ap (λ bs. (record { label = l; offset = start_of spans i }) ∷ bs) (binds_append spans (suc i) lines more ∙ ap (λ n. binds_from spans (suc i) lines ++ binds_from spans n more) same)
+-- by what each line gives
+binds_given : (spans : List LineSpan) (i : ℕ) (lines : List Line) → binds_from spans i lines ≡ given_from own_binds spans i lines
+binds_given spans i [] = refl
+binds_given spans i (Put inst ∷ lines) = binds_given spans (suc i) lines
+binds_given spans i (Bind l ∷ lines) = ap (λ bs. (record { label = l; offset = start_of spans i }) ∷ bs) (binds_given spans (suc i) lines)
 
 -- the binds of one line more
-pub binds_next : (lines : List Line) (spans : List LineSpan) (line : Line) (span : LineSpan) → length spans ≡ length lines → binds_from (spans ++ span ∷ []) 0 (lines ++ line ∷ []) ≡ binds_from spans 0 lines ++ binds_from (spans ++ span ∷ []) (length spans) (line ∷ [])
-binds_next lines spans line span count =
-    let at : 0 + length lines ≡ length spans = omega arith in
-    binds_append (spans ++ span ∷ []) 0 lines (line ∷ []) ∙ (λ i. binds_spans spans (span ∷ []) 0 lines (omega arith) i ++ binds_from (spans ++ span ∷ []) (at i) (line ∷ []))
+binds_next : (lines : List Line) (spans : List LineSpan) (line : Line) (span : LineSpan) → length spans ≡ length lines → binds_from (spans ++ span ∷ []) 0 (lines ++ line ∷ []) ≡ binds_from spans 0 lines ++ own_binds (length spans) span.start span.end line
+binds_next lines spans line span count = binds_given (spans ++ span ∷ []) 0 (lines ++ line ∷ []) ∙ given_next own_binds lines spans line span count ∙ ap (λ bs. bs ++ own_binds (length spans) span.start span.end line) (sym (binds_given spans 0 lines))
 
 or_assoc : (a b c : Bool) → (a || (b || c)) ≡ ((a || b) || c)
 or_assoc true b c = refl
@@ -107,26 +63,14 @@ good_from_named lines spans b n j u h =
     subst (IsGood lines b) from.is (n.kinds j from.from from.there, n.named j from.from from.there)
 
 more_named : (lines more : List Line) (number : ℕ) → IsNamed lines number → IsNamed (lines ++ more) number
-more_named lines more number n = record {
-  index = n.index;
-  line = n.line;
-  there = slice_get-append lines more n.index n.line n.there;
-  place = n.place;
-  label = n.label;
-  names = n.names;
-  is = n.is;
-}
+more_named lines more number n = record { index = n.index; line = n.line; there = slice_get-append lines more n.index n.line n.there; place = n.place; label = n.label; names = n.names; is = n.is }
 
 -- places are only added, to those below the labels of constants
 abbrev Keeps : Buffer → Buffer → Type 0
 Keeps old new = (label : ℕ) → label < first_constant → is_some (place_of old label) ≡ true → is_some (place_of new label) ≡ true
 
 known_kept : (lines more : List Line) (old new : Buffer) → Keeps old new → (label : ℕ) → IsKnownLabel lines old label → IsKnownLabel (lines ++ more) new label
-known_kept lines more old new keeps label (inl bound) = on (nat_lt label first_constant) refl
-  where
-    on : (c : Bool) → nat_lt label first_constant ≡ c → IsKnownLabel (lines ++ more) new label
-    on true e = inl (keeps label (ltb-true _ _ e) bound)
-    on false e = inr (inr (ltb-false _ _ e))
+known_kept lines more old new keeps label (inl bound) = ⊎_elim (λ low. inl (keeps label low bound)) (λ high. inr (inr high)) (cases_lt label first_constant)
 known_kept lines more old new keeps label (inr (inl n)) = inr (inl (more_named lines more label n))
 known_kept lines more old new keeps label (inr (inr high)) = inr (inr high)
 
@@ -151,10 +95,9 @@ good_island : (lines : List Line) (old new : Buffer) → AppendsIsland old new �
 good_island lines old new p h =
     let jump = use_at (length (bytes_of old)) p.after_island Jal20 in
     let uses = uses_of old ++ jump ∷ [] in
-    let own : IsGood (lines ++ []) new jump = (inl refl, inl (ap is_some p.bound)) in
     let first : Each (IsGood (lines ++ []) new) (recorded uses) =
     subst (Each (IsGood (lines ++ []) new)) (sym (map-append core (uses_of old) (jump ∷ [])))
-    (append_each (IsGood (lines ++ []) new) (recorded (uses_of old)) jump own (λ j u e. good_kept lines [] old new (island_keeps old new p) u (h j u e))) in
+    (append_each (IsGood (lines ++ []) new) (recorded (uses_of old)) jump ((inl refl, inl (ap is_some p.bound))) (λ j u e. good_kept lines [] old new (island_keeps old new p) u (h j u e))) in
     no_more lines new
     (good_as (lines ++ []) new (recorded uses ++ p.own.more) p.own.grown
     (both_lists (IsGood (lines ++ []) new) (recorded uses) p.own.more first
@@ -163,7 +106,7 @@ good_island lines old new p h =
     (inr x.far, subst (λ (l : MachLabel). IsKnownLabel (lines ++ []) new l.number) x.names (first x.user (core x.used) (recorded_get uses x.user x.used x.there)).1))))
 
 pub good_room : (lines : List Line) (distance : ℕ) (old new : Buffer) (made : Bool) → IslandIfNeeded distance old new made → AreGood lines old → AreGood lines new
-good_room lines distance old new made m h = ⊎_elim (λ same. subst (AreGood lines) (sym same.1) h) (λ put. good_island lines old new put.1 h) m.put
+good_room lines distance old new made m h = room_by (AreGood lines) distance old new made m h (λ put. good_island lines old new put h)
 
 -- a label is one of these
 pub record IsOf (labels : List MachLabel) (number : ℕ) : Type 0 where
@@ -180,10 +123,6 @@ UsesOneOf labels u = IsOf labels u.label.number ⊎ ((first_constant ≤ u.label
 of_first : (labels more : List MachLabel) (number : ℕ) → IsOf labels number → IsOf (labels ++ more) number
 of_first labels more number o = record { place = o.place; label = o.label; names = slice_get-append labels more o.place o.label o.names; is = o.is }
 
-get_after : {X : Type 0} (xs ys : List X) (i : ℕ) → slice_get (xs ++ ys) (length xs + i) ≡ slice_get ys i
-get_after [] ys i = let none : 0 + i ≡ i = omega arith in ap (slice_get ys) none
-get_after (x ∷ xs) ys i = let next : suc (length xs) + i ≡ suc (length xs + i) = omega arith in ap (slice_get (x ∷ xs ++ ys)) next ∙ get_after xs ys i
-
 -- one of the labels after others
 of_rest : (labels more : List MachLabel) (number : ℕ) → IsOf more number → IsOf (labels ++ more) number
 of_rest labels more number o = record { place = length labels + o.place; label = o.label; names = get_after labels more o.place ∙ o.names; is = o.is }
@@ -197,7 +136,7 @@ table_named inst u f = of_rest (try_labels (try_call_of inst) ++ target_names (t
   is = refl;
 })
 
-pub uses_labels : (context : Context) (start end : ℕ) (inst : Inst) → Each (UsesOneOf (inst_labels inst)) (uses_in context start end inst)
+pub uses_labels : (context : Context) (start end : ℕ) (inst : Inst) → Each (UsesOneOf (try_labels (try_call_of inst) ++ target_names (targets_of inst))) (uses_in context start end inst)
 uses_labels context start end inst = by (uses_start (inst_code context inst).led start) (try_call_of inst)
   where
     first : (label : MachLabel) (labels : List MachLabel) → IsOf (label ∷ labels) label.number
@@ -221,20 +160,12 @@ uses_labels context start end inst = by (uses_start (inst_code context inst).led
         each_more (UsesOneOf []) _ (use_at (from + 4) (constant_label k) PCRelLo12I ∷ []) (inr (omega arith, refl))
         (each_more (UsesOneOf []) _ [] (inr (omega arith, refl)) (each_none _))
 
-    by : (from : ℕ) (t : Option TryCallInfo) → Each (UsesOneOf (try_labels t ++ target_names (targets_of inst) ++ table_of inst)) (uses_by context.flags from end t (targets_of inst))
-    by from None = λ j u h. ⊎_elim (λ o. inl (of_first (target_names (targets_of inst)) (table_of inst) u.label.number o)) (λ high. inr high) (on from (targets_of inst) j u h)
+    by : (from : ℕ) (t : Option TryCallInfo) → Each (UsesOneOf (try_labels t ++ target_names (targets_of inst))) (uses_by context.flags from end t (targets_of inst))
+    by from None = on from (targets_of inst)
     by from (Some t) = each_more (UsesOneOf _) _ [] (inl (first t.continuation _)) (each_none _)
 
 own_named : (lines : List Line) (inst : Inst) (number : ℕ) → IsOf (inst_labels inst) number → IsNamed (lines ++ Put inst ∷ []) number
-own_named lines inst number o = record {
-  index = length lines;
-  line = Put inst;
-  there = slice_get-append_last lines (Put inst);
-  place = o.place;
-  label = o.label;
-  names = o.names;
-  is = o.is;
-}
+own_named lines inst number o = record { index = length lines; line = Put inst; there = slice_get-append_last lines (Put inst); place = o.place; label = o.label; names = o.names; is = o.is }
 
 -- labels that are bound stay so
 code_bound : {count : ℕ} {code : List ℕ} {own : List (Use LabelUse)} {old new : Buffer} → AppendsSequence count code own old new → Keeps old new
@@ -248,14 +179,13 @@ code_bound {old = old} {new = new} p label low = on (place_of old label) refl
 good_code : (lines more : List Line) {count : ℕ} (code : List ℕ) (own : List (Use LabelUse)) (old new : Buffer) → AppendsSequence count code own old new → Each (IsGood (lines ++ more) new) own → AreGood lines old → AreGood (lines ++ more) new
 good_code lines more code own old new p good h =
     let all = lines ++ more in
-    let whole : recorded (uses_of new) ≡ recorded (uses_of old) ++ recorded own = ap recorded p.uses ∙ map-append core (uses_of old) own in
     let each : Each (IsGood all new) (recorded own) = λ j u e. let from = comes_from core own j u e in subst (IsGood all new) from.is (good j from.from from.there) in
-    good_as all new (recorded (uses_of old) ++ recorded own) whole
+    good_as all new (recorded (uses_of old) ++ recorded own) (ap recorded p.uses ∙ map-append core (uses_of old) own)
     (both_lists (IsGood all new) (recorded (uses_of old)) (recorded own) (λ j u e. good_kept lines more old new (code_bound p) u (h j u e)) each)
 
 -- those of an instruction are
 own_good : (context : Context) (lines : List Line) (inst : Inst) (start end : ℕ) (new : Buffer) → Each (IsGood (lines ++ Put inst ∷ []) new) (uses_in context start end inst)
-own_good context lines inst start end new j u e = (uses_kinds context start end inst j u e, inr (⊎_elim (λ o. inl (own_named lines inst u.label.number o)) (λ high. inr high.0) (uses_labels context start end inst j u e)))
+own_good context lines inst start end new j u e = (uses_kinds context start end inst j u e, inr (⊎_elim (λ o. inl (own_named lines inst u.label.number (of_first _ (table_of inst) u.label.number o))) (λ high. inr high.0) (uses_labels context start end inst j u e)))
 
 good_inst : (context : Context) (lines : List Line) (inst : Inst) (old new : Buffer) → AppendsInst context inst old new → AreGood lines old → AreGood (lines ++ Put inst ∷ []) new
 good_inst context lines inst old new p h =
@@ -282,25 +212,16 @@ good_emitted context lines inst old new e h = by (extent_of context inst) e
     by (Island space) (made, room) = good_line lines (Put inst ∷ []) new (good_room lines space old new made room h)
     by (After space size more) (mid, made, room, words) = good_inst context lines inst mid new words (good_room lines space old mid made room h)
     by (Around before space after) a =
-        let first = no_more lines a.mid (good_code lines [] a.first.code [] old a.mid (no_own a.first.code [] old a.mid a.first.adds) (each_none _) h) in
         good_code lines (Put inst ∷ []) a.second.code (uses_in context (length (bytes_of old)) (length (bytes_of new)) inst) a.last new (no_own a.second.code _ a.last new a.second.adds) (own_good context lines inst (length (bytes_of old)) (length (bytes_of new)) new)
-        (good_room lines space a.mid a.last a.made a.room first)
+        (good_room lines space a.mid a.last a.made a.room (no_more lines a.mid (good_code lines [] a.first.code [] old a.mid (no_own a.first.code [] old a.mid a.first.adds) (each_none _) h)))
 
 -- ---- the loop's invariant
 
 pub named_none : (b : Buffer) → uses_of b ≡ [] → labels_of b ≡ [] → ((label : ℕ) → place_of b label ≡ None) → Named [] [] b
-named_none b uses labels none = record {
-  labels = labels;
-  unbound = λ label low free. none label;
-  kinds = λ j u h. absurd (no_use j u h);
-  named = λ j u h. absurd (no_use j u h);
-}
+named_none b uses labels none = record { labels = labels; unbound = λ label low free. none label; kinds = λ j u h. absurd (no_use j u h); named = λ j u h. absurd (no_use j u h) }
   where
     no_use : (j : ℕ) (u : Use LabelUse) → slice_get (uses_of b) j ≡ Some u → ⊥
-    no_use j u h = none_at j u (sym (ap (λ us. slice_get us j) uses) ∙ h)
-      where
-        none_at : (j : ℕ) (u : Use LabelUse) → slice_get [] j ≡ Some u → ⊥
-        none_at j u e = absurd (cc)
+    no_use j u h = none-some u (sym (ap (λ us. slice_get us j) uses) ∙ h)
 
 named_from : (lines : List Line) (spans : List LineSpan) (b : Buffer) → labels_of b ≡ binds_from spans 0 lines → ((label : ℕ) → label < first_inner → is_bound lines label ≡ false → place_of b label ≡ None) → AreGood lines b → Named lines spans b
 named_from lines spans b labels unbound good = record {
@@ -317,8 +238,7 @@ inst_named context lines spans inst span old new n count p =
     named_from (lines ++ Put inst ∷ []) (spans ++ span ∷ []) new
     (then_.0 ∙ first.0 ∙ n.labels ∙ sym (append-nil _) ∙ sym (binds_next lines spans (Put inst) span count))
     (λ label low free.
-    let before : is_bound lines label ≡ false = (or_parts (is_bound lines label) false (sym (bound_append lines (Put inst ∷ []) label) ∙ free)).0 in
-    then_.1 label low ∙ first.1 label low ∙ n.unbound label low before)
+    then_.1 label low ∙ first.1 label low ∙ n.unbound label low ((or_parts (is_bound lines label) false (sym (bound_append lines (Put inst ∷ []) label) ∙ free)).0))
     (good_emitted context lines inst p.mid new p.emitted (good_room lines line_space old p.mid p.made p.room (good_from_named lines spans old n)))
 
 bind_keeps : (label : MachLabel) (old new : Buffer) (span : LineSpan) → BindPut label old new span → Keeps old new
@@ -333,26 +253,197 @@ listed_low label at low = ap (λ b. cond b ((record { label = label; offset = at
 
 bind_named : (context : Context) (lines : List Line) (spans : List LineSpan) (label : MachLabel) (span : LineSpan) (old new : Buffer) → label.number < first_inner → Named lines spans old → length spans ≡ length lines → BindPut label old new span → Named (lines ++ Bind label ∷ []) (spans ++ span ∷ []) new
 bind_named context lines spans label span old new low n count p =
-    let start : start_of (spans ++ span ∷ []) (length spans) ≡ length (bytes_of old) = start_last spans span ∙ p.start in
-    let own : labels_of new ≡ binds_from spans 0 lines ++ binds_from (spans ++ span ∷ []) (length spans) (Bind label ∷ []) =
-    p.labels ∙ (λ i. n.labels i ++ listed_low label (length (bytes_of old)) low i) ∙ ap (λ at. binds_from spans 0 lines ++ (record { label = label; offset = at }) ∷ []) (sym start) in
+    let own : labels_of new ≡ binds_from spans 0 lines ++ own_binds (length spans) span.start span.end (Bind label) =
+    p.labels ∙ (λ i. n.labels i ++ listed_low label (length (bytes_of old)) low i) ∙ ap (λ at. binds_from spans 0 lines ++ (record { label = label; offset = at }) ∷ []) (sym p.start) in
     named_from (lines ++ Bind label ∷ []) (spans ++ span ∷ []) new
     (own ∙ sym (binds_next lines spans (Bind label) span count))
     (λ other lt free.
     let parts = or_parts (is_bound lines other) (is_bound (Bind label ∷ []) other) (sym (bound_append lines (Bind label ∷ []) other) ∙ free) in
-    let mine = or_parts (nat_eq label.number other) false parts.1 in
-    p.kept other (λ e. true≢false (sym (eq-eqb label.number other (sym e)) ∙ mine.0)) ∙ n.unbound other lt parts.0)
+    p.kept other (λ e. true≢false (sym (eq-eqb label.number other (sym e)) ∙ (or_parts (nat_eq label.number other) false parts.1).0)) ∙ n.unbound other lt parts.0)
     (good_as (lines ++ Bind label ∷ []) new (recorded (uses_of old)) (ap recorded p.uses)
     (λ j u e. good_kept lines (Bind label ∷ []) old new (bind_keeps label old new span p) u (good_from_named lines spans old n j u e)))
 
 -- a label that a line binds is one of the listing's
 pub low_label : (context : Context) (label : MachLabel) → broken_rule context (Bind label) ≡ None → label.number < first_inner
-low_label context label rule = on (nat_le first_inner label.number) refl rule
-  where
-    on : (c : Bool) → nat_le first_inner label.number ≡ c → cond c (Some rule_of.Label) None ≡ None → label.number < first_inner
-    on true e h = absurd (cc)
-    on false e h = leb-false _ _ e
+low_label context label rule = leb-false _ _ (test_none (nat_le first_inner label.number) _ rule)
 
 pub named_next : (context : Context) (lines : List Line) (spans : List LineSpan) (line : Line) (span : LineSpan) (old new : Buffer) → broken_rule context line ≡ None → Named lines spans old → length spans ≡ length lines → LineAppends context line old new span → Named (lines ++ line ∷ []) (spans ++ span ∷ []) new
 named_next context lines spans (Put inst) span old new rule n count p = inst_named context lines spans inst span old new n count p
 named_next context lines spans (Bind label) span old new rule n count p = bind_named context lines spans label span old new (low_label context label rule) n count p
+
+-- ==== How long code may be, and that an instruction finds its room.
+
+-- ---- sums
+
+lines_append : (context : Context) (lines more : List Line) → lines_sum context (lines ++ more) ≡ lines_sum context lines + lines_sum context more
+lines_append context [] more = omega arith
+lines_append context (line ∷ lines) more = let rest = lines_append context lines more in omega arith
+
+pub sum_next : (context : Context) (lines : List Line) (line : Line) → size_sum context (lines ++ line ∷ []) ≡ size_sum context lines + line_sum context line
+sum_next context lines line = let whole = lines_append context lines (line ∷ []) in omega arith
+
+-- each line counts for 128 bytes and more
+pub sum_least : (context : Context) (line : Line) → 128 ≤ line_sum context line
+sum_least context (Bind label) = omega arith
+sum_least context (Put inst) = omega arith
+
+-- ---- room for constants that don't stand yet
+
+-- it depends on the places of their labels alone
+reserve_kept : (old new : Buffer) → registered_of new ≡ registered_of old → ((k : ℕ) → place_of new (first_constant + k) ≡ place_of old (first_constant + k)) → reserve_of (shape_of new) ≡ reserve_of (shape_of old)
+reserve_kept old new registered places = ap (reserve_from (place_of new) 0) registered ∙ reserve_other (place_of old) (place_of new) 0 (registered_of old) (λ k least. places k)
+
+-- where none stands, it is what they count for
+reserve_all : (place : ℕ → Option ℕ) (i : ℕ) (constants : List Constant) → ((label : ℕ) → place label ≡ None) → reserve_from place i constants ≡ constants_sum constants
+reserve_all place i [] none = refl
+reserve_all place i (c ∷ constants) none =
+    λ j. cond (is_some (none (first_constant + i) j)) 0 (length c.bytes + 16) + (reserve_all place (suc i) constants none) j
+
+-- ---- fewer that are due
+
+-- where fewer are due at each end, there are fewer
+pub fewer_from_due : (ds es : List ℕ) → ((end : ℕ) → due_by end ds ≤ due_by end es) → length ds ≤ length es
+fewer_from_due ds es h = let end = total ds + total es in omega (arith, due_total ds end (omega arith), due_total es end (omega arith), h end)
+
+-- ---- what is used up
+
+-- bytes, with a veneer for each use that is pending and the constants that don't stand yet
+abbrev pub used : Buffer → ℕ
+used b = length (bytes_of b) + 8 * length (pending b) + reserve_of (shape_of b)
+
+-- at most so many bytes and five inner labels more
+pub record Uses (bytes : ℕ) (old new : Buffer) : Type 0 where
+  pub size : used new ≤ used old + bytes
+  pub allocated : allocated_of new ≤ allocated_of old + 5
+
+pub island_uses : (old new : Buffer) → AppendsIsland old new → Uses 17 old new
+island_uses old new p = record {
+  size = let none : length (pending new) ≡ 0 = ap length p.settled in let short = p.short in omega arith;
+  allocated = let one = p.allocated in omega arith;
+}
+
+pub room_uses : (distance : ℕ) (old new : Buffer) (made : Bool) → IslandIfNeeded distance old new made → Uses 17 old new
+room_uses distance old new made m = room_by (Uses 17 old) distance old new made m (record { size = omega arith; allocated = omega arith }) (island_uses old new)
+
+-- so many bytes, veneers for so many uses more, and five own labels at most
+code_uses : (count : ℕ) (code : List ℕ) (own : List (Use LabelUse)) (size more : ℕ) (old new : Buffer) → count ≤ 5 → AppendsSequence count code own old new → length (bytes_of new) ≡ length (bytes_of old) + size → length (pending new) ≤ length (pending old) + more → Uses (size + 8 * more) old new
+code_uses count code own size more old new own_few p long few =
+    let allocated = p.allocated in
+    -- code puts no constant
+    record { size = omega (arith, long, few, reserve_kept old new p.registered (λ k. high_kept p (first_constant + k) (omega arith))); allocated = omega (arith, allocated, own_few) }
+
+-- one thing after another, of which one allocates no label
+uses_then : (first rest : ℕ) (old mid new : Buffer) → (allocated_of mid ≡ allocated_of old) ⊎ (allocated_of new ≡ allocated_of mid) → Uses first old mid → Uses rest mid new → Uses (first + rest) old new
+uses_then first rest old mid new same a b =
+    let x = a.size in let y = b.size in let z = a.allocated in let w = b.allocated in
+    record { size = omega (arith, x, y); allocated = ⊎_elim (λ none. omega (arith, w, none)) (λ none. omega (arith, z, none)) same }
+
+more_uses : (least most : ℕ) (old new : Buffer) → least ≤ most → Uses least old new → Uses most old new
+more_uses least most old new le u = let x = u.size in record { size = omega (arith, le, x); allocated = u.allocated }
+
+-- an instruction's words, an island and the veneers of the labels to which it goes
+appended_uses : (context : Context) (inst : Inst) (old new : Buffer) → Appends context inst old new → Uses (words_in (extent_of context inst) + 8 * length (inst_ways inst) + 17) old new
+appended_uses context inst old new e = by (extent_of context inst) refl e
+  where
+    ways : ℕ
+    ways = length (inst_ways inst)
+
+    by : (e : Extent) → extent_of context inst ≡ e → AppendsBy context e inst old new → Uses (words_in e + 8 * ways + 17) old new
+    by (Words size) is words =
+        more_uses (size + 8 * ways) _ old new (omega arith)
+        (code_uses words.own words.code _ size ways old new words.few words.adds (bytes_put context inst old new words ∙ ap (λ e. length (bytes_of old) + words_in e) is) (ways_more context inst old new words))
+    by (Island space) is (made, room) = more_uses 17 _ old new (omega arith) (room_uses space old new made room)
+    by (After space size more) is (mid, made, room, words) =
+        more_uses (17 + (size + 8 * ways)) _ old new (omega arith)
+        (uses_then 17 (size + 8 * ways) old mid new (inr (omega (arith, words.alone (ap (λ e. is_some (space_in e)) is), words.adds.allocated))) (room_uses space old mid made room)
+        (code_uses words.own words.code _ size ways mid new words.few words.adds (bytes_put context inst mid new words ∙ ap (λ e. length (bytes_of mid) + words_in e) is) (ways_more context inst mid new words)))
+    by (Around before space after) is a =
+        let none : length (pending a.mid) ≤ length (pending old) + 0 = let same : length (pending a.mid) ≡ length (pending old) = ap length (words_pending before [] _ old a.mid a.first ∙ append-nil (pending old)) in omega (arith, same) in
+        let few : length (pending new) ≤ length (pending a.last) + ways =
+        omega (arith, (ap length (words_pending after _ [] a.last new a.second) ∙ length-append (pending a.last) _), few_ways context (place_of a.last) (length (bytes_of old)) (length (bytes_of new)) inst) in
+        more_uses (before + 8 * 0 + (17 + (after + 8 * ways))) _ old new (omega arith)
+        (uses_then (before + 8 * 0) (17 + (after + 8 * ways)) old a.mid new (inl a.first.adds.allocated)
+        (code_uses 0 a.first.code [] before 0 old a.mid (omega arith) (no_own a.first.code [] old a.mid a.first.adds) (words_long before [] _ old a.mid a.first) none)
+        (uses_then 17 (after + 8 * ways) a.mid a.last new (inr a.second.adds.allocated) (room_uses space a.mid a.last a.made a.room)
+        (code_uses 0 a.second.code _ after ways a.last new (omega arith) (no_own a.second.code _ a.last new a.second.adds) (words_long after _ [] a.last new a.second) few)))
+
+-- what comes before it apart, an instruction uses no more than it counts for
+pub emitted_uses : (context : Context) (inst : Inst) (old new : Buffer) → inst_rule context inst ≡ None → inst_sum context inst ≤ code_limit → Appends context inst old new → Uses (inst_sum context inst - 17) old new
+emitted_uses context inst old new rule small e =
+    more_uses _ (inst_sum context inst - 17) old new (omega (arith, words_within context inst rule small, most_counts context inst)) (appended_uses context inst old new e)
+
+-- ---- the loop's invariant
+
+pub sized_none : (context : Context) (b : Buffer) → bytes_of b ≡ [] → uses_of b ≡ [] → ((label : ℕ) → place_of b label ≡ None) → registered_of b ≡ context.constants → allocated_of b ≡ 0 → Sized context [] b
+sized_none context b bytes uses places registered allocated =
+    let none : pending b ≡ [] = ap (deadlines (pending_at (place_of b)) label_kinds) uses in
+    record { reach = subst (CanReach (length (bytes_of b))) (sym none) tt; size = omega (arith, ap length none, ap length bytes, (reserve_all (place_of b) 0 (registered_of b) places ∙ ap constants_sum registered)); allocated = omega arith }
+
+inst_sized : (context : Context) (lines : List Line) (inst : Inst) (old new : Buffer) (span : LineSpan) → inst_rule context inst ≡ None → inst_sum context inst ≤ code_limit → Sized context lines old → InstAppends context inst old new span → Sized context (lines ++ Put inst ∷ []) new
+inst_sized context lines inst old new span rule small s p =
+    let room : Uses 17 old p.mid = room_uses line_space old p.mid p.made p.room in
+    let block : Uses (inst_sum context inst - 17) p.mid new = emitted_uses context inst p.mid new rule small p.emitted in
+    let sum = sum_next context lines (Put inst) in
+    let least = sum_least context (Put inst) in
+    let size = s.size in
+    let allocated = s.allocated in
+    record { reach = p.reach; size = omega (arith, room.size, block.size, sum, least, size); allocated = omega (arith, room.allocated, block.allocated, sum, least, allocated) }
+
+bind_sized : (context : Context) (lines : List Line) (label : MachLabel) (old new : Buffer) (span : LineSpan) → Sized context lines old → BindPut label old new span → Sized context (lines ++ Bind label ∷ []) new
+bind_sized context lines label old new span s p =
+    let sum = sum_next context lines (Bind label) in
+    let long : length (bytes_of new) ≡ length (bytes_of old) = ap length p.bytes in
+    let slack : HasSlack (length (bytes_of old)) 14 (pending new) = slack_same (length (bytes_of old)) 14 (pending old) (pending new) p.fewer (slack_from_reach (length (bytes_of old)) (pending old) s.reach) in
+    let reach : CanReach (length (bytes_of old)) (pending new) = reach_from_slack (length (bytes_of old)) (pending new) slack in
+    let reserve = reserve_kept old new p.registered (λ k. p.kept (first_constant + k) (λ e. absurd (omega (arith, e, p.low)))) in
+    let size = s.size in
+    let allocated = s.allocated in
+    record { reach = subst (λ n. CanReach n (pending new)) (sym long) reach; size = omega (arith, sum, long, fewer_from_due (pending new) (pending old) p.fewer, reserve, size); allocated = omega (arith, sum, p.allocated, allocated) }
+
+pub sized_next : (context : Context) (lines : List Line) (line : Line) (old new : Buffer) (span : LineSpan) → broken_rule context line ≡ None → line_sum context line ≤ code_limit → Sized context lines old → LineAppends context line old new span → Sized context (lines ++ line ∷ []) new
+sized_next context lines (Put inst) old new span rule small s p = inst_sized context lines inst old new span rule small s p
+sized_next context lines (Bind label) old new span rule small s p = bind_sized context lines label old new span s p
+
+-- ==== A buffer of lines can be finished, and how long its code is.
+
+-- each label that a line names is bound
+abbrev pub NamesBound : List Line → Type 0
+NamesBound lines = (i : ℕ) (line : Line) → slice_get lines i ≡ Some line → AllBound lines (named_labels line)
+
+-- a bound label stands where the line that binds it does
+pub bound_place : {context : Context} (lines : List Line) (spans : List LineSpan) (b : Buffer) (number : ℕ) → LinesStand context lines spans b → is_bound lines number ≡ true → place_of b number ≡ Some (start_of spans (binding_line lines number))
+bound_place lines spans b number built h =
+    let at = bind_at lines number h in
+    ap (place_of b) (sym at.2) ∙ (built.each (binding_line lines number) (Bind at.0) at.1).there.1
+
+named_place : {context : Context} (lines : List Line) (spans : List LineSpan) (b : Buffer) (number : ℕ) → LinesStand context lines spans b → NamesBound lines → IsNamed lines number → is_some (place_of b number) ≡ true
+named_place lines spans b number built all n =
+    ap (λ m. is_some (place_of b m)) (sym n.is) ∙ ap is_some (bound_place lines spans b n.label.number built (all_at (λ (l : MachLabel). is_bound lines l.number ≡ true) (named_labels n.line) (all n.index n.line n.there) n.place n.label n.names))
+
+-- a label that a use may name, among those of constants, is that of one that was named
+constant_usable : (b : Buffer) (label : ℕ) → IsSoundBuffer b → first_constant ≤ label → IsUsable (shape_of b) label → IsConstantLabel (named_of b) label
+constant_usable b label sound high usable = let few = few_allocated label_kinds b sound in ⊎_elim (λ known. absurd (omega (arith, few, high, known))) (λ constant. constant) usable
+
+-- the last veneers, and the constants after them, are within the size of lines and constants, but for the zero bytes before them
+last_within : (context : Context) (lines : List Line) (b : Buffer) → IsSoundBuffer b → Sized context lines b → end_after (shape_of b) (last_end label_kinds (shape_of b)) ≤ size_sum context lines + 3
+last_within context lines b sound s =
+    omega (arith, last_near (bytes_of b) (length (pending b)), ends_within label_kinds b sound (last_end label_kinds (shape_of b)), s.size)
+
+pub can_finish : (context : Context) (lines : List Line) (spans : List LineSpan) (b : Buffer) → LinesStand context lines spans b → Named lines spans b → Sized context lines b → size_sum context lines ≤ size_limit → NamesBound lines → CanFinish label_kinds (shape_of b)
+can_finish context lines spans b built n s sum all =
+    let near : length (before_last (bytes_of b) (length (pending b))) ≤ length (bytes_of b) + 3 = last_near (bytes_of b) (length (pending b)) in
+    record {
+      windows = built.windows;
+      bound = λ j u h. ⊎_elim (λ known. inl known)
+          (λ other. ⊎_elim (λ by_line. inl (named_place lines spans b u.label.number built all by_line)) (λ high. inr (constant_usable b u.label.number built.sound high (use_usable label_kinds b built.sound j u h))) other)
+          (n.named j u h);
+      direct = λ j u h no_veneer near. absurd (⊎_elim (λ yes. true≢false (sym yes ∙ no_veneer)) (λ far. true≢false (sym far ∙ near)) (n.kinds j u h));
+      reach = veneers_reach (length (before_last (bytes_of b) (length (pending b)))) (pending b) (reaches_from_slack (length (bytes_of b)) 14 (length (before_last (bytes_of b) (length (pending b)))) (pending b) (omega arith) (slack_from_reach (length (bytes_of b)) (pending b) s.reach));
+      short = omega (arith, last_within context lines b built.sound s, sum);
+      constants = built.stand;
+    }
+
+-- and the code is at most 16 bytes longer than its lines and constants count for
+pub finished_short : (context : Context) (lines : List Line) (b : Buffer) (bytes : List ℕ) → IsSoundBuffer b → Sized context lines b → Finishes label_kinds (shape_of b) bytes → length bytes ≤ size_sum context lines + 16
+finished_short context lines b bytes sound s f =
+    omega (arith, last_within context lines b sound s, f.long, f.same_length)

@@ -1,12 +1,232 @@
 -- What the crates above cite of this one's proofs: laws about its definitions, by subject.
-
--- from line to line
-pub use Rattle.rv_asm.proofs.LineLaws.{entry_is_first_line, lines_run, nothing_runs, runs_compose}
--- lines for which a job is refused for no cause, and lines that leave nothing to fill
-pub use Rattle.rv_asm.proofs.FineLines.{fine_lines_accepted, only_memory_left, silent_lines_unrecorded, stack_loads_fine, stack_stores_fine}
--- registers and memory after a write
+use Rattle.std.proofs.Common.{[], ap, arith, Bool, cond, eq-eqb, Err, false, if◌then◌else◌, length, List, lit<, lit≤, nat_le, None, Option, refl, slice_get, slice_index, Some, subst, suc, zero, ℕ, ℤ, ◌*◌, ◌+◌, ◌<◌, ◌==◌, ◌^◌, ◌||◌, ◌∙◌, ◌∷◌, ◌≡◌, ◌≢◌, ◌≤◌}
+use Rattle.std.proofs.Math.Bridge.{le_prop}
+use Rattle.std.specs.Cmp.{nat_cmp_total, unsigned_tied}
+use Rattle.std.specs.FinMap.{get-insert}
+use Rattle.std.specs.Prelude.{unwrap_or}
+use Rattle.rv_asm.specs.FineLines.{AreFine, AreSilent, FineLinesAccepted, IsOutOfMemory, OnlyMemoryLeft, SilentLinesUnrecorded, StackLoadsFine, StackStoresFine}
+use Rattle.rv_asm.specs.LineRuns.{EntryIsFirstLine, LinesRun, NothingRuns, RunsCompose}
+use Rattle.rv_asm.specs.Refusal.{lines_refusal, refusal}
+use Rattle.rv_asm.specs.ShortSpans.{IsShort, SpansAreShort}
+use Rattle.rv_asm.specs.StoredNumbers.{ElsewhereUnchanged, SameAreLoadedAlike, StoredIsLoaded}
+use Rattle.rv_base.specs.declared.amode.AMode.TheVariants.{SPOffset}
+use Rattle.rv_base.specs.declared.mem_flags.MemFlagsData.{MemFlagsData}
+use Rattle.rv_base.specs.declared.regs.PReg.{PReg}
+use Rattle.rv_base.specs.declared.regs.Reg.{Reg}
+use Rattle.rv_base.specs.declared.regs.RegClass.{RegClass}
+use Rattle.rv_base.specs.declared.regs.RegClass.TheVariants.{Int}
+use Rattle.rv_inst.specs.Addresses.{is_distant}
+use Rattle.rv_inst.specs.Rules.{every_rule}
+use Rattle.rv_inst.specs.declared.error.Rule.TheVariants.{Range, Reserved}
+use Rattle.rv_machine.specs.Memory.{load_result, store_bytes}
+use Rattle.rv_machine.specs.declared.ops.LoadOp.TheVariants.{Ld}
+use Rattle.rv_machine.specs.declared.ops.StoreOp.TheVariants.{Sd}
+use Rattle.rv_ops.specs.declared.memory.LoadOP.TheVariants.{Ld as LoadDouble}
+use Rattle.rv_ops.specs.declared.memory.StoreOP.TheVariants.{Sd as StoreDouble}
+use Rattle.rv_inst.specs.declared.error.EmitError.TheVariants as emit
+use Rattle.std.specs.FinMap as map
+use Rattle.std.proofs.lemmas.Bool.{lt-leb}
+use Rattle.rv_asm.proofs.Words.{le-ltb, Addresses, At, AtReturn, AtStart, Bind, broken_from, broken_rule, byte, calls_in, Code, code_limit, constants_sum, Context, context_of, effect_from, effect_of, EmitError, end_of, Entry, entry_point, environment_of, exit_from, exit_of, Extent, extent_of, Finds}
+use Rattle.rv_asm.proofs.Words.{int_reg, is_bound, is_unfit, IsaFlags, IsReal, IsSized, IsSpan, iter_after, iter_none, Job, label_start, Leads, Line, line_sum, lines_sum, LineSpan, list_any, Load, maps_in, Memory, nat_tests, patches_in, Point, Put, Real, records_from, relocs_in, SameBut, size_limit}
+use Rattle.rv_asm.proofs.Words.{size_sum, space_in, start_of, Store, store, temporaries_from, temporaries_of, too_large, traps_in, tries_in, twice_from, unbound_in, unwinds_in, Values, Virtual, Words, words_in, words_within, wrap}
+use Rattle.rv_asm.proofs.LinesJoin.{same_itself}
+use Rattle.rv_asm.proofs.RefusalOrder.{accepted_lines, lines_small, no_rule_broken}
 pub use Rattle.rv_code.proofs.Registers.{reads_back, reads_other}
-pub use Rattle.rv_asm.proofs.StoredNumbers.{stored_is_loaded, same_are_loaded_alike, elsewhere_unchanged}
--- the register of a number is one
-pub use Rattle.rv_asm.proofs.RegisterNumbers.{register_is}
-pub use Rattle.rv_asm.proofs.ShortSpans.{spans_are_short}
+
+pub entry_is_first_line : EntryIsFirstLine
+entry_is_first_line job code base symbols slots s reported placed is_state start =
+    let pc : s.pc ≡ wrap (base + start_of code.lines 0) = omega (arith, is_state.pc, reported.first) in
+    record { pc = pc; state = is_state; placed = placed }
+
+-- from a line's start no other line is entered than that one
+record Known (job : Job) (code : Code) (base : ℕ) (symbols slots : Addresses) (i : ℕ) (line : Line) (v : Values) (q : Point) (w : Values) : Type 0 where
+  leads : Leads job.lines code i (exit_of (environment_of job code base symbols slots i) line v) q
+  same : SameBut (temporaries_of line) (effect_of (environment_of job code base symbols slots i) line v) w
+
+of_entry : (job : Job) (code : Code) (base : ℕ) (symbols slots : Addresses) (i j : ℕ) (line other : Line) (v : Values) (q : Point) (w : Values) (entry : Entry) → At i ≡ entry_point entry j → slice_get job.lines i ≡ Some line → slice_get job.lines j ≡ Some other →
+    Leads job.lines code j (exit_from entry (environment_of job code base symbols slots j) other v) q → SameBut (temporaries_from entry other) (effect_from entry (environment_of job code base symbols slots j) other v) w → Known job code base symbols slots i line v q w
+of_entry job code base symbols slots i j line other v q w AtStart here listed there leads made =
+    let at_index : j ≡ i = cc in
+    let moved : slice_get job.lines j ≡ slice_get job.lines i = ap (slice_get job.lines) at_index in
+    let is_line : other ≡ line = cc in
+    subst (λ x. Known job code base symbols slots i x v q w) is_line (subst (λ k. Known job code base symbols slots k other v q w) at_index (record { leads = leads; same = made }))
+of_entry job code base symbols slots i j line other v q w AtReturn here listed there leads made = absurd (cc)
+
+pub lines_run : LinesRun
+lines_run job code base symbols slots i line s runs listed core outside at =
+    let c = runs.from base symbols slots i line s s.values listed core outside at.placed at.state at.state.values at.pc (same_itself s.values) in
+    let one = c.line in
+    let known = of_entry job code base symbols slots i one.index line one.line s.values c.point c.values one.entry one.at listed one.listed one.leads one.effect in
+    record {
+      point = c.point;
+      state = c.state;
+      reached = record { steps = c.steps; ran = c.ran; stands = record { pc = c.stands; state = c.is_state; placed = c.placed } };
+      leads = known.leads;
+      same = record { regs = λ n low free. known.same.regs n low free ∙ c.same.regs n low; mem = λ a. known.same.mem a ∙ c.same.mem a };
+      stopped = c.stopped;
+    }
+
+pub nothing_runs : NothingRuns
+nothing_runs flags code base symbols slots p s at = record { steps = 0; ran = iter_none flags s; stands = at }
+
+pub runs_compose : RunsCompose
+runs_compose flags code base symbols slots p q s t u first second = record { steps = second.steps + first.steps; ran = iter_after flags second.steps first.steps s t u first.ran second.ran; stands = second.stands }
+
+-- ==== What a store leaves in the machine's memory.
+
+-- ---- bytes
+
+byte_put : (mem : Memory) (at b : ℕ) → byte (map.insert mem at b) at ≡ b
+byte_put mem at b = ap (λ o. unwrap_or o 0) (get-insert nat_cmp_total mem at b at ∙ ap (λ c. cond c (Some b) (map.get mem at)) (unsigned_tied at at ∙ eq-eqb at at refl))
+
+byte_other : (mem : Memory) (at b a : ℕ) → a ≢ at → byte (map.insert mem at b) a ≡ byte mem a
+byte_other mem at b a other = ap (λ o. unwrap_or o 0) (get-insert nat_cmp_total mem at b a ∙ ap (λ c. cond c (Some b) (map.get mem a)) (unsigned_tied a at ∙ apart))
+  where
+    apart : (a == at) ≡ false
+    apart = grind (arith, nat_tests)
+
+-- bytes that are put elsewhere change none
+pub elsewhere_unchanged : ElsewhereUnchanged
+elsewhere_unchanged mem at a [] fits apart = refl
+elsewhere_unchanged mem at a (b ∷ bs) fits apart =
+    let next_fits : wrap (at + 1) < 2 ^ 64 = omega arith in
+    elsewhere_unchanged (map.insert mem at b) (wrap (at + 1)) a bs next_fits (λ k below e. let moved : wrap (wrap (at + 1) + k) ≡ wrap (at + suc k) = omega arith in apart (suc k) (omega arith) (e ∙ moved))
+    ∙ byte_other mem at b a (λ e. apart 0 (omega arith) (e ∙ omega arith))
+
+-- bytes stand where they were put
+byte_there : (mem : Memory) (at k : ℕ) (bs : List ℕ) → at < 2 ^ 64 → length bs < 2 ^ 64 → k < length bs → byte (store mem at bs) (wrap (at + k)) ≡ slice_index bs k
+byte_there mem at k [] fits few below = absurd (omega arith)
+byte_there mem at zero (b ∷ bs) fits few below =
+    let next_fits : wrap (at + 1) < 2 ^ 64 = omega arith in
+    let first : wrap (at + 0) ≡ at = omega arith in
+    ap (byte (store (map.insert mem at b) (wrap (at + 1)) bs)) first
+    ∙ elsewhere_unchanged (map.insert mem at b) (wrap (at + 1)) at bs next_fits (λ j below e. absurd (omega arith))
+    ∙ byte_put mem at b
+byte_there mem at (suc k) (b ∷ bs) fits few below =
+    let next_fits : wrap (at + 1) < 2 ^ 64 = omega arith in
+    let moved : wrap (at + suc k) ≡ wrap (wrap (at + 1) + k) = omega arith in
+    ap (byte (store (map.insert mem at b) (wrap (at + 1)) bs)) moved
+    ∙ byte_there (map.insert mem at b) (wrap (at + 1)) k bs next_fits (omega arith) (omega arith)
+
+-- ---- eight bytes as one number
+
+-- eight bytes are loaded alike from memories that have the same ones there
+pub same_are_loaded_alike : SameAreLoadedAlike
+same_are_loaded_alike m n a same =
+    let e0 = same 0 (lit< tt) in let e1 = same 1 (lit< tt) in let e2 = same 2 (lit< tt) in let e3 = same 3 (lit< tt) in
+    let e4 = same 4 (lit< tt) in let e5 = same 5 (lit< tt) in let e6 = same 6 (lit< tt) in let e7 = same 7 (lit< tt) in
+    omega arith
+
+-- a number of 64 bits that was stored somewhere is loaded from there
+pub stored_is_loaded : StoredIsLoaded
+stored_is_loaded mem a x fits small =
+    of_bytes (store mem a (store_bytes Sd x)) (λ k below. byte_there mem a k (store_bytes Sd x) fits (lit< tt) below)
+  where
+    of_bytes : (m : Memory) → ((k : ℕ) → k < 8 → byte m (wrap (a + k)) ≡ slice_index (store_bytes Sd x) k) → load_result Ld m a ≡ x
+    of_bytes m there =
+        let e0 = there 0 (lit< tt) in let e1 = there 1 (lit< tt) in let e2 = there 2 (lit< tt) in let e3 = there 3 (lit< tt) in
+        let e4 = there 4 (lit< tt) in let e5 = there 5 (lit< tt) in let e6 = there 6 (lit< tt) in let e7 = there 7 (lit< tt) in
+        omega arith
+
+-- ==== An integer register is the one that specs name by its number.
+
+from_fields : (p : PReg) (number : ℕ) (in_file : number < 32) → p.class ≡ Int → p.number ≡ number → Real p ≡ int_reg number in_file
+from_fields p number in_file class same =
+    let at_class : RegClass → Type 0 = λ c. (h : number < 32) → Real p ≡ Real (record { class = c; number = number; in_file = h }) in
+    subst at_class class (subst (λ n. (h : n < 32) → Real p ≡ Real (record { class = p.class; number = n; in_file = h })) same (λ h. ap (λ x. Real (record { class = p.class; number = p.number; in_file = x })) (le_prop p.in_file h))) in_file
+
+pub register_is : (r : Reg) (number : ℕ) (in_file : number < 32) → IsReal r Int number → r ≡ int_reg number in_file
+register_is (Real p) number in_file is = from_fields p number in_file is.0 is.1
+register_is (Virtual class index) number in_file is = absurd is
+
+-- ==== The span of a line is at most as long as lines of its kind may be, an island in it apart.
+
+-- the span of an instruction that asks for no island is as long as its words
+alone_long : (flags : IsaFlags) (bytes : List ℕ) (e : Extent) (start end : ℕ) → space_in e ≡ None → IsSized flags bytes e start end → end ≡ start + words_in e
+alone_long flags bytes (Words size) start end none h = h
+alone_long flags bytes e start end none h = absurd (cc)
+
+line_short : (context : Context) (bytes : List ℕ) (line : Line) (start end : ℕ) → broken_rule context line ≡ None → line_sum context line ≤ code_limit → IsSpan context bytes line start end → IsShort context line start end
+line_short context bytes (Put inst) start end rule counted long =
+    let most = words_within context inst rule counted in
+    (most, λ none. let same = alone_long context.flags bytes (extent_of context inst) start end none long in omega (arith, most, same))
+line_short context bytes (Bind label) start end rule counted long = long
+
+pub spans_are_short : SpansAreShort
+spans_are_short job code accepted r i line e =
+    let kept = accepted_lines job accepted in
+    line_short (context_of job) code.bytes line (start_of code.lines i) (end_of code.lines i) (no_rule_broken (context_of job) job.lines kept i line e) (lines_small (context_of job) job.lines kept i line e) (r.long i line e)
+
+-- ==== Lines for which a job is refused for no cause, and lines that leave nothing to fill.
+
+-- ---- a job of fine lines
+
+all_fit : (context : Context) (lines : List Line) → AreFine context lines → list_any (is_unfit context.frame) lines ≡ false
+all_fit context [] f = refl
+all_fit context (line ∷ lines) f = (λ i. f.0.fit i || list_any (is_unfit context.frame) lines) ∙ all_fit context lines f.1
+
+none_broken : (context : Context) (index : ℕ) (lines : List Line) → AreFine context lines → broken_from context index lines ≡ None
+none_broken context index [] f = refl
+none_broken context index (line ∷ lines) f = let rest = none_broken context (suc index) lines f.1 in let here = f.0.rule in rw (here, rest)
+
+none_twice : (context : Context) (lines : List Line) (bound : ℕ → Bool) → AreFine context lines → twice_from bound lines ≡ None
+none_twice context [] bound f = refl
+none_twice context (line ∷ lines) bound f = let here = f.0.binds_none bound in rw (here) (none_twice context lines _ f.1)
+
+none_unbound : (context : Context) (bound : ℕ → Bool) (lines : List Line) → AreFine context lines → unbound_in bound lines ≡ None
+none_unbound context bound [] f = refl
+none_unbound context bound (line ∷ lines) f = let rest = none_unbound context bound lines f.1 in let here = f.0.names_none in rw (here, rest)
+
+sum_of : (context : Context) (lines : List Line) → AreFine context lines → lines_sum context lines ≤ 128 * length lines
+sum_of context [] f = lit≤ tt
+sum_of context (line ∷ lines) f = let rest = sum_of context lines f.1 in let here = f.0.size in omega arith
+
+small : (context : Context) (lines : List Line) → AreFine context lines → constants_sum context.constants + 128 * length lines ≤ size_limit → too_large context lines ≡ None
+small context lines f few = let sum = sum_of context lines f in ap (λ b. if b then Some emit.TooLarge else None) (le-ltb size_limit (size_sum context lines) (omega arith))
+
+pub fine_lines_accepted : FineLinesAccepted
+unfolding refusal lines_refusal
+fine_lines_accepted job frame f few =
+    rw (frame, all_fit (context_of job) job.lines f, none_broken (context_of job) 0 job.lines f, none_twice (context_of job) job.lines (λ label. false) f, none_unbound (context_of job) (is_bound job.lines) job.lines f) (small (context_of job) job.lines f few)
+
+only_memory : (found : Option EmitError) (error : EmitError) → found ≡ None → Finds {X = Code} found (Err error) → IsOutOfMemory error
+only_memory found emit.OutOfMemory none f = tt
+only_memory found error none f = absurd (cc)
+
+pub only_memory_left : OnlyMemoryLeft
+only_memory_left job error none f = only_memory _ error none f
+
+-- ---- records
+
+no_records : (context : Context) (spans : List LineSpan) (index : ℕ) (lines : List Line) → AreSilent context lines → records_from context spans index lines ≡ []
+no_records context spans index [] f = refl
+no_records context spans index (line ∷ lines) f = rw (f.0 (start_of spans index) (end_of spans index)) (no_records context spans (suc index) lines f.1)
+
+pub silent_lines_unrecorded : SilentLinesUnrecorded
+silent_lines_unrecorded job code reported f =
+    let none = no_records (context_of job) code.lines 0 job.lines f in
+    record {
+      relocs = reported.relocs ∙ ap relocs_in none;
+      traps = reported.traps ∙ ap traps_in none;
+      call_sites = reported.call_sites ∙ ap calls_in none;
+      try_call_sites = reported.try_call_sites ∙ ap (tries_in (label_start code.lines job.lines)) none;
+      patchable_call_sites = reported.patchable_call_sites ∙ ap patches_in none;
+      stack_maps = reported.stack_maps ∙ ap maps_in none;
+      unwinds = reported.unwinds ∙ ap unwinds_in none;
+    }
+
+-- ---- loads and stores at distances from the stack pointer
+
+load_rules : (context : Context) (flags : MemFlagsData) (n : ℕ) (in_file : n < 32) (distance : ℤ) → nat_le 30 n ≡ false → is_distant distance ≡ false → broken_rule context (Put (Load (record { reg = int_reg n in_file }) LoadDouble flags (SPOffset distance))) ≡ None
+unfolding every_rule
+load_rules context flags n in_file distance low near = (λ j. if (low j || false) then Some Reserved else if near j then Some Range else None)
+
+store_rules : (context : Context) (flags : MemFlagsData) (n : ℕ) (in_file : n < 32) (distance : ℤ) → nat_le 30 n ≡ false → is_distant distance ≡ false → broken_rule context (Put (Store (int_reg n in_file) StoreDouble flags (SPOffset distance))) ≡ None
+unfolding every_rule
+store_rules context flags n in_file distance low near = (λ j. if (low j || false) then Some Reserved else if near j then Some Range else None)
+
+pub stack_loads_fine : StackLoadsFine
+stack_loads_fine context flags n in_file distance low near = record { rule = load_rules context flags n in_file distance (lt-leb 30 n low) near; fit = refl; binds_none = λ bound. refl; names_none = refl; size = lit≤ tt }
+
+pub stack_stores_fine : StackStoresFine
+stack_stores_fine context flags n in_file distance low near = record { rule = store_rules context flags n in_file distance (lt-leb 30 n low) near; fit = refl; binds_none = λ bound. refl; names_none = refl; size = lit≤ tt }

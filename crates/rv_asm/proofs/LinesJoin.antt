@@ -1,52 +1,37 @@
--- The join of lines: where the parts of each line stand in the code, and what stands between two lines leads on, the code
--- runs as its job says. Nothing here knows a buffer.
-use Rattle.std.proofs.Common.{◌≡◌, ℕ, zero, suc, ◌+◌, ◌%◌, ◌<◌, ◌≤◌, Bool, true, false, List, [], ◌∷◌, length, Option, Some, None, arith, refl, sym, ap, subst, ◌∙◌, lit≤}
-use Rattle.std.specs.Prelude.{slice_get, nat_lt, unwrap_or, if◌then◌else◌}
-use Rattle.std.proofs.lemmas.Bool.{ltb-true, ltb-false}
-use Rattle.std.proofs.lemmas.Option.{same_Some, slice_get_within}
-use Rattle.rv_base.specs.declared.trap.TrapCode.{TrapCode}
-use Rattle.rv_machine.specs.State.{Memory, State, IsState, Values, AreValues, wrap}
-use Rattle.rv_machine.specs.Steps.{iter}
-use Rattle.rv_inst.specs.Operands.{Return, return_of}
-use Rattle.rv_base.specs.declared.flags.IsaFlags.{IsaFlags}
-use Rattle.rv_base.specs.declared.frame.FrameLayout.{FrameLayout}
-use Rattle.rv_inst.specs.Context.{context_of}
+-- The join of lines: code in which each line stands and leads on runs as its job says, on the integer core and on the machine with all units.
+use Rattle.std.proofs.Common.{[], ap, append_assoc, arith, Bool, false, inl, inr, length, List, lit≤, None, Option, refl, Some, subst, suc, sym, true, zero, ℕ, ⊎_elim, ◌%◌, ◌*◌, ◌+◌, ◌<◌, ◌∙◌, ◌∷◌, ◌≡◌, ◌≤◌}
+use Rattle.std.proofs.lemmas.List.{append-nil}
+use Rattle.std.specs.Prelude.{if◌then◌else◌, nat_lt, slice_get, unwrap_or, ◌++◌, ◌⊎◌}
+use Rattle.rv_code.specs.InstRuns.{ComesOut, environment, Resumes}
+use Rattle.rv_full.proofs.LargerMachine.{integer_run}
+use Rattle.rv_full.proofs.Runs.{fiter_after, fiter_none}
+use Rattle.rv_full.specs.Steps.{fiter}
+use Rattle.rv_full.specs.Units.{FullState, FullValues, put}
+use Rattle.rv_full.specs.Vectors.{is_legal}
+use Rattle.rv_full.specs.declared.answer.Answer.{Answer}
+use Rattle.rv_inst.proofs.Meaning.{effect_agrees, exit_agrees, writes_agree}
 use Rattle.rv_inst.specs.Core.{is_integer, is_integer_in, is_integer_line}
-use Rattle.rv_inst.specs.declared.inst.Line.{Line}
-use Rattle.rv_inst.specs.declared.inst.Line.TheVariants.{Inst as Put, Bind}
-use Rattle.rv_inst.specs.declared.inst.Inst.{Inst}
-use Rattle.rv_inst.specs.declared.inst.Inst.TheVariants.{Call, CallInd}
-use Rattle.rv_inst.specs.declared.job.Job.{Job}
-use Rattle.rv_inst.specs.declared.code.Code.{Code}
-use Rattle.rv_inst.specs.Meaning.{Exit, Next, To, Leave, Break, Trap, Data, exit_of, effect_of, writes_of, temporaries_of, resumed, resumed_by, AreOutside, return_exit}
-use Rattle.rv_inst.specs.Environments.{SameLabels, AgreeOn}
-use Rattle.rv_inst.proofs.Meaning.{effect_agrees, writes_agree, exit_agrees}
-use Rattle.rv_base.specs.LabelUse.{code_limit}
-use Rattle.mach_labels.specs.Table.{first_constant}
-use Rattle.mach_buffer.specs.Constants.{offset_in}
+use Rattle.rv_inst.specs.Environments.{AgreeOn, SameLabels}
+use Rattle.rv_inst.specs.Meaning.{Data}
+use Rattle.rv_runs.specs.FullEnds.{EndsAsMeant, FullEnds}
+use Rattle.rv_runs.specs.FullInstRuns.{FullyAsks}
+use Rattle.rv_runs.specs.FullMeaning.{FullMeaning, inst_meaning}
 use Rattle.mach_records.specs.declared.records.Event.TheVariants as event
-use Rattle.mach_records.specs.declared.records.MachRecord.{MachRecord}
-use Rattle.mach_records.specs.declared.records.MachReloc.{MachReloc}
-use Rattle.rv_inst.specs.Records.{IsRecorded, IsTrapAt}
-use Rattle.rv_inst.specs.Relocations.{field_size}
-use Rattle.rv_base.specs.declared.label.MachLabel.{MachLabel}
-use Rattle.rv_inst.specs.Operands.{named_labels}
-use Rattle.rv_inst.specs.Rules.{broken_rule}
-use Rattle.rv_inst.specs.SameValues.{Same, SameBut}
-use Rattle.rv_code.specs.declared.state.EmitVState.{EmitVState}
-use Rattle.rv_code.specs.InstParts.{parts_of}
-use Rattle.rv_code.specs.InstRuns.{ComesOut, environment}
-use Rattle.rv_code.specs.Sites.{Site, IsPlacedAt, LeadsOn, PartsStand}
-use Rattle.rv_emit.proofs.Laws.{iter_none, iter_after, same_but, but_then_same, inst_runs, inst_resumes}
-use Rattle.rv_asm.specs.Refusal.{is_bound}
-use Rattle.rv_asm.specs.LinesInBuffer.{is_stuck}
-use Rattle.rv_asm.specs.Reported.{start_of, end_of, binding_line, returns_from}
-use Rattle.rv_asm.specs.Simulation.{Point, At, Returned, Out, End, Stop, Trapped, InData, IsBack, Leads, next_point, environment_of, WritesOutside, AtStart, AtReturn, return_at, address_of, IsStopped, Comes, RunsAsListed}
-use Rattle.rv_asm.specs.Placed.{Addresses, address_of_name, bytes_from, IsPlaced}
-use Rattle.rv_asm.proofs.Images.{from_long, placed_at, placed_again}
-use Rattle.rv_asm.proofs.ExitPoints.{AllBound, ExitBound, exit_bound, return_bound}
-use Rattle.rv_asm.proofs.CallReturns.{return_found}
-use Rattle.rv_asm.proofs.EqualValues.{same_itself}
+use Rattle.rv_asm.proofs.Words.{address_of, address_of_name, Addresses, AreOutside, AreValues, At, AtReturn, AtStart, Bind, binding_line, Break, broken_rule, but_then_same, bytes_from, Call, CallInd, cases_lt, Code, code_limit, Comes, context_of, effect_from, effect_of, EmitVState, End, end_of}
+use Rattle.rv_asm.proofs.Words.{Entry, entry_point, Environment, environment_at, environment_of, Exit, exit_from, exit_of, field_size, first_constant, FrameLayout, FullRuns, InData, Inst, inst_exit, inst_full_resumes, inst_full_runs, inst_resumes, inst_runs, inst_temporaries, is_bound, is_stuck}
+use Rattle.rv_asm.proofs.Words.{IsaFlags, IsBack, IsEntry, IsExit, IsOn, IsPlaced, IsPlacedAt, IsRecorded, IsState, IsStopped, IsTrapAt, iter, iter_after, iter_none, Job, Leads, LeadsOn, Leave, Line, LineAt, Lines, ltb-false, ltb-true, MachLabel, MachRecord, MachReloc, meaning_agrees, meaning_of}
+use Rattle.rv_asm.proofs.Words.{MeansSame, Memory, named_labels, Next, next_point, offset_in, OneFullLine, Out, Overwrites, parts_of, PartsStand, Placing, Point, Put, Reached, resumed_by, Return, return_at, return_exit, return_of, Returned, returns_from, RunsAsListed, RunsOn, Same, same_but}
+use Rattle.rv_asm.proofs.Words.{same_Some, SameBut, Site, slice_get_within, StandsAt, start_of, State, Stop, Stops, temporaries_from, temporaries_of, To, Trap, TrapCode, Trapped, try_call_of, try_exit, Values, wrap, writes_of, WritesOutside}
+use Rattle.rv_asm.proofs.Images.{from_long, placed_again, placed_at}
+use Rattle.rv_asm.proofs.LinesInBuffer.{return_found}
+use Rattle.rv_asm.proofs.RefusalOrder.{AllBound, bind_at, exit_bound, ExitBound, return_bound}
+use Rattle.rv_asm.proofs.Spans.{line_at}
+
+pub same_itself : (v : Values) → Same v v
+same_itself v = record { regs = λ n lt. refl; mem = λ a. refl }
+
+-- ==== The join of lines: where the parts of each line stand in the code, and what stands between two lines leads on, the code runs as its
+-- job says. Nothing here knows a buffer.
 
 -- what a buffer knows of the code of a job beside what the code says: the places of labels, and the records in their order
 pub record Known : Type 0 where
@@ -93,8 +78,10 @@ pub record IsThreaded (job : Job) (code : Code) (known : Known) : Type 0 where
 -- ---- one line
 
 -- a line of the integer core runs as it means
-line_comes : (site : Site) (line : Line) (start after : ℕ) (s : State) (v : Values) → is_integer_line site.context.frame line ≡ true → length site.bytes < code_limit → ((label at : ℕ) → site.place label ≡ Some at → at ≤ length site.bytes) → LineIn site line start after → broken_rule site.context line ≡ None → is_stuck site.context.frame line ≡ false → AreOutside site.base (length site.bytes) (writes_of (environment site start after) line v) → IsPlacedAt site s.values.mem → s.pc ≡ wrap (site.base + start) → IsState s → AreValues v → Same v s.values → ComesOut site start after (exit_of (environment site start after) line v) (temporaries_of line) (effect_of (environment site start after) line v) s
-line_comes site (Put inst) start after s v core short labels h rule fit outside placed pc is_state are_values same = (inst_runs site h.setting inst core rule fit).run start after s v (record {
+core_comes : (site : Site) (line : Line) (start after : ℕ) (s : State) (v : Values) → is_integer_line site.context.frame line ≡ true → length site.bytes < code_limit → ((label at : ℕ) → site.place label ≡ Some at → at ≤ length site.bytes) → LineIn site line start after →
+    broken_rule site.context line ≡ None → is_stuck site.context.frame line ≡ false → AreOutside site.base (length site.bytes) (writes_of (environment site start after) line v) → IsPlacedAt site s.values.mem → s.pc ≡ wrap (site.base + start) → IsState s → AreValues v → Same v s.values →
+    ComesOut site start after (exit_of (environment site start after) line v) (temporaries_of line) (effect_of (environment site start after) line v) s
+core_comes site (Put inst) start after s v core short labels h rule fit outside placed pc is_state are_values same = (inst_runs site h.setting inst core rule fit).run start after s v (record {
   even = h.even;
   within = h.within;
   short = short;
@@ -106,7 +93,7 @@ line_comes site (Put inst) start after s v core short labels h rule fit outside 
   are_values = are_values;
   same = same;
 }) outside
-line_comes site (Bind label) start after s v core short labels h rule fit outside placed pc is_state are_values same = record {
+core_comes site (Bind label) start after s v core short labels h rule fit outside placed pc is_state are_values same = record {
   steps = 0;
   state = s;
   moved = lit≤ tt;
@@ -121,7 +108,7 @@ line_comes site (Bind label) start after s v core short labels h rule fit outsid
 -- ---- where it leads
 
 -- from line i the machine has come to a point, with values that are these but for some registers, and the code still stands
-pub record Reached (job : Job) (code : Code) (site : Site) (base i : ℕ) (p : Point) (free : List ℕ) (v : Values) (s : State) : Type 0 where
+pub record LineReached (job : Job) (code : Code) (site : Site) (base i : ℕ) (p : Point) (free : List ℕ) (v : Values) (s : State) : Type 0 where
   pub steps : ℕ
   pub state : State
   pub ran : iter job.flags steps s ≡ Some state
@@ -137,15 +124,15 @@ module _ (job : Job) (code : Code) (known : Known) (t : IsThreaded job code know
   site = site_of job code known base symbols slots mem
 
   -- the line came out at an exit
-  abbrev CameOut : Exit → Type 0
-  CameOut x = ComesOut site (start_of code.lines i) (end_of code.lines i) x free v s
+  abbrev OutBy : Exit → Type 0
+  OutBy x = ComesOut site (start_of code.lines i) (end_of code.lines i) x free v s
 
   -- and that is where a point is
-  there : (x : Exit) (e : CameOut x) (p : Point) → (IsBack i p → 1 ≤ e.steps) → e.state.pc ≡ address_of code base p → IsStopped job.flags p e.state → Reached job code site base i p free v s
+  there : (x : Exit) (e : OutBy x) (p : Point) → (IsBack i p → 1 ≤ e.steps) → e.state.pc ≡ address_of code base p → IsStopped job.flags p e.state → LineReached job code site base i p free v s
   there x e p moved stands stopped = record { steps = e.steps; state = e.state; ran = e.ran; moved = moved; stands = stands; stopped = stopped; same = e.same; is_state = e.is_state; placed = e.placed }
 
   -- to the next line, or to the end
-  goes_on : CameOut Next → (c : Bool) → nat_lt (suc i) (length job.lines) ≡ c → Reached job code site base i (if c then At (suc i) else End) free v s
+  goes_on : OutBy Next → (c : Bool) → nat_lt (suc i) (length job.lines) ≡ c → LineReached job code site base i (if c then At (suc i) else End) free v s
   goes_on e true h =
       let g = (t.gap base symbols slots mem stood i (ltb-true _ _ h)).run e.state e.state.values e.placed e.arrives e.is_state e.is_state.values (same_itself e.state.values) in
       record {
@@ -160,16 +147,15 @@ module _ (job : Job) (code : Code) (known : Known) (t : IsThreaded job code know
         placed = subst (IsPlacedAt site) (sym g.kept) e.placed;
       }
   goes_on e false h =
-      let most = ltb-false _ _ h in
-      there Next e End (λ back. absurd back) (e.arrives ∙ ap (λ n. wrap (base + n)) (sym (t.last i (omega arith)))) tt
+      there Next e End (λ back. absurd back) (e.arrives ∙ ap (λ n. wrap (base + n)) (sym (t.last i (omega (arith, ltb-false _ _ h))))) tt
 
   -- where the exit leads, and that the machine has come there
   pub record Ends (x : Exit) : Type 0 where
     pub point : Point
     pub leads : Leads job.lines code i x point
-    pub reached : Reached job code site base i point free v s
+    pub reached : LineReached job code site base i point free v s
 
-  pub reaches : (x : Exit) → ExitBound job.lines x → CameOut x → Ends x
+  pub reaches : (x : Exit) → ExitBound job.lines x → OutBy x → Ends x
   reaches Next bound e = record { point = next_point job.lines i; leads = refl; reached = goes_on e (nat_lt (suc i) (length job.lines)) refl }
   reaches (To label) bound e = record {
     point = At (binding_line job.lines label);
@@ -200,8 +186,34 @@ agrees job code known t base symbols slots mem i line e = record {
   slots_same = λ number. refl;
 }
 
-comes : (job : Job) (code : Code) (known : Known) → IsThreaded job code known → (base : ℕ) (symbols slots : Addresses) (i : ℕ) (line : Line) (s : State) (v : Values) → i < length job.lines → slice_get job.lines i ≡ Some line → is_integer_line job.frame line ≡ true → WritesOutside job code base symbols slots i line v → IsPlaced code base symbols slots s.values.mem → IsState s → AreValues v → s.pc ≡ address_of code base (At i) → Same v s.values → Comes job code base symbols slots (At i) v s
-comes job code known t base symbols slots i line s v lt e core outside placed is_state are_values pc same =
+-- so one line has run, from where it was entered
+came : (job : Job) (code : Code) (known : Known) → IsThreaded job code known → (base : ℕ) (symbols slots : Addresses) (i : ℕ) (line : Line) (entry : Entry) (s : State) (v : Values) → slice_get job.lines i ≡ Some line → is_integer_line job.frame line ≡ true →
+    IsPlaced code base symbols slots s.values.mem → ExitBound job.lines (exit_from entry (environment_of job code base symbols slots i) line v) →
+    ComesOut (site_of job code known base symbols slots s.values.mem) (start_of code.lines i) (end_of code.lines i) (exit_from entry (environment_of job code base symbols slots i) line v)
+    (temporaries_from entry line) (effect_from entry (environment_of job code base symbols slots i) line v) s → Comes job code base symbols slots (entry_point entry i) v s
+came job code known t base symbols slots i line entry s v e core placed bound out =
+    let env = environment_of job code base symbols slots i in
+    let ends = reaches job code known t base symbols slots s.values.mem placed i (slice_get_within job.lines i line e) (temporaries_from entry line) (effect_from entry env line v) s (exit_from entry env line v) bound out in
+    let r = ends.reached in
+    record {
+      steps = r.steps;
+      point = ends.point;
+      values = r.state.values;
+      state = r.state;
+      line = record { index = i; line = line; entry = entry; at = refl; listed = e; core = core; leads = ends.leads; effect = r.same };
+      ran = r.ran;
+      moved = r.moved;
+      stands = r.stands;
+      stopped = r.stopped;
+      same = same_itself r.state.values;
+      is_state = r.is_state;
+      are_values = r.is_state.values;
+      placed = placed_again code base symbols slots s.values.mem (context_of job) known.place known.records r.state.values.mem r.placed t.fields placed;
+    }
+
+comes : (job : Job) (code : Code) (known : Known) → IsThreaded job code known → (base : ℕ) (symbols slots : Addresses) (i : ℕ) (line : Line) (s : State) (v : Values) → slice_get job.lines i ≡ Some line → is_integer_line job.frame line ≡ true → WritesOutside job code base symbols slots i line v →
+    IsPlaced code base symbols slots s.values.mem → IsState s → AreValues v → s.pc ≡ address_of code base (At i) → Same v s.values → Comes job code base symbols slots (At i) v s
+comes job code known t base symbols slots i line s v e core outside placed is_state are_values pc same =
     let mem = s.values.mem in
     let site = site_of job code known base symbols slots mem in
     let env = environment_of job code base symbols slots i in
@@ -212,26 +224,9 @@ comes job code known t base symbols slots i line s v lt e core outside placed is
     let clear = subst (λ n. AreOutside base n (writes_of (environment site start end) line v)) (sym long) (subst (AreOutside base (length code.bytes)) (sym (writes_agree line v a)) outside) in
     let short : length site.bytes < code_limit = subst (λ n. n < code_limit) (sym long) t.short in
     let within : (label at : ℕ) → site.place label ≡ Some at → at ≤ length site.bytes = λ label at h. subst (λ n. at ≤ n) (sym long) (t.placed label at h) in
-    let out = line_comes site line start end s v core short within (t.line base symbols slots mem placed i line e) (t.ruled i line e) (t.fit i line e) clear (placed_at code base symbols slots mem (context_of job) known.place known.records placed) pc is_state are_values same in
+    let out = core_comes site line start end s v core short within (t.line base symbols slots mem placed i line e) (t.ruled i line e) (t.fit i line e) clear (placed_at code base symbols slots mem (context_of job) known.place known.records placed) pc is_state are_values same in
     let led = subst (λ x. ComesOut site start end x (temporaries_of line) (effect_of (environment site start end) line v) s) (exit_agrees line v a) out in
-    let came = subst (λ w. ComesOut site start end (exit_of env line v) (temporaries_of line) w s) (effect_agrees line v a) led in
-    let ends = reaches job code known t base symbols slots mem placed i lt (temporaries_of line) (effect_of env line v) s (exit_of env line v) (exit_bound job.lines env line v (t.named i line e)) came in
-    let r = ends.reached in
-    record {
-      steps = r.steps;
-      point = ends.point;
-      values = r.state.values;
-      state = r.state;
-      line = record { index = i; line = line; entry = AtStart; at = refl; listed = e; core = core; leads = ends.leads; effect = r.same };
-      ran = r.ran;
-      moved = r.moved;
-      stands = r.stands;
-      stopped = r.stopped;
-      same = same_itself r.state.values;
-      is_state = r.is_state;
-      are_values = r.is_state.values;
-      placed = placed_again code base symbols slots mem (context_of job) known.place known.records r.state.values.mem r.placed t.fields placed;
-    }
+    came job code known t base symbols slots i line AtStart s v e core placed (exit_bound job.lines env line v (t.named i line e)) (subst (λ w. ComesOut site start end (exit_of env line v) (temporaries_of line) w s) (effect_agrees line v a) led)
 
 -- no tail call returns, so what returns restores no register
 pub returns_in : (flags : IsaFlags) (frame : FrameLayout) (inst : Inst) (r : Return) → return_of flags inst ≡ Some r → is_integer_in frame inst ≡ is_integer inst
@@ -242,49 +237,308 @@ returns_in flags frame inst r e = absurd (cc)
 -- from where the call of a line returns it goes on to the next line
 resumes : (job : Job) (code : Code) (known : Known) → IsThreaded job code known → (base : ℕ) (symbols slots : Addresses) (i : ℕ) (inst : Inst) (r : Return) (s : State) (v : Values) → slice_get job.lines i ≡ Some (Put inst) → is_integer inst ≡ true → return_of job.flags inst ≡ Some r → IsPlaced code base symbols slots s.values.mem → IsState s → AreValues v → s.pc ≡ address_of code base (Returned i) → Same v s.values → Comes job code base symbols slots (Returned i) v s
 resumes job code known t base symbols slots i inst r s v e core returned placed is_state are_values pc same =
-    let mem = s.values.mem in
-    let site = site_of job code known base symbols slots mem in
-    let long = from_long mem base (length code.bytes) in
-    let h = t.line base symbols slots mem placed i (Put inst) e in
-    let from : return_at code.returns i ≡ start_of code.lines i + r.offset = ap (λ rs. return_at rs i) t.returns ∙ return_found job.flags code.lines i job.lines inst r e returned in
+    let site = site_of job code known base symbols slots s.values.mem in
+    let h = t.line base symbols slots s.values.mem placed i (Put inst) e in
     let out = (inst_resumes site h.setting inst r core (t.ruled i (Put inst) e) returned).run (start_of code.lines i) (end_of code.lines i) s v (record {
       even = h.even;
       within = h.within;
-      short = subst (λ n. n < code_limit) (sym long) t.short;
+      short = subst (λ n. n < code_limit) (sym (from_long s.values.mem base (length code.bytes))) t.short;
       stands = h.stands;
-      placed = placed_at code base symbols slots mem (context_of job) known.place known.records placed;
-      pc = pc ∙ ap (λ n. wrap (base + n)) from;
+      placed = placed_at code base symbols slots s.values.mem (context_of job) known.place known.records placed;
+      pc = pc ∙ ap (λ n. wrap (base + n)) (ap (λ rs. return_at rs i) t.returns ∙ return_found job.flags code.lines i job.lines inst r e returned);
       is_state = is_state;
       are_values = are_values;
       same = same;
     }) in
-    let ends = reaches job code known t base symbols slots mem placed i (slice_get_within job.lines i (Put inst) e) [] (resumed r v) s (return_exit (Put inst)) (return_bound job.lines inst (t.named i (Put inst) e)) out in
-    let reached = ends.reached in
-    record {
-      steps = reached.steps;
-      point = ends.point;
-      values = reached.state.values;
-      state = reached.state;
-      line = record { index = i; line = Put inst; entry = AtReturn; at = refl; listed = e; core = returns_in job.flags job.frame inst r returned ∙ core; leads = ends.leads; effect = subst (λ w. SameBut [] w reached.state.values) (sym (ap (λ o. resumed_by o v) returned)) reached.same };
-      ran = reached.ran;
-      moved = reached.moved;
-      stands = reached.stands;
-      stopped = reached.stopped;
-      same = same_itself reached.state.values;
-      is_state = reached.is_state;
-      are_values = reached.is_state.values;
-      placed = placed_again code base symbols slots mem (context_of job) known.place known.records reached.state.values.mem reached.placed t.fields placed;
-    }
-
--- an index below the length has its line
-pub line_at : (lines : List Line) (i : ℕ) → i < length lines → (line : Line) × (slice_get lines i ≡ Some line)
-line_at [] i lt = absurd (omega arith)
-line_at (l ∷ lines) zero lt = (l, refl)
-line_at (l ∷ lines) (suc i) lt = line_at lines i (omega arith)
+    came job code known t base symbols slots i (Put inst) AtReturn s v e (returns_in job.flags job.frame inst r returned ∙ core) placed (return_bound job.lines inst (t.named i (Put inst) e))
+    (subst (λ w. ComesOut site (start_of code.lines i) (end_of code.lines i) (return_exit (Put inst)) [] w s) (sym (ap (λ o. resumed_by o v) returned)) out)
 
 pub threaded_runs : (job : Job) (code : Code) (known : Known) → IsThreaded job code known → RunsAsListed job code
-threaded_runs job code known t = record {
-  from = λ base symbols slots i line s v e core outside placed is_state are_values pc same.
-      comes job code known t base symbols slots i line s v (slice_get_within job.lines i line e) e core outside placed is_state are_values pc same;
-  back = λ base symbols slots i inst r s v e core returned placed is_state are_values pc same. resumes job code known t base symbols slots i inst r s v e core returned placed is_state are_values pc same;
+threaded_runs job code known t = record { from = comes job code known t; back = resumes job code known t }
+
+-- ==== What comes of the line at a point, on the machine with all units.
+
+-- the machine has come where one line leads
+pub record CameOut (x : Placing) (p : Point) (v : FullValues) (b : FullState) : Type 0 where
+  pub steps : ℕ
+  pub state : FullState
+  pub ran : fiter x.job.flags steps b ≡ Some state
+  pub point : Point
+  pub values : FullValues
+  pub took : List Answer
+  pub line : OneFullLine x p v took point values
+  pub moved : IsBack line.there.index point → 1 ≤ steps
+  pub answers : b.answers ≡ took ++ state.answers
+  pub stands : StandsAt x point values state
+
+-- it comes out, or stops for want of an answer, or it writes on the code
+abbrev pub OneComes : Placing → Point → FullValues → FullState → Type 0
+OneComes x p v b = CameOut x p v b ⊎ (Stops x p v b ⊎ Overwrites x p v b)
+
+-- ==== What comes of each line on the machine with all units: its parts run as it means, and what leads on takes it to the next line; or
+-- it asks for an answer, or writes on the code.
+
+-- ---- addresses are outside, or one of them isn't
+
+outside_more : (from size a : ℕ) (addresses : List ℕ) → (a < from) ⊎ (from + size ≤ a) → AreOutside from size addresses → AreOutside from size (a ∷ addresses)
+outside_more from size a addresses first others zero lt = first
+outside_more from size a addresses first others (suc k) lt = others k (omega arith)
+
+outside_or_on : (from size : ℕ) (addresses : List ℕ) → AreOutside from size addresses ⊎ IsOn from size addresses
+outside_or_on from size [] = inl (λ k lt. absurd (omega arith))
+outside_or_on from size (a ∷ addresses) = ⊎_elim
+    (λ below. with_first (inl below) (outside_or_on from size addresses))
+    (λ above. ⊎_elim (λ within. inr (0, omega arith, above, within)) (λ after. with_first (inr after) (outside_or_on from size addresses)) (cases_lt a (from + size)))
+    (cases_lt a from)
+  where
+    with_first : (a < from) ⊎ (from + size ≤ a) → AreOutside from size addresses ⊎ IsOn from size addresses → AreOutside from size (a ∷ addresses) ⊎ IsOn from size (a ∷ addresses)
+    with_first first (inl others) = inl (outside_more from size a addresses first others)
+    with_first first (inr (k, lt, low, high)) = inr (suc k, omega arith, low, high)
+
+-- ---- where a line is left
+
+-- from where it is entered: at its start, or where its call returns
+module _ (job : Job) (code : Code) (known : Known) (t : IsThreaded job code known) (base : ℕ) (symbols slots : Addresses) (i : ℕ) (line : Line) (v : FullValues) (b : FullState) (entry : Entry) (listed : slice_get job.lines i ≡ Some line) (s : StandsAt (record { job = job; code = code; base = base; symbols = symbols; slots = slots }) (entry_point entry i) v b) where
+  abbrev placing_of : Placing
+  placing_of = record { job = job; code = code; base = base; symbols = symbols; slots = slots }
+
+  abbrev there_from : LineAt placing_of (entry_point entry i)
+  there_from = record { index = i; line = line; entry = entry; at = refl; listed = listed }
+
+  -- by integer words at last, which lead to its exit
+  pub led_out : {took : List Answer} {made : FullValues} (exit : Exit) → exit_from entry (environment_at there_from) line v.ints ≡ exit → ExitBound job.lines exit → FullEnds (site_of job code known base symbols slots b.state.values.mem) (start_of code.lines i) (end_of code.lines i) exit (temporaries_from entry line) made took b → (meaning_of entry line).takes (environment_at there_from) v ((meaning_of entry line).own_of took) ≡ Some (made, []) → CameOut placing_of (entry_point entry i) v b
+  led_out {took} {made} exit is bound g takes =
+      let led = reaches job code known t base symbols slots b.state.values.mem s.placed i (slice_get_within job.lines i line listed) (temporaries_from entry line) made.ints g.state.state exit bound g.last in
+      let r = led.reached in
+      record {
+        steps = r.steps + g.steps;
+        state = put r.state g.state;
+        ran = fiter_after job.flags r.steps g.steps b g.state g.ran ∙ integer_run job.flags r.steps r.state g.state r.ran;
+        point = led.point;
+        values = record { ints = r.state.values; units = g.state.units };
+        took = took;
+        line = record {
+          there = there_from;
+          made = made;
+          takes = takes;
+          effect = record { ints = r.same; units = g.units };
+          leads = subst (λ x. Leads job.lines code i x led.point) (sym is) led.leads;
+        };
+        moved = λ back. let moved = r.moved back in omega arith;
+        answers = g.answers;
+        stands = record {
+          pc = r.stands;
+          stopped = r.stopped;
+          same = record { ints = same_itself r.state.values; units = refl };
+          is_state = record { state = r.is_state; units = g.is_state.units; answers = g.is_state.answers };
+          are_values = r.is_state.values;
+          legal = ap is_legal g.setting ∙ s.legal;
+          placed = placed_again code base symbols slots b.state.values.mem (context_of job) known.place known.records r.state.values.mem r.placed t.fields s.placed;
+        };
+      }
+
+-- ---- each line
+
+module _ (job : Job) (code : Code) (known : Known) (t : IsThreaded job code known) (base : ℕ) (symbols slots : Addresses) (i : ℕ) (v : FullValues) (b : FullState) where
+  abbrev placing : Placing
+  placing = record { job = job; code = code; base = base; symbols = symbols; slots = slots }
+
+  abbrev start : ℕ
+  start = start_of code.lines i
+
+  abbrev end : ℕ
+  end = end_of code.lines i
+
+  abbrev full_site : Site
+  full_site = site_of job code known base symbols slots b.state.values.mem
+
+  -- what it is read among by its own place, and by the listing
+  abbrev own : Environment
+  own = environment full_site start end
+
+  abbrev env : Environment
+  env = environment_of job code base symbols slots i
+
+  long : length full_site.bytes ≡ length code.bytes
+  long = from_long b.state.values.mem base (length code.bytes)
+
+  short : length full_site.bytes < code_limit
+  short = subst (λ n. n < code_limit) (sym long) t.short
+
+  labels : (label at : ℕ) → full_site.place label ≡ Some at → at ≤ length full_site.bytes
+  labels label at h = subst (λ n. at ≤ n) (sym long) (t.placed label at h)
+
+  module _ (inst : Inst) (listed : slice_get job.lines i ≡ Some (Put inst)) where
+    agree : AgreeOn (named_labels (Put inst)) own env
+    agree = agrees job code known t base symbols slots b.state.values.mem i (Put inst) listed
+
+    abbrev m : FullMeaning
+    m = inst_meaning AtStart inst
+
+    -- from its start
+    inst_comes : StandsAt placing (At i) v b → OneComes placing (At i) v b
+    inst_comes s = by (outside_or_on base (length code.bytes) (m.writes env v (m.own_of b.answers)))
+      where
+        there : LineAt placing (At i)
+        there = record { index = i; line = Put inst; entry = AtStart; at = refl; listed = listed }
+
+        stood : InstIn full_site inst start end
+        stood = t.line base symbols slots b.state.values.mem s.placed i (Put inst) listed
+
+        means : MeansSame m own env v
+        means = meaning_agrees v AtStart inst agree
+
+        led : EndsAsMeant full_site start end m (inst_exit own inst v.ints) (inst_temporaries inst) v b ⊎ FullyAsks full_site start end m v b → OneComes placing (At i) v b
+        led (inl o) = inl (led_out job code known t base symbols slots i (Put inst) v b AtStart listed s (inst_exit own inst v.ints) (sym (exit_agrees (Put inst) v.ints agree)) (exit_bound job.lines own (Put inst) v.ints (t.named i (Put inst) listed)) o.ends (sym (means.takes (m.own_of o.took)) ∙ o.takes))
+        led (inr a) = inr (inl (record { there = there; steps = a.steps; state = a.state; ran = a.ran; asks = a.asks; took = a.took; answers = a.answers; few = subst (λ n. length a.took < 2 * n) means.own a.few }))
+
+        by : AreOutside base (length code.bytes) (m.writes env v (m.own_of b.answers)) ⊎ IsOn base (length code.bytes) (m.writes env v (m.own_of b.answers)) → OneComes placing (At i) v b
+        by (inl outside) = led (inst_full_runs stood.setting inst (t.ruled i (Put inst) listed) (t.fit i (Put inst) listed) (record {
+          even = stood.even;
+          within = stood.within;
+          short = short;
+          labels = labels;
+          stands = stood.stands;
+          placed = placed_at code base symbols slots b.state.values.mem (context_of job) known.place known.records s.placed;
+          pc = s.pc;
+          is_state = s.is_state.state;
+          are_values = s.are_values;
+          same = s.same.ints;
+        }) s.same s.is_state (subst (λ n. AreOutside base n (m.writes own v (m.own_of b.answers))) (sym long) (subst (AreOutside base (length code.bytes)) (sym (means.writes (m.own_of b.answers))) outside)))
+        by (inr on) = inr (inr (record { there = there; took = b.answers; left = []; answers = sym (append-nil b.answers); on = on }))
+
+    -- from where it returns
+    pub return_comes : (r : Return) → return_of job.flags inst ≡ Some r → StandsAt placing (Returned i) v b → CameOut placing (Returned i) v b
+    return_comes r is s =
+        let h = t.line base symbols slots b.state.values.mem s.placed i (Put inst) listed in
+        let e : Resumes full_site start end (start + r.offset) (parts_of full_site.context h.setting inst) b.state v.ints = record {
+          even = h.even;
+          within = h.within;
+          short = short;
+          stands = h.stands;
+          placed = placed_at code base symbols slots b.state.values.mem (context_of job) known.place known.records s.placed;
+          pc = s.pc ∙ ap (λ n. wrap (base + n)) (ap (λ rs. return_at rs i) t.returns ∙ return_found job.flags code.lines i job.lines inst r listed is);
+          is_state = s.is_state.state;
+          are_values = s.are_values;
+          same = s.same.ints;
+        } in
+        let o = inst_full_resumes h.setting inst r (t.ruled i (Put inst) listed) is labels e s.same s.is_state in
+        let means : MeansSame (inst_meaning AtReturn inst) own env v = meaning_agrees v AtReturn inst agree in
+        led_out job code known t base symbols slots i (Put inst) v b AtReturn listed s (try_exit (try_call_of inst)) refl (return_bound job.lines inst (t.named i (Put inst) listed)) o.ends (sym (means.takes ((inst_meaning AtReturn inst).own_of o.took)) ∙ o.takes)
+
+  pub line_comes : (line : Line) → slice_get job.lines i ≡ Some line → StandsAt placing (At i) v b → OneComes placing (At i) v b
+  line_comes (Put inst) listed s = inst_comes inst listed s
+  line_comes (Bind label) listed s =
+      let ends : FullEnds full_site start end Next [] v [] b = record {
+        steps = 0;
+        state = b;
+        ran = fiter_none job.flags b;
+        last = record {
+          steps = 0;
+          state = b.state;
+          moved = lit≤ tt;
+          ran = iter_none job.flags b.state;
+          arrives = s.pc ∙ ap (λ n. wrap (base + n)) (t.line base symbols slots b.state.values.mem s.placed i (Bind label) listed);
+          same = same_but [] s.same.ints;
+          is_state = s.is_state.state;
+          are_values = s.are_values;
+          placed = placed_at code base symbols slots b.state.values.mem (context_of job) known.place known.records s.placed;
+        };
+        units = s.same.units;
+        is_state = s.is_state;
+        answers = refl;
+        setting = refl;
+      } in
+      inl (led_out job code known t base symbols slots i (Bind label) v b AtStart listed s Next refl tt ends refl)
+
+-- ==== Code in which each line comes out, asks for an answer or writes on the code runs on the machine with all units: by induction over
+-- the lines that are passed.
+
+-- ---- where lines lead there is a line
+
+abbrev IsThere : Job → Point → Type 0
+IsThere job (At i) = (line : Line) × (slice_get job.lines i ≡ Some line)
+IsThere job (Returned i) = (inst : Inst) × (r : Return) × (slice_get job.lines i ≡ Some (Put inst)) × (return_of job.flags inst ≡ Some r)
+IsThere job p = Unit {0}
+
+next_there : (job : Job) (i : ℕ) (more : Bool) → nat_lt (suc i) (length job.lines) ≡ more → IsThere job (if more then At (suc i) else End)
+next_there job i true e = line_at job.lines (suc i) (ltb-true _ _ e)
+next_there job i false e = tt
+
+led_there : (job : Job) (code : Code) (i : ℕ) (exit : Exit) (q : Point) → ExitBound job.lines exit → Leads job.lines code i exit q → IsThere job q
+led_there job code i Next q bound led = subst (IsThere job) (sym led) (next_there job i (nat_lt (suc i) (length job.lines)) refl)
+led_there job code i (To label) q bound led = let b = bind_at job.lines label bound in subst (IsThere job) (sym led) (Bind b.0, b.1)
+led_there job code i (Trap cause) q bound led = subst (IsThere job) (sym led.1) tt
+led_there job code i exit q bound led = subst (IsThere job) (sym led) tt
+
+exit_is_bound : (lines : List Line) (among : Environment) (entry : Entry) (line : Line) (v : FullValues) → AllBound lines (named_labels line) → ExitBound lines (exit_from entry among line v.ints)
+exit_is_bound lines among AtStart line v bound = exit_bound lines among line v.ints bound
+exit_is_bound lines among AtReturn (Put inst) v bound = return_bound lines inst bound
+exit_is_bound lines among AtReturn (Bind label) v bound = tt
+
+module _ (job : Job) (code : Code) (known : Known) (t : IsThreaded job code known) (base : ℕ) (symbols slots : Addresses) where
+  abbrev placing_at : Placing
+  placing_at = record { job = job; code = code; base = base; symbols = symbols; slots = slots }
+
+  -- at each point, one line; or the listing's run ends there
+  one_line : (p : Point) (v : FullValues) (b : FullState) → IsThere job p → StandsAt placing_at p v b → IsExit p ⊎ OneComes placing_at p v b
+  one_line (At i) v b there s = inr (line_comes job code known t base symbols slots i v b there.0 there.1 s)
+  one_line (Returned i) v b there s = inr (inl (return_comes job code known t base symbols slots i v b there.0 there.2 there.1 there.3 s))
+  one_line p v b there s = inl tt
+
+  -- ---- any number of lines
+
+  lines_there : (k : ℕ) (p : Point) (v : FullValues) (least : ℕ) (took : List Answer) (q : Point) (w : FullValues) → IsThere job p → Lines placing_at k p v least took q w → IsThere job q
+  lines_there zero p v least took q w there l = subst (IsThere job) (sym l.2) there
+  lines_there (suc k) p v least took q w there l =
+      let at = l.line.there in
+      led_there job code at.index (exit_from at.entry (environment_at at) at.line l.values.ints) q (exit_is_bound job.lines (environment_at at) at.entry at.line l.values (t.named at.index at.line at.listed)) l.line.leads
+
+  one_more : (k : ℕ) (p : Point) (v : FullValues) (b : FullState) (r : Reached placing_at k p v b) → CameOut placing_at r.point r.values r.state → Reached placing_at (suc k) p v b
+  one_more k p v b r o = record {
+    steps = o.steps + r.steps;
+    state = o.state;
+    ran = fiter_after job.flags o.steps r.steps b r.state r.ran ∙ o.ran;
+    point = o.point;
+    values = o.values;
+    least = r.least + o.steps;
+    took = r.took ++ o.took;
+    lines = record { before_least = r.least; before_took = r.took; point = r.point; values = r.values; before = r.lines; here_least = o.steps; here_took = o.took; line = o.line; moved = o.moved; all_least = refl; all_took = refl };
+    moved = let few = r.moved in omega arith;
+    answers = r.answers ∙ ap (λ xs. r.took ++ xs) o.answers ∙ sym (append_assoc r.took o.took o.state.answers);
+    stands = o.stands;
+  }
+
+  next : (k : ℕ) (p : Point) (v : FullValues) (b : FullState) → IsThere job p → RunsOn placing_at k p v b → RunsOn placing_at (suc k) p v b
+  next k p v b there (inr (inl c)) = inr (inl (record { count = c.count; before = omega (arith, c.before); reached = c.reached; stops = c.stops }))
+  next k p v b there (inr (inr c)) = inr (inr (record { count = c.count; before = omega (arith, c.before); reached = c.reached; overwrites = c.overwrites }))
+  next k p v b there (inl c) = from c.whole
+    where
+      on : c.count ≡ k → IsExit c.reached.point ⊎ OneComes placing_at c.reached.point c.reached.values c.reached.state → RunsOn placing_at (suc k) p v b
+      on e (inl end) = inl (record { count = c.count; within = omega (arith, c.within); reached = c.reached; whole = inr end })
+      on e (inr (inl out)) = inl (record { count = suc c.count; within = omega (arith, c.within); reached = one_more c.count p v b c.reached out; whole = inl (ap suc e) })
+      on e (inr (inr (inl stops))) = inr (inl (record { count = c.count; before = omega (arith, e); reached = c.reached; stops = stops }))
+      on e (inr (inr (inr off))) = inr (inr (record { count = c.count; before = omega (arith, e); reached = c.reached; overwrites = off }))
+
+      from : (c.count ≡ k) ⊎ IsExit c.reached.point → RunsOn placing_at (suc k) p v b
+      from (inl e) = on e (one_line c.reached.point c.reached.values c.reached.state (lines_there c.count p v c.reached.least c.reached.took c.reached.point c.reached.values there c.reached.lines) c.reached.stands)
+      from (inr end) = inl (record { count = c.count; within = omega (arith, c.within); reached = c.reached; whole = inr end })
+
+  runs_on : (k : ℕ) (p : Point) (v : FullValues) (b : FullState) → IsThere job p → StandsAt placing_at p v b → RunsOn placing_at k p v b
+  runs_on zero p v b there s = inl (record {
+    count = 0;
+    within = lit≤ tt;
+    reached = record { steps = 0; state = b; ran = fiter_none job.flags b; point = p; values = v; least = 0; took = []; lines = (refl, refl, refl, refl); moved = lit≤ tt; answers = refl; stands = s };
+    whole = inl refl;
+  })
+  runs_on (suc k) p v b there s = next k p v b there (runs_on k p v b there s)
+
+entry_there : (job : Job) (p : Point) → IsEntry job p → IsThere job p
+entry_there job (At i) entry = (entry.0, entry.1)
+entry_there job (Returned i) entry = entry
+entry_there job p entry = absurd entry
+
+pub full_runs : (job : Job) (code : Code) (known : Known) → IsThreaded job code known → FullRuns job code
+full_runs job code known t = record {
+  from = λ base symbols slots p v b k entry stands. runs_on job code known t base symbols slots k p v b (entry_there job p entry) stands;
 }

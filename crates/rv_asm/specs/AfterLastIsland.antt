@@ -10,7 +10,7 @@ use Rattle.rv_inst.specs.Rules.{broken_rule}
 use Rattle.mach_uses.specs.declared.uses.Use.{Use}
 use Rattle.mach_uses.specs.Reach.{is_pending}
 use Rattle.mach_buffer.specs.Buffer.{uses_of, place_of, constants_of}
-use Rattle.rv_emit.specs.Emitted.{Buffer}
+use Rattle.rv_sequences.specs.Emitted.{Buffer}
 use Rattle.rv_asm.specs.Reach.{uses_after_island, bound_by, constants_taken}
 
 -- those uses for which a test holds

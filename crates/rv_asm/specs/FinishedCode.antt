@@ -7,7 +7,7 @@ use Rattle.rv_inst.specs.LabelUse.{label_kinds}
 use Rattle.mach_buffer.specs.Buffer.{shape_of, bytes_of, place_of, labels_of, records_of}
 use Rattle.mach_records.specs.Records.{relocs_in, traps_in, calls_in, tries_in, patches_in, maps_in, unwinds_in, offset_or_zero}
 use Rattle.mach_buffer.specs.Finish.{CanFinish, Finishes}
-use Rattle.rv_emit.specs.Emitted.{Buffer}
+use Rattle.rv_sequences.specs.Emitted.{Buffer}
 use Rattle.rv_asm.specs.LinesInBuffer.{LinesStand, Named, Sized}
 use Rattle.rv_asm.specs.Reported.{returns_from}
 use Rattle.rv_asm.specs.AfterLastIsland.{AfterLastIsland}

@@ -21,7 +21,7 @@ use Rattle.rv_full.specs.declared.answer.Answer.{Answer}
 use Rattle.rv_full.specs.Steps.{Asks, fiter, fnext}
 use Rattle.rv_full.specs.Units.{FullState, FullValues, IsFullState, values_of}
 use Rattle.rv_full.specs.Vectors.{is_legal}
-use Rattle.rv_code.specs.FullMeaning.{FullMeaning, SameFull, SameFullBut, inst_meaning, of_integers}
+use Rattle.rv_runs.specs.FullMeaning.{FullMeaning, SameFull, SameFullBut, inst_meaning, of_integers}
 use Rattle.rv_asm.specs.Placed.{Addresses, IsPlaced}
 use Rattle.rv_asm.specs.Reported.{start_of}
 use Rattle.rv_asm.specs.Simulation.{Point, At, Returned, Out, End, Stop, Trapped, InData, Entry, IsBack, IsStopped, Leads, address_of, entry_point, environment_of, exit_from, temporaries_from}

@@ -23,10 +23,10 @@ use Rattle.mach_buffer.specs.Buffer.{shape_of, bytes_of, uses_of, place_of, labe
 use Rattle.mach_uses.specs.Labels.{listed}
 use Rattle.mach_buffer.specs.Constants.{reserve_of, AllStand}
 use Rattle.mach_buffer.specs.Islands.{is_far}
-use Rattle.rv_emit.specs.Emitted.{Buffer, IsSoundBuffer, HasWindows, pending, IslandIfNeeded}
-use Rattle.rv_emit.specs.NewConstants.{StandInTurn}
+use Rattle.rv_sequences.specs.Emitted.{Buffer, IsSoundBuffer, HasWindows, pending, IslandIfNeeded}
+use Rattle.rv_sequences.specs.NewConstants.{StandInTurn}
 use Rattle.rv_emit.specs.Emission.{EmitsIn}
-use Rattle.rv_emit.specs.Images.{FieldsStand}
+use Rattle.rv_sequences.specs.Images.{FieldsStand}
 use Rattle.rv_code.specs.InstParts.{parts_of}
 use Rattle.rv_emit.specs.Standing.{GapStandsIn, PartsIn, SpansIn}
 use Rattle.rv_code.specs.declared.state.EmitVState.{EmitVState}

@@ -11,13 +11,12 @@ use Rattle.rv_inst.specs.declared.inst.Line.{Line}
 use Rattle.rv_inst.specs.declared.inst.Line.TheVariants.{Inst as Put, Bind}
 use Rattle.rv_inst.specs.declared.job.Job.{Job}
 use Rattle.rv_inst.specs.Islands.{IsIsland}
-use Rattle.rv_inst.specs.Operands.{inst_constant, named_by}
+use Rattle.rv_inst.specs.Operands.{inst_constant, named_by, Return, return_of}
 use Rattle.rv_inst.specs.Sizes.{Extent, Words, Island, After, Around, extent_of, trap_size, inst_records}
 use Rattle.rv_base.specs.declared.flags.IsaFlags.{IsaFlags}
 use Rattle.rv_inst.specs.declared.code.Code.{Code}
 use Rattle.rv_inst.specs.declared.code.LineSpan.{LineSpan}
 use Rattle.rv_inst.specs.declared.code.CallReturn.{CallReturn}
-use Rattle.rv_inst.specs.Operands.{Return, return_of}
 use Rattle.mach_uses.specs.declared.uses.LabelPlace.{LabelPlace}
 use Rattle.mach_records.specs.declared.records.MachRecord.{MachRecord}
 use Rattle.mach_records.specs.Records.{relocs_in, traps_in, calls_in, tries_in, patches_in, maps_in, unwinds_in}

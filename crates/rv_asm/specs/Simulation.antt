@@ -21,7 +21,7 @@ use Rattle.rv_machine.specs.Decode.{int_decode}
 use Rattle.rv_machine.specs.Steps.{IsBreak, IsZeroHalf, fetch, iter}
 use Rattle.rv_inst.specs.Forms.{IsOwnForm}
 use Rattle.rv_inst.specs.SameValues.{Same, SameBut}
-pub use Rattle.rv_code.specs.Entries.{Entry, AtStart, AtReturn, effect_from, exit_from, temporaries_from}
+pub use Rattle.rv_runs.specs.Entries.{Entry, AtStart, AtReturn, effect_from, exit_from, temporaries_from}
 use Rattle.rv_asm.specs.Placed.{Addresses, address_of_name, IsPlaced}
 use Rattle.rv_asm.specs.Reported.{start_of, end_of, binding_line, label_start}
 

@@ -12,7 +12,7 @@ use Rattle.rv_inst.specs.Uses.{uses_in}
 use Rattle.mach_uses.specs.declared.uses.Use.{Use}
 use Rattle.mach_uses.specs.Reach.{is_reached}
 use Rattle.mach_buffer.specs.Buffer.{uses_of}
-use Rattle.rv_emit.specs.Emitted.{Buffer}
+use Rattle.rv_sequences.specs.Emitted.{Buffer}
 use Rattle.rv_asm.specs.Reach.{first_after_island}
 use Rattle.rv_asm.specs.Reported.{start_of, end_of}
 

@@ -10,7 +10,7 @@ ghost use Rattle.mach_buffer.specs.Buffer.{shape_of, bytes_of, allocated_of, pla
 ghost use Rattle.mach_buffer.specs.Constants.{reserve_of};
 ghost use Rattle.mach_uses.specs.Labels.{inner_count};
 ghost use Rattle.mach_labels.specs.Table.{first_inner};
-ghost use Rattle.rv_emit.specs.Emitted.{IsSoundBuffer, pending, IslandIfNeeded, CanEmit};
+ghost use Rattle.rv_sequences.specs.Emitted.{IsSoundBuffer, pending, IslandIfNeeded, CanEmit};
 ghost use Rattle.rv_emit.specs.Emission.{EmitsIn};
 ghost use Rattle.rv_emit.specs.StackMaps.{with_map};
 ghost use Rattle.rv_code.specs.declared.state.EmitVState.TheVariants.{Unknown};

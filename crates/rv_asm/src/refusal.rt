@@ -147,6 +147,7 @@ fn bind_label(bound: &mut LabelTable<()>, label: MachLabel) -> Result<(), EmitEr
 }
 
 /// Refuses the first line that names a label that none of the lines binds.
+#[tactic(auto, using(crate::proofs::RefusalOrder::finds_by_test))]
 fn find_all(bound: &LabelTable<()>, lines: &[Line]) -> Result<(), EmitError>
     requires { (label : ℕ) → is_in bound.now label ≡ is_bound lines.now label }
     ensures { Finds (unbound_in (is_bound lines.now) lines.now) result }

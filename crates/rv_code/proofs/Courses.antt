@@ -1,22 +1,344 @@
--- The way of a machine through a sequence, by what its values are at each operation.
-use Rattle.std.proofs.Common.{◌≡◌, ℕ, ◌+◌, ◌-◌, ◌%◌, ◌^◌, ◌<◌, ◌≤◌, ℤ, false, [], ◌∷◌, length, Some, arith, refl, ap, subst, ◌∙◌, lit≤}
+-- Offsets, addresses and numbers that are computed in registers, and the way of a machine through a sequence.
+use Rattle.std.proofs.Common.{◌≡◌, ℕ, suc, ◌+◌, ◌-◌, ◌*◌, ◌/◌, ◌%◌, ◌^◌, ◌<◌, ◌≤◌, true, ℤ, pos, negsuc, ◌+ℤ◌, ◌-ℤ◌, arith, ap, ◌∙◌, ⊎_elim, ◌≢◌, Bool, false, List, [], ◌∷◌, ◌++◌, length, Some, refl, sym, subst, lit<, eqb-true, None, ◌==◌, lit≤, if◌then◌else◌, unwrap_or, slice_index, rules}
+use Rattle.std.proofs.lemmas.Bool.{cases_lt, and_parts}
+use Rattle.std.proofs.lemmas.Bool.Decides.{nat_tests}
+use Rattle.std.proofs.lemmas.Int.{ints}
+use Rattle.std.specs.Int.{to_le_bytes, w64}
+use Rattle.std.proofs.lemmas.Option.{same_Some}
+use Rattle.rv_base.specs.LabelUse.{code_limit}
+use Rattle.rv_machine.specs.State.{wrap, low64, signed, Memory, State, IsState, Values, byte, reg, set_reg, at}
+use Rattle.rv_inst.specs.Addresses.{is_splittable, Location, Based, AtLabel, AtConstant, is_near}
+use Rattle.rv_inst.specs.LabelUse.{low32, upper_part, lower_part}
+pub use Rattle.rv_inst.proofs.ImmediateSums.{IsRead, read_low, sum_of_parts, sum_of_negative, offset_sums, address_sums}
+use Rattle.rv_base.specs.declared.flags.IsaFlags.{IsaFlags}
+use Rattle.rv_base.specs.declared.label.MachLabel.{MachLabel}
+use Rattle.rv_ops.specs.declared.alu.AluOPRRR.TheVariants.{Add}
+use Rattle.rv_ops.specs.declared.alu.AluOPRRI.TheVariants.{Addi}
+use Rattle.rv_ops.specs.declared.memory.LoadOP.{LoadOP}
+use Rattle.rv_ops.specs.declared.memory.LoadOP.TheVariants as loads
+use Rattle.rv_machine.specs.declared.ops.MOp.TheVariants.{Base}
+use Rattle.rv_machine.specs.declared.ops.BaseOp.TheVariants as base
 use Rattle.rv_machine.specs.declared.decoding.Decoded.{Decoded}
-use Rattle.rv_machine.specs.State.{State, IsState, Values, reg, set_reg, wrap, at}
 use Rattle.rv_machine.specs.Effects.{act}
+use Rattle.rv_machine.specs.Memory.{load_bytes, load_result}
+use Rattle.rv_encode.specs.Operations.{decoded, load_op, decoded_load}
+pub use Rattle.rv_inst.proofs.Sequences.{set_twice, bits_back}
+use Rattle.rv_inst.specs.declared.label_use.LabelUse.TheVariants.{PCRelHi20}
+use Rattle.mach_uses.specs.Labels.{constant_label}
+use Rattle.rv_inst.specs.Meaning.{Environment, address_at, alu_rrr, alu_rri}
+use Rattle.rv_inst.specs.Forms.{short_rrr, short_rri, short_lui}
+use Rattle.rv_inst.specs.SameValues.{Same}
 use Rattle.rv_ops.specs.declared.alu.AluOPRRR.{AluOPRRR}
 use Rattle.rv_ops.specs.declared.alu.AluOPRRI.{AluOPRRI}
 use Rattle.rv_ops.specs.Operations.{immediate_of, shift_limit}
-use Rattle.rv_inst.specs.Forms.{short_rrr, short_rri}
-use Rattle.rv_inst.specs.Meaning.{alu_rrr, alu_rri}
 use Rattle.rv_inst.specs.Rules.{is_beyond}
-use Rattle.rv_code.specs.Sites.{Site, CodeHas}
+use Rattle.rv_code.specs.Immediates.{upper_of_distance, lower_of_distance, upper_of, lower_of}
+use Rattle.rv_code.specs.Slots.{between, Label, Slot, Op, Notes, Names, Allocate, Here, size_of, slot_size}
+use Rattle.rv_code.proofs.Steps.{lands, goes_both, goes_at_least, goes_none, goes_second, pc_in_code, step_at, at_next}
+use Rattle.rv_code.proofs.LineSlots.{closed_even, offsets, addresses, numbers, is_low, slots_by}
 use Rattle.rv_code.specs.Chains.{Goes, IsAt}
-use Rattle.rv_code.proofs.AddressRuns.{Sets, set_at, shorter}
-use Rattle.rv_code.proofs.Chains.{goes_none, goes_at_least, goes_second}
-use Rattle.rv_code.proofs.CodeSteps.{step_at, at_next}
-use Rattle.rv_code.proofs.OperationActs.{rrr_fits}
-use Rattle.rv_code.proofs.Registers.{are_values_set}
-use Rattle.rv_code.proofs.ShortOps.{HasSize, rrr_acts, rri_acts, rrr_sized, rri_sized}
+use Rattle.rv_code.specs.InstParts.{load_over, inline_slots, immediate_slots, offset_slots, address_slots, number_slots}
+use Rattle.rv_code.specs.InstRuns.{environment}
+use Rattle.rv_code.specs.Operations.{decoded_addi, short_jump, jump_size}
+use Rattle.rv_code.specs.Sites.{Site, BytesAt, AimsFrom, CodeHas, StandsIn}
+use Rattle.rv_code.proofs.OperationActs.{IsIntegerLoad, rrr_acts, rri_acts, lui_acts, jump_acts, rrr_sized, rri_sized, lui_sized, jump_len, least_even, least_some, least_few, load_acts_wide, small_number, HasSize, rrr_fits}
+use Rattle.rv_code.proofs.Registers.{are_values_set, reads_back, reads_other}
+
+-- ---- the numbers that upper and lower immediates sum to.
+
+-- ---- a distance
+
+abbrev Sums : ℕ → ℤ → Type 0
+Sums p d = wrap (wrap (p + low64 (upper_of_distance d) * 2 ^ 12) + low64 (lower_of_distance (d -ℤ pos 4))) ≡ wrap (p + low64 d)
+
+-- by the parts
+sums_by : (p : ℕ) (d : ℤ) (u l : ℕ) → upper_part d ≡ u → lower_part (d -ℤ pos 4) ≡ l → u < 2 ^ 20 → l < 2 ^ 12 → ((x y : ℕ) → IsRead (2 ^ 19) u x → IsRead (2 ^ 11) l y → wrap (wrap (p + x * 2 ^ 12) + y) ≡ wrap (p + low64 d)) → Sums p d
+sums_by p d u l eu el fu fl sums =
+    (λ i. wrap (wrap (p + low64 (signed (2 ^ 19) (eu i)) * 2 ^ 12) + low64 (signed (2 ^ 11) (el i))))
+    ∙ sums (low64 (signed (2 ^ 19) u)) (low64 (signed (2 ^ 11) l)) (read_low (2 ^ 19) u (omega arith) (omega arith)) (read_low (2 ^ 11) l (omega arith) (omega arith))
+
+-- the upper part of a distance that two words hold, and the lower part, which the next word has, sum to it
+pub parts_sum : (p : ℕ) (d : ℤ) → is_splittable d ≡ true → wrap (wrap (p + low64 (upper_of_distance d) * 2 ^ 12) + low64 (lower_of_distance (d -ℤ pos 4))) ≡ wrap (p + low64 d)
+parts_sum p (pos n) h =
+    let fits : n < 2 ^ 31 - 2 ^ 11 = grind (arith, ints, nat_tests) in
+    let eu : pos n +ℤ pos 2048 ≡ pos (n + 2048) = omega (arith, ints) in
+    let el : pos n -ℤ pos 4 +ℤ pos 4 ≡ pos n = omega (arith, ints) in
+    sums_by p (pos n) ((n + 2048) % 4294967296 / 4096) (n % 4294967296 % 4096) (ap (λ z. low32 z / 4096) eu) (ap (λ z. low32 z % 4096) el) (omega arith) (omega arith)
+    (λ x y hx hy. sum_of_parts p _ _ x y hx hy n (omega arith) (omega arith) (omega arith) (omega arith) ∙ omega arith)
+parts_sum p (negsuc n) h =
+    let fits : suc n ≤ 2 ^ 31 + 2 ^ 11 = grind (arith, ints, nat_tests) in
+    let el : negsuc n -ℤ pos 4 +ℤ pos 4 ≡ negsuc n = omega (arith, ints) in
+    let low = 4294967295 - n % 4294967296 in
+    ⊎_elim
+    (λ (lt : 2047 < n).
+    let eu : negsuc n +ℤ pos 2048 ≡ negsuc (n - 2048) = omega (arith, ints) in
+    sums_by p (negsuc n) ((4294967295 - (n - 2048) % 4294967296) / 4096) (low % 4096) (ap (λ z. low32 z / 4096) eu) (ap (λ z. low32 z % 4096) el) (omega arith) (omega arith)
+    (λ x y hx hy. sum_of_negative p _ _ x y hx hy (suc n) (omega arith) fits (omega (arith, fits)) (omega (arith, fits))))
+    (λ (le : n ≤ 2047).
+    let eu : negsuc n +ℤ pos 2048 ≡ pos (2047 - n) = omega (arith, ints) in
+    sums_by p (negsuc n) ((2047 - n) % 4294967296 / 4096) (low % 4096) (ap (λ z. low32 z / 4096) eu) (ap (λ z. low32 z % 4096) el) (omega arith) (omega arith)
+    (λ x y hx hy. sum_of_negative p _ _ x y hx hy (suc n) (omega arith) fits (omega (arith, fits)) (omega (arith, fits))))
+    (cases_lt 2047 n)
+
+-- so those of a distance within the code lead from one offset to another
+pub distance_sums : (base from to : ℕ) → from < code_limit → to < code_limit → wrap (wrap (wrap (base + from) + low64 (upper_of_distance (between from to)) * 2 ^ 12) + low64 (lower_of_distance (between (from + 4) to))) ≡ wrap (base + to)
+distance_sums base from to near near_to =
+    let next : between (from + 4) to ≡ between from to -ℤ pos 4 = omega (arith, ints) in
+    (λ i. wrap (wrap (wrap (base + from) + low64 (upper_of_distance (between from to)) * 2 ^ 12) + low64 (lower_of_distance (next i))))
+    ∙ parts_sum (wrap (base + from)) (between from to) (grind (arith, ints, nat_tests))
+    ∙ lands base from to (omega arith)
+
+-- ---- what the rules give of the place of an address.
+
+-- the register that it counts from is below x30
+abbrev pub IsUsableAt : Location → Type 0
+IsUsableAt (Based r o) = r < 30
+IsUsableAt _ = Unit {0}
+
+-- a register in which the address of a label or a constant is computed isn't x0
+abbrev pub IsRealAt : ℕ → Location → Type 0
+IsRealAt rd (Based r o) = Unit {0}
+IsRealAt rd _ = 0 < rd
+
+-- a register isn't the one that it counts from
+abbrev pub IsApartAt : ℕ → Location → Type 0
+IsApartAt rd (Based r o) = rd ≢ r
+IsApartAt rd _ = Unit {0}
+
+-- ---- offsets and addresses that are computed in a register, exactly.
+
+-- ---- slots one after the other
+
+pub size_append : (slots more : List Slot) → size_of (slots ++ more) ≡ size_of slots + size_of more
+size_append [] more = omega arith
+size_append (slot ∷ slots) more = let e = size_append slots more in omega arith
+
+-- slots stand in the code before others that do
+pub stands_split : (site : Site) (allocated from : ℕ) (slots more : List Slot) → StandsIn site allocated from (slots ++ more) → StandsIn site allocated from slots × StandsIn site allocated (from + size_of slots) more
+stands_split site allocated from [] more s = (tt, subst (λ n. StandsIn site allocated n more) (omega arith) s)
+stands_split site allocated from (Notes event ∷ slots) more s = let r = stands_split site allocated from slots more s.1 in ((s.0, r.0), subst (λ n. StandsIn site allocated n more) (omega arith) r.1)
+stands_split site allocated from (Names k ∷ slots) more s = let r = stands_split site allocated from slots more s in (r.0, subst (λ n. StandsIn site allocated n more) (omega arith) r.1)
+stands_split site allocated from (Allocate ∷ slots) more s = let r = stands_split site allocated from slots more s in (r.0, subst (λ n. StandsIn site allocated n more) (omega arith) r.1)
+stands_split site allocated from (Here k ∷ slots) more s = let r = stands_split site allocated from slots more s.1 in ((s.0, r.0), subst (λ n. StandsIn site allocated n more) (omega arith) r.1)
+stands_split site allocated from (slot ∷ slots) more s = let r = stands_split site allocated (from + slot_size slot) slots more s.1 in ((s.0, r.0), subst (λ n. StandsIn site allocated n more) (omega arith) r.1)
+
+-- ---- one register, written
+
+-- the machine goes on over so many bytes, and a register holds a number
+abbrev pub Sets : IsaFlags → ℕ → State → ℕ → ℕ → Type 0
+Sets flags size s n x = Goes flags 0 s (at (wrap (s.pc + size)) (set_reg s.values n x))
+
+-- an operation that writes a register
+pub sets_one : {site : Site} {offset size : ℕ} {s : State} (d : Decoded) (n x : ℕ) → IsAt site offset size s → 0 < size → CodeHas site offset (d ∷ []) → act d s ≡ Some (at (wrap (s.pc + d.len)) (set_reg s.values n x)) → Sets site.context.flags d.len s n x
+sets_one {s = s} d n x h some has acts = goes_at_least (omega arith) (step_at d [] (at (wrap (s.pc + d.len)) (set_reg s.values n x)) h some has acts)
+
+-- such an operation alone
+pub sets_alone : {site : Site} {offset : ℕ} {s : State} (allocated : ℕ) (d : Decoded) (n x y : ℕ) → HasSize d → x ≡ y → act d s ≡ Some (at (wrap (s.pc + d.len)) (set_reg s.values n x)) →
+    IsAt site offset (size_of (Op d ∷ [])) s → StandsIn site allocated offset (Op d ∷ []) → Sets site.context.flags (size_of (Op d ∷ [])) s n y
+sets_alone {site} {s = s} allocated d n x y size same acts h stands =
+    let all : d.len ≡ d.len + 0 = omega arith in
+    subst (λ k. Sets site.context.flags k s n y) all (sets_one d n y h (omega arith) stands.0 (acts ∙ ap (λ z. Some (at (wrap (s.pc + d.len)) (set_reg s.values n z))) same))
+
+-- one such chain after the other, in one register
+pub sets_both : {flags : IsaFlags} {s : State} (k size n x y : ℕ) → Sets flags k s n x → Sets flags size (at (wrap (s.pc + k)) (set_reg s.values n x)) n y → Sets flags (k + size) s n y
+sets_both {flags} {s} k size n x y g h =
+    let over : wrap (wrap (s.pc + k) + size) ≡ wrap (s.pc + (k + size)) = omega arith in
+    subst (λ (t : State). Goes flags 0 s t) (λ i. at (over i) (set_twice s.values n x y i)) (goes_both g h)
+
+-- before fewer bytes
+pub shorter : {site : Site} {offset size : ℕ} {s : State} (k : ℕ) → IsAt site offset size s → k ≤ size → IsAt site offset k s
+shorter k h le = record { even = h.even; room = omega arith; placed = h.placed; pc = h.pc }
+
+-- after it
+pub set_at : {site : Site} {offset size : ℕ} {s : State} (k n x : ℕ) → IsAt site offset (k + size) s → k % 2 ≡ 0 → IsAt site (offset + k) size (at (wrap (s.pc + k)) (set_reg s.values n x))
+set_at {s = s} k n x h even = at_next k (at (wrap (s.pc + k)) (set_reg s.values n x)) h even refl h.placed
+
+-- ---- an offset, by immediates
+
+-- the lower immediate, where it isn't 0
+abbrev lower_if : IsaFlags → ℕ → ℤ → Bool → List Slot
+lower_if flags rd o none = if none then [] else Op (short_rri flags Addi rd rd (lower_of o)) ∷ []
+
+-- where the lower immediate is 0, the upper one is the offset
+immediate_goes : {site : Site} {offset : ℕ} {s : State} (allocated rd : ℕ) (o : ℤ) (none : Bool) → (low64 (lower_of o) == 0) ≡ none → 0 < rd → rd < 32 → is_splittable o ≡ true → IsState s →
+    IsAt site offset (size_of (Op (short_lui site.context.flags rd (upper_of o)) ∷ lower_if site.context.flags rd o none)) s → StandsIn site allocated offset (Op (short_lui site.context.flags rd (upper_of o)) ∷ lower_if site.context.flags rd o none) →
+    Sets site.context.flags (size_of (Op (short_lui site.context.flags rd (upper_of o)) ∷ lower_if site.context.flags rd o none)) s rd (wrap (low64 o))
+immediate_goes {site} {s = s} allocated rd o true test some lt fits is_state h stands =
+    let sum = offset_sums o fits in
+    let zero_low : low64 (lower_of o) ≡ 0 = eqb-true (low64 (lower_of o)) 0 test in
+    sets_alone allocated (short_lui site.context.flags rd (upper_of o)) rd _ (wrap (low64 o)) (lui_sized site.context.flags rd (upper_of o)) (omega arith) (lui_acts site.context.flags rd (upper_of o) s is_state) h stands
+immediate_goes {site} {offset} {s} allocated rd o false test some lt fits is_state h stands =
+    let d = short_lui site.context.flags rd (upper_of o) in
+    let l = short_rri site.context.flags Addi rd rd (lower_of o) in
+    let d_size = lui_sized site.context.flags rd (upper_of o) in
+    let l_size = rri_sized site.context.flags Addi rd rd (lower_of o) in
+    let u = wrap (low64 (upper_of o) * 2 ^ 12) in
+    let s1 = at (wrap (s.pc + d.len)) (set_reg s.values rd u) in
+    let h1 : IsAt site (offset + d.len) (l.len + 0) s1 = set_at d.len rd u h d_size.even in
+    let back : reg s1.values rd ≡ u = reads_back s.values rd u is_state.values some lt in
+    let sum : wrap (reg s1.values rd + low64 (lower_of o)) ≡ wrap (low64 o) = (λ i. wrap (back i + low64 (lower_of o))) ∙ offset_sums o fits in
+    let all : d.len + l.len ≡ d.len + (l.len + 0) = omega arith in
+    let is_next : IsState s1 = record { pc = omega arith; values = are_values_set s.values rd u is_state.values lt (omega arith) } in
+    subst (λ n. Sets site.context.flags n s rd (wrap (low64 o))) all
+    (sets_both d.len l.len rd u (wrap (low64 o)) (sets_one d rd u h (omega arith) stands.0 (lui_acts site.context.flags rd (upper_of o) s is_state))
+    (sets_one l rd (wrap (low64 o)) h1 (omega arith) stands.1.0 (rri_acts site.context.flags Addi rd rd (lower_of o) s1 refl is_next ∙ (λ i. Some (at (wrap (s1.pc + l.len)) (set_reg s1.values rd (sum i)))))))
+
+-- ---- an offset, from among the code
+
+-- the auipc, the load of bytes that stand after the code, and the jump over them
+pub over_goes : {site : Site} {offset : ℕ} {s : State} (allocated rd size x : ℕ) (op : LoadOP) (bytes : List ℕ) → IsIntegerLoad op → 0 < rd → rd < 32 → size < 16 → length bytes ≡ size → ((mem : Memory) (a : ℕ) → BytesAt mem a bytes → load_result (load_op op) mem a ≡ x) → 0 < size → IsState s →
+    IsAt site offset (8 + jump_size site.context.flags + size) s → StandsIn site allocated offset (load_over site.context.flags rd op size) → BytesAt s.values.mem (site.base + (offset + 4 + 4 + (short_jump site.context.flags (pos (size + jump_size site.context.flags))).len)) bytes → Sets site.context.flags (8 + jump_size site.context.flags + size) s rd x
+over_goes {site} {offset} {s} allocated rd size x op bytes integer some lt little long reads filled is_state whole stands there =
+    let flags = site.context.flags in
+    let j = jump_size flags in
+    let few = least_few flags in
+    let even = least_even flags in
+    let jumps = least_some flags in
+    let far = pos (size + j) in
+    let jump = short_jump flags far in
+    let jump_long : jump.len ≡ j = jump_len flags far in
+    let over : low64 far ≡ size + j = small_number (size + j) (omega arith) in
+    let a = wrap (s.pc + low64 (pos 0) * 2 ^ 12) in
+    let none : low64 (pos 0) ≡ 0 = refl in
+    let ahead : low64 (pos (8 + j)) ≡ 8 + j = small_number (8 + j) (omega arith) in
+    let s1 = at (wrap (s.pc + 4)) (set_reg s.values rd a) in
+    let s2 = at (wrap (s.pc + 8)) (set_reg s.values rd x) in
+    let h : IsAt site offset (4 + (4 + jump.len)) s = shorter (4 + (4 + jump.len)) whole (omega arith) in
+    let h1 : IsAt site (offset + 4) (4 + jump.len) s1 = set_at 4 rd a h refl in
+    let room = there.room in
+    let here : s.pc ≡ site.base + offset = pc_in_code h (omega arith) in
+    let back : reg s1.values rd ≡ a = reads_back s.values rd a is_state.values some lt in
+    let address : wrap (reg s1.values rd + low64 (pos (8 + j))) ≡ site.base + (offset + 4 + 4 + jump.len) = (λ i. wrap (back i + low64 (pos (8 + j)))) ∙ omega (arith, none, ahead, here, room, filled, long, jump_long) in
+    let read : load_result (load_op op) s.values.mem (wrap (reg s1.values rd + low64 (pos (8 + j)))) ≡ x = ap (load_result (load_op op) s.values.mem) address ∙ reads s.values.mem (site.base + (offset + 4 + 4 + jump.len)) there in
+    let loaded : Sets flags 8 s rd x = sets_both 4 4 rd a x (sets_one (decoded (Base base.Auipc) rd 0 0 (pos 0)) rd a h (omega arith) stands.0 refl)
+    (sets_one (decoded_load op rd rd (pos (8 + j))) rd x h1 (omega arith) stands.1.0 (load_acts_wide op rd rd (pos (8 + j)) s1 integer ∙ (λ i. Some (at (wrap (s1.pc + 4)) (set_reg s1.values rd (read i)))))) in
+    let h2 : IsAt site (offset + 8) jump.len s2 = set_at 8 rd x (shorter (8 + jump.len) h (omega arith)) refl in
+    let jumped : wrap (s2.pc + low64 far) ≡ wrap (s.pc + (8 + j + size)) = (λ i. wrap (s2.pc + over i)) ∙ omega arith in
+    goes_both {n = 0} loaded (goes_at_least (omega arith) (step_at jump [] (at (wrap (s.pc + (8 + j + size))) s2.values) h2 (omega arith) (subst (λ n. CodeHas site n (jump ∷ [])) (omega arith) stands.1.1.0) (jump_acts flags far s2 ∙ (λ i. Some (at (jumped i) s2.values)))))
+
+-- how long the code of an inline constant is
+pub inline_size : (flags : IsaFlags) (rd size : ℕ) (op : LoadOP) (bytes : List ℕ) → length bytes ≡ size → size_of (inline_slots flags rd op size bytes) ≡ 8 + jump_size flags + size
+inline_size flags rd size op bytes long = let jump = jump_len flags (pos (size + jump_size flags)) in omega arith
+
+-- those bytes are a constant
+pub inline_goes : {site : Site} {offset : ℕ} {s : State} (allocated rd size x : ℕ) (op : LoadOP) (bytes : List ℕ) → IsIntegerLoad op → 0 < rd → rd < 32 → size < 16 → length bytes ≡ size → ((mem : Memory) (a : ℕ) → BytesAt mem a bytes → load_result (load_op op) mem a ≡ x) → 0 < size → IsState s →
+    IsAt site offset (size_of (inline_slots site.context.flags rd op size bytes)) s → StandsIn site allocated offset (inline_slots site.context.flags rd op size bytes) → Sets site.context.flags (8 + jump_size site.context.flags + size) s rd x
+inline_goes {site} {offset} {s} allocated rd size x op bytes integer some lt little long reads filled is_state h stands =
+    let e = inline_size site.context.flags rd size op bytes long in
+    over_goes allocated rd size x op bytes integer some lt little long reads filled is_state (shorter (8 + jump_size site.context.flags + size) h (omega arith)) (stands.0, (stands.1.0, (stands.1.1.0, tt))) (stands.1.1.1.0 s.values.mem h.placed)
+
+-- eight bytes that stand in the memory, as a number
+pub eight_there : (mem : Memory) (a w : ℕ) → BytesAt mem a (to_le_bytes w64 w) → load_bytes mem a 8 ≡ wrap w
+eight_there mem a w there =
+    let each : (k : ℕ) → k < 8 → byte mem (wrap (a + k)) ≡ slice_index (to_le_bytes w64 w) k = λ k lt. let e : wrap (a + k) ≡ a + k = omega arith in ap (byte mem) e ∙ there.there k lt in
+    omega (arith, each 0 (lit< tt), each 1 (lit< tt), each 2 (lit< tt), each 3 (lit< tt), each 4 (lit< tt), each 5 (lit< tt), each 6 (lit< tt), each 7 (lit< tt))
+
+pub offset_even : (flags : IsaFlags) (rd : ℕ) (o : ℤ) → size_of (offset_slots flags rd o) % 2 ≡ 0
+offset_even flags rd o = closed_even (λ k. None) 0 (offset_slots flags rd o) ((offsets flags rd o).closed _ 0)
+
+-- an offset is put into a register
+pub offset_goes : {site : Site} {offset : ℕ} {s : State} (allocated rd : ℕ) (o : ℤ) → 0 < rd → rd < 32 → IsState s → IsAt site offset (size_of (offset_slots site.context.flags rd o)) s → StandsIn site allocated offset (offset_slots site.context.flags rd o) → Sets site.context.flags (size_of (offset_slots site.context.flags rd o)) s rd (wrap (low64 o))
+offset_goes {site} {offset} {s} allocated rd o some lt is_state =
+    let bytes = to_le_bytes w64 (low64 o) in
+    let slots = λ (c : Bool). if c then immediate_slots site.context.flags rd (upper_of o) (lower_of o) else inline_slots site.context.flags rd loads.Ld 8 bytes in
+    (elim (is_splittable o) as (λ c. is_splittable o ≡ c → IsAt site offset (size_of (slots c)) s → StandsIn site allocated offset (slots c) → Sets site.context.flags (size_of (slots c)) s rd (wrap (low64 o))) [
+      | true ↦ λ fits h stands. immediate_goes allocated rd o (low64 (lower_of o) == 0) refl some lt fits is_state h stands
+      | false ↦ λ other h stands. subst (λ n. Sets site.context.flags n s rd (wrap (low64 o))) (sym (inline_size site.context.flags rd 8 loads.Ld bytes refl))
+          (inline_goes allocated rd 8 (wrap (low64 o)) loads.Ld bytes refl some lt (lit< tt) refl (λ mem a there. eight_there mem a (low64 o) there) (lit< tt) is_state h stands)
+    ]) refl
+
+-- ---- an address that counts from a register
+
+-- the slots of an address that counts from a register, by whether it is near
+abbrev based_slots : IsaFlags → ℕ → ℕ → ℤ → Bool → List Slot
+based_slots flags rd r o near = if near then Op (short_rri flags Addi rd r o) ∷ [] else offset_slots flags rd o ++ Op (short_rrr flags Add rd rd r) ∷ []
+
+-- an address, where a register of it keeps its value
+pub based_goes : {site : Site} {offset : ℕ} {s : State} (allocated rd r : ℕ) (o : ℤ) → 0 < rd → rd < 32 → r ≢ rd → IsState s → IsAt site offset (size_of (address_slots site.context.flags rd (Based r o))) s → StandsIn site allocated offset (address_slots site.context.flags rd (Based r o)) → Sets site.context.flags (size_of (address_slots site.context.flags rd (Based r o))) s rd (wrap (reg s.values r + low64 o))
+based_goes {site} {offset} {s} allocated rd r o some lt apart is_state =
+    let flags = site.context.flags in
+    let address = wrap (reg s.values r + low64 o) in
+    elim (is_near o) as (λ c. IsAt site offset (size_of (based_slots flags rd r o c)) s → StandsIn site allocated offset (based_slots flags rd r o c) → Sets flags (size_of (based_slots flags rd r o c)) s rd address) [
+      | true ↦ λ h stands. sets_alone allocated (short_rri flags Addi rd r o) rd address address (rri_sized flags Addi rd r o) refl (rri_acts flags Addi rd r o s refl is_state) h stands
+      | false ↦ λ h stands.
+          let d = short_rrr flags Add rd rd r in
+          let size = rrr_sized flags Add rd rd r in
+          let k = size_of (offset_slots flags rd o) in
+          let long : size_of (based_slots flags rd r o false) ≡ k + d.len = size_append (offset_slots flags rd o) (Op d ∷ []) ∙ omega arith in
+          let both = stands_split site allocated offset (offset_slots flags rd o) (Op d ∷ []) stands in
+          let x = wrap (low64 o) in
+          let s1 = at (wrap (s.pc + k)) (set_reg s.values rd x) in
+          let h1 : IsAt site (offset + k) d.len s1 = set_at k rd x (shorter (k + d.len) h (omega arith)) (offset_even flags rd o) in
+          let back : reg s1.values rd ≡ x = reads_back s.values rd x is_state.values some lt in
+          let kept : reg s1.values r ≡ reg s.values r = reads_other s.values rd r x apart in
+          let sum : wrap (reg s1.values rd + reg s1.values r) ≡ address = (λ i. wrap (back i + kept i)) ∙ omega arith in
+          let is_next : IsState s1 = record { pc = omega arith; values = are_values_set s.values rd x is_state.values lt (omega arith) } in
+          subst (λ n. Sets flags n s rd address) (sym long)
+          (sets_both k d.len rd x address (offset_goes allocated rd o some lt is_state (shorter k h (omega arith)) both.0)
+          (sets_one d rd address h1 (omega arith) both.1.0 (rrr_acts flags Add rd rd r s1 is_next ∙ (λ i. Some (at (wrap (s1.pc + d.len)) (set_reg s1.values rd (sum i)))))))
+    ]
+
+-- ---- the address of a label
+
+-- where a label is bound
+abbrev pub label_address : Site → MachLabel → ℕ
+label_address site l = wrap (site.base + unwrap_or (site.place l.number) 0)
+
+-- the upper part of the distance between two offsets, added to an address
+abbrev pub upper_sum : ℕ → ℕ → ℕ → ℕ
+upper_sum pc from to = wrap (pc + low64 (upper_of_distance (between from to)) * 2 ^ 12)
+
+-- code that is short enough for every distance in it, and in which labels are bound
+pub record AreShort (site : Site) : Type 0 where
+  pub short : length site.bytes < code_limit
+  pub labels : (label at : ℕ) → site.place label ≡ Some at → at ≤ length site.bytes
+
+-- the first of two words, whatever the second one does
+pub upper_goes : {site : Site} {offset size allocated : ℕ} {s : State} (rd : ℕ) (l : MachLabel) → IsAt site offset size s → 0 < size → (a : AimsFrom site allocated offset PCRelHi20 (Label l) (λ d. decoded (Base base.Auipc) rd 0 0 (upper_of_distance d) ∷ [])) → Sets site.context.flags 4 s rd (upper_sum s.pc offset a.to)
+upper_goes {offset = offset} {s = s} rd l h some a = sets_one (decoded (Base base.Auipc) rd 0 0 (upper_of_distance (between offset a.to))) rd (upper_sum s.pc offset a.to) h some a.has refl
+
+-- the second one adds the lower part
+pub lower_sums : {site : Site} {offset size : ℕ} {s : State} (rd : ℕ) (l : MachLabel) (to to_next : ℕ) → 0 < rd → rd < 32 → AreShort site → IsState s → IsAt site offset size s → site.place l.number ≡ Some to → site.place l.number ≡ Some to_next →
+    wrap (reg (set_reg s.values rd (upper_sum s.pc offset to)) rd + low64 (lower_of_distance (between (offset + 4) to_next))) ≡ label_address site l
+lower_sums {site} {offset} {s = s} rd l to to_next some lt bounds is_state h bound bound_next =
+    let le = bounds.labels l.number to bound in
+    let one : to_next ≡ to = same_Some to_next to (sym bound_next ∙ bound) in
+    (λ i. wrap (reads_back s.values rd (upper_sum s.pc offset to) is_state.values some lt i + low64 (lower_of_distance (between (offset + 4) (one i)))))
+    ∙ (λ i. wrap (upper_sum (h.pc i) offset to + low64 (lower_of_distance (between (offset + 4) to))))
+    ∙ distance_sums site.base offset to (omega arith) (omega arith)
+    ∙ ap (λ o. wrap (site.base + unwrap_or o 0)) (sym bound)
+
+pub label_goes : {site : Site} {offset : ℕ} {s : State} (allocated rd : ℕ) (l : MachLabel) → 0 < rd → rd < 32 → AreShort site → IsState s → IsAt site offset 8 s → StandsIn site allocated offset (address_slots site.context.flags rd (AtLabel l)) → Sets site.context.flags 8 s rd (label_address site l)
+label_goes {site} {offset} {s} allocated rd l some lt bounds is_state h stands =
+    let a = stands.0 in
+    let b = stands.1.0 in
+    let x = upper_sum s.pc offset a.to in
+    let s1 = at (wrap (s.pc + 4)) (set_reg s.values rd x) in
+    let h1 : IsAt site (offset + 4) 4 s1 = set_at 4 rd x h refl in
+    let sum = lower_sums rd l a.to b.to some lt bounds is_state h a.reaches.0 b.reaches.0 in
+    sets_both 4 4 rd x (label_address site l) (upper_goes rd l h (omega arith) a)
+    (sets_one (decoded_addi rd rd (lower_of_distance (between (offset + 4) b.to))) rd (label_address site l) h1 (omega arith) b.has (λ i. Some (at (wrap (s1.pc + 4)) (set_reg s1.values rd (sum i)))))
+
+-- ---- any address
+
+pub address_goes : {site : Site} {offset : ℕ} {s : State} (start after allocated rd : ℕ) (loc : Location) → 0 < rd → rd < 32 → IsApartAt rd loc → AreShort site → IsState s → IsAt site offset (size_of (address_slots site.context.flags rd loc)) s → StandsIn site allocated offset (address_slots site.context.flags rd loc) → Sets site.context.flags (size_of (address_slots site.context.flags rd loc)) s rd (address_at (environment site start after) s.values loc)
+address_goes start after allocated rd (Based r o) some lt apart bounds is_state h stands = based_goes allocated rd r o some lt (λ e. apart (sym e)) is_state h stands
+address_goes start after allocated rd (AtLabel l) some lt apart bounds is_state h stands = label_goes allocated rd l some lt bounds is_state h stands
+address_goes start after allocated rd (AtConstant k) some lt apart bounds is_state h stands = label_goes allocated rd (constant_label k) some lt bounds is_state h stands
+
+pub address_even : (flags : IsaFlags) (rd : ℕ) (loc : Location) → size_of (address_slots flags rd loc) % 2 ≡ 0
+address_even flags rd loc = closed_even (λ k. None) 0 (address_slots flags rd loc) ((addresses flags rd loc).closed _ 0)
+
+-- it is the same in values that are the same
+pub address_same : (env : Environment) (v w : Values) (loc : Location) → IsUsableAt loc → Same v w → address_at env v loc ≡ address_at env w loc
+address_same env v w (Based r o) usable same = λ i. wrap (same.regs r usable i + low64 o)
+address_same env v w _ usable same = refl
+
+pub address_fits : (site : Site) (start after : ℕ) (v : Values) (loc : Location) → address_at (environment site start after) v loc < 2 ^ 64
+address_fits site start after v (Based r o) = omega arith
+address_fits site start after v _ = omega arith
+
+-- ---- the way of a machine through a sequence, by what its values are at each operation.
 
 -- a machine at an offset, before so many bytes of the code, whose values are such
 pub record InCourse (site : Site) (offset size : ℕ) (Such : Values → Type 0) (s : State) : Type 0 where
@@ -41,37 +363,17 @@ comes_here {site} {s = s} k = record { state = s; goes = goes_none site.context.
 pub course_before : {site : Site} {offset size : ℕ} {Such : Values → Type 0} {s : State} (less : ℕ) → InCourse site offset size Such s → less ≤ size → InCourse site offset less Such s
 course_before less k le = record { here = shorter less k.here le; is_state = k.is_state; values = k.values }
 
--- its values are such too
-pub course_of : {site : Site} {offset size : ℕ} {Such Such' : Values → Type 0} {s : State} → ((w : Values) → Such w → Such' w) → InCourse site offset size Such s → InCourse site offset size Such' s
-course_of {s = s} so k = record { here = k.here; is_state = k.is_state; values = so s.values k.values }
-
 -- ---- an operation writes a register
-
-pub writes : {site : Site} {offset size : ℕ} {Such : Values → Type 0} {s : State} (After : Values → Type 0) (d : Decoded) (n x : ℕ) → HasSize d → CodeHas site offset (d ∷ []) → act d s ≡ Some (at (wrap (s.pc + d.len)) (set_reg s.values n x)) → n < 32 → x < 2 ^ 64 → InCourse site offset (d.len + size) Such s → After (set_reg s.values n x) → Comes site (offset + d.len) size After s
-writes {s = s} After d n x sized has acts lt fits k after =
-    let t = at (wrap (s.pc + d.len)) (set_reg s.values n x) in
-    let some = sized.some in
-    record {
-      state = t;
-      goes = goes_at_least (lit≤ tt) (step_at d [] t k.here (omega arith) has acts);
-      course = record {
-        here = at_next d.len t k.here sized.even refl k.here.placed;
-        is_state = record { pc = omega arith; values = are_values_set s.values n x k.is_state.values lt fits };
-        values = after;
-      };
-    }
 
 -- so many bytes do
 pub sets_comes : {site : Site} {offset size : ℕ} {Such : Values → Type 0} {s : State} (After : Values → Type 0) (k n x : ℕ) → k % 2 ≡ 0 → n < 32 → x < 2 ^ 64 → Sets site.context.flags k s n x → InCourse site offset (k + size) Such s → After (set_reg s.values n x) → Comes site (offset + k) size After s
-sets_comes {s = s} After k n x even lt fits goes c after = record {
-  state = at (wrap (s.pc + k)) (set_reg s.values n x);
-  goes = goes;
-  course = record {
-    here = set_at k n x c.here even;
-    is_state = record { pc = omega arith; values = are_values_set s.values n x c.is_state.values lt fits };
-    values = after;
-  };
-}
+sets_comes {s = s} After k n x even lt fits goes c after =
+    let here = set_at k n x c.here even in
+    let values = are_values_set s.values n x c.is_state.values lt fits in
+    record { state = at (wrap (s.pc + k)) (set_reg s.values n x); goes = goes; course = search (rules, arith, here, values, after) }
+
+pub writes : {site : Site} {offset size : ℕ} {Such : Values → Type 0} {s : State} (After : Values → Type 0) (d : Decoded) (n x : ℕ) → HasSize d → CodeHas site offset (d ∷ []) → act d s ≡ Some (at (wrap (s.pc + d.len)) (set_reg s.values n x)) → n < 32 → x < 2 ^ 64 → InCourse site offset (d.len + size) Such s → After (set_reg s.values n x) → Comes site (offset + d.len) size After s
+writes After d n x sized has acts lt fits k after = let some = sized.some in sets_comes After d.len n x sized.even lt fits (sets_one d n x k.here (omega arith) has acts) k after
 
 -- one of a register and an immediate
 pub rri_writes : {site : Site} {offset size : ℕ} {Such : Values → Type 0} {s : State} (After : Values → Type 0) (op : AluOPRRI) (rd rs : ℕ) (imm : ℤ) (x : ℕ) → is_beyond (shift_limit (immediate_of op)) imm ≡ false → CodeHas site offset (short_rri site.context.flags op rd rs imm ∷ []) → alu_rri op (reg s.values rs) imm ≡ x → rd < 32 → x < 2 ^ 64 → InCourse site offset ((short_rri site.context.flags op rd rs imm).len + size) Such s → After (set_reg s.values rd x) → Comes site (offset + (short_rri site.context.flags op rd rs imm).len) size After s
@@ -93,24 +395,46 @@ rrr_writes {site} {s = s} After op rd rs1 rs2 x has is lt k after =
 leads : {site : Site} {offset size : ℕ} {Such : Values → Type 0} {s : State} (d : Decoded) (to more : ℕ) → CodeHas site offset (d ∷ []) → act d s ≡ Some (at (wrap (site.base + to)) s.values) → to % 2 ≡ 0 → to + more ≤ length site.bytes → 0 < size → InCourse site offset size Such s → Comes site to more Such s
 leads {site} {s = s} d to more has acts even room some k =
     let t = at (wrap (site.base + to)) s.values in
-    record {
-      state = t;
-      goes = goes_at_least (lit≤ tt) (step_at d [] t k.here some has acts);
-      course = record {
-        here = record { even = even; room = room; placed = k.here.placed; pc = refl };
-        is_state = record { pc = omega arith; values = k.is_state.values };
-        values = k.values;
-      };
-    }
+    record { state = t; goes = goes_at_least (lit≤ tt) (step_at d [] t k.here some has acts); course = search (rules, arith, k, even, room) }
 
 -- ahead by so many bytes
 pub goes_ahead : {site : Site} {offset size : ℕ} {Such : Values → Type 0} {s : State} (d : Decoded) (n to more : ℕ) → CodeHas site offset (d ∷ []) → act d s ≡ Some (at (wrap (s.pc + n)) s.values) → to ≡ offset + n → n % 2 ≡ 0 → n + more ≤ size → 0 < size → InCourse site offset size Such s → Comes site to more Such s
 goes_ahead {site} {offset} {size} {s = s} d n to more has acts there even fits some k =
-    let e : wrap (s.pc + n) ≡ wrap (site.base + to) = (let pc = k.here.pc in omega arith) in
-    leads d to more has (acts ∙ ap (λ a. Some (at a s.values)) e) (let start = k.here.even in omega arith) (let room = k.here.room in omega arith) some k
+    let e : wrap (s.pc + n) ≡ wrap (site.base + to) = omega arith in
+    leads d to more has (acts ∙ ap (λ a. Some (at a s.values)) e) (omega arith) (omega arith) some k
 
 -- back by so many
 pub goes_back : {site : Site} {offset size : ℕ} {Such : Values → Type 0} {s : State} (d : Decoded) (n to more : ℕ) → CodeHas site offset (d ∷ []) → act d s ≡ Some (at (wrap (s.pc + (2 ^ 64 - n))) s.values) → offset ≡ to + n → n < 2 ^ 64 → to % 2 ≡ 0 → to + more ≤ length site.bytes → 0 < size → InCourse site offset size Such s → Comes site to more Such s
 goes_back {site} {offset} {size} {s = s} d n to more has acts there few even room some k =
-    let e : wrap (s.pc + (2 ^ 64 - n)) ≡ wrap (site.base + to) = (let pc = k.here.pc in omega arith) in
+    let e : wrap (s.pc + (2 ^ 64 - n)) ≡ wrap (site.base + to) = omega arith in
     leads d to more has (acts ∙ ap (λ a. Some (at a s.values)) e) even room some k
+
+-- ---- a number is put into a register.
+
+-- a number without an upper immediate is its lower one
+lower_whole : (z : ℤ) → is_low z ≡ true → wrap (0 + low64 (lower_of z)) ≡ wrap (low64 z)
+lower_whole z low =
+    let both = and_parts (is_splittable z) (low64 (upper_of z) == 0) low in
+    let sum = offset_sums z both.0 in
+    let none : low64 (upper_of z) ≡ 0 = eqb-true (low64 (upper_of z)) 0 both.1 in
+    omega (arith, sum, none)
+
+pub number_even : (flags : IsaFlags) (rd : ℕ) (z : ℤ) → size_of (number_slots flags rd z) % 2 ≡ 0
+number_even flags rd z = closed_even (λ k. None) 0 (number_slots flags rd z) ((numbers flags rd z).closed _ 0)
+
+-- the number, modulo 2 ^ 64, and nothing else
+pub number_goes : {site : Site} {offset : ℕ} {s : State} (allocated rd : ℕ) (z : ℤ) → 0 < rd → rd < 32 → IsState s → IsAt site offset (size_of (number_slots site.context.flags rd z)) s → StandsIn site allocated offset (number_slots site.context.flags rd z) → Sets site.context.flags (size_of (number_slots site.context.flags rd z)) s rd (wrap (low64 z))
+number_goes {site} {offset} {s} allocated rd z some lt is_state =
+    let flags = site.context.flags in
+    (elim (is_low z) as (λ low. is_low z ≡ low → IsAt site offset (size_of (slots_by flags rd z low)) s → StandsIn site allocated offset (slots_by flags rd z low) → Sets flags (size_of (slots_by flags rd z low)) s rd (wrap (low64 z))) [
+      | true ↦ λ low h stands. sets_alone allocated (short_rri flags Addi rd 0 (lower_of z)) rd _ (wrap (low64 z)) (rri_sized flags Addi rd 0 (lower_of z)) (lower_whole z low) (rri_acts flags Addi rd 0 (lower_of z) s refl is_state) h stands
+      | false ↦ λ high h stands. offset_goes allocated rd z some lt is_state h stands
+    ]) refl
+
+-- and on the way of a machine
+pub number_comes : {site : Site} {offset size : ℕ} {Such : Values → Type 0} {s : State} (After : Values → Type 0) (allocated rd x : ℕ) (z : ℤ) → 0 < rd → rd < 32 → wrap (low64 z) ≡ x → StandsIn site allocated offset (number_slots site.context.flags rd z) → InCourse site offset (size_of (number_slots site.context.flags rd z) + size) Such s → After (set_reg s.values rd x) → Comes site (offset + size_of (number_slots site.context.flags rd z)) size After s
+number_comes {site} {s = s} After allocated rd x z some lt is stands k after =
+    let flags = site.context.flags in
+    let n = size_of (number_slots flags rd z) in
+    let goes = number_goes allocated rd z some lt k.is_state (shorter n k.here (omega arith)) stands in
+    sets_comes After n rd x (number_even flags rd z) lt (omega arith) (subst (λ m. Sets flags n s rd m) is goes) k after

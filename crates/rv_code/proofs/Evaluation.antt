@@ -1,9 +1,8 @@
 -- Where pieces stand, the machine does what their evaluation says.
-use Rattle.std.proofs.Common.{◌≡◌, ℕ, zero, suc, ◌+◌, ◌*◌, ◌%◌, ◌^◌, ◌<◌, ◌≤◌, ℤ, Bool, true, false, nat_eq, [], ◌∷◌, List, length, Option, Some, None, arith, refl, sym, ap, subst, ◌∙◌, lit<, lit≤, eqb-true}
-use Rattle.std.specs.Prelude.{if◌then◌else◌}
+use Rattle.std.proofs.Common.{◌≡◌, ℕ, zero, suc, ◌+◌, ◌*◌, ◌%◌, ◌^◌, ◌<◌, ◌≤◌, ℤ, Bool, true, false, nat_eq, [], ◌∷◌, List, length, Option, Some, None, arith, refl, sym, ap, subst, ◌∙◌, lit<, lit≤, eqb-true, if◌then◌else◌, rules}
 use Rattle.std.proofs.lemmas.Option.{same_Some}
 use Rattle.rv_base.specs.declared.condcodes.IntCC.{IntCC}
-use Rattle.rv_base.specs.declared.condcodes.IntCC.TheVariants.{Equal, NotEqual, SignedLessThan, SignedGreaterThanOrEqual, SignedGreaterThan, SignedLessThanOrEqual, UnsignedLessThan, UnsignedGreaterThanOrEqual, UnsignedGreaterThan, UnsignedLessThanOrEqual}
+use Rattle.rv_base.specs.declared.condcodes.IntCC.TheVariants.{Equal}
 use Rattle.rv_base.specs.declared.flags.IsaFlags.{IsaFlags}
 use Rattle.rv_base.specs.CondCodes.{holds}
 use Rattle.rv_machine.specs.declared.decoding.Decoded.{Decoded}
@@ -12,26 +11,20 @@ use Rattle.rv_machine.specs.Memory.{load_result, store_bytes}
 use Rattle.rv_machine.specs.State.{State, IsState, Values, AreValues, reg, wrap, low64, at}
 use Rattle.rv_machine.specs.Steps.{istep}
 use Rattle.rv_machine.proofs.Ranges.{alu_result_fits}
-use Rattle.rv_ops.specs.declared.alu.AluOPRRI.{AluOPRRI}
 use Rattle.rv_ops.specs.Operations.{rri_op}
 use Rattle.rv_encode.specs.Operations.{load_op, store_op}
 use Rattle.rv_inst.specs.Meaning.{alu_rrr, alu_rri}
 use Rattle.rv_code.specs.Evaluation.{Point, at as points, to, address, is_of_integers, effect, wrote, AllOutside, next, and_then, evaluate, StandIn, IsAtPoint, ComesToPoint}
 use Rattle.rv_code.specs.Operations.{short_jump}
-use Rattle.rv_code.specs.Pieces.{Action, Rrr, Rri, Lui, Load, Store, Copy, Piece, Do, Branch, Jump, New, Bind, Go, Trap, branches, op_of, slots_of, piece_size, trap_bytes, after, IsInRange, AreInRange}
+use Rattle.rv_code.specs.Pieces.{Action, Rrr, Rri, Lui, Load, Store, Copy, Piece, Do, Branch, Jump, New, Bind, Go, Trap, branches, op_of, slots_of, piece_size, after, IsInRange, AreInRange}
 use Rattle.rv_code.specs.Sites.{Site, CodeHas, IsPlacedAt, StandsIn}
 use Rattle.rv_code.specs.Slots.{own_label, between}
-use Rattle.rv_code.proofs.CodeSteps.{istep_here, at_next, aims_at}
-use Rattle.rv_code.proofs.OperationActs.{rrr_fits}
+use Rattle.rv_code.proofs.Steps.{istep_here, at_next, aims_at, iter_none, iter_one, iter_after}
+use Rattle.rv_code.proofs.OperationActs.{rrr_fits, HasSize, rrr_acts, rri_acts, lui_acts, rrr_sized, rri_sized, lui_sized, load_acts, load_sized, store_acts, store_sized, jump_acts, window_long, least_even, least_some}
 use Rattle.rv_code.proofs.Registers.{are_values_set}
-use Rattle.rv_code.proofs.SameMemory.{placed_after, put_values, stored_bytes, load_fits}
-use Rattle.rv_code.proofs.ShortOps.{HasSize, rrr_acts, rri_acts, lui_acts, rrr_sized, rri_sized, lui_sized, load_acts, load_sized, store_acts, store_sized, jump_acts, window_long, least_even, least_some}
-use Rattle.rv_code.proofs.Steps.{iter_none, iter_one, iter_after}
+use Rattle.rv_code.proofs.StackRuns.{placed_after, put_values, stored_bytes, load_fits}
 
 -- ---- an operation
-
-rri_fits : (op : AluOPRRI) (x : ℕ) (imm : ℤ) → x < 2 ^ 64 → low64 imm < 2 ^ 64 → alu_rri op x imm < 2 ^ 64
-rri_fits op x imm lt few = alu_result_fits (rri_op op) x 0 (low64 imm) lt (lit< tt) few
 
 pub action_sized : (flags : IsaFlags) (a : Action) → HasSize (op_of flags a)
 action_sized flags (Rrr op rd a b) = rrr_sized flags op rd a b
@@ -52,7 +45,7 @@ action_acts flags (Copy width rd rs) s e h is = absurd (cc)
 
 pub effect_values : (a : Action) (v : Values) → IsInRange a → AreValues v → AreValues (effect a v)
 effect_values (Rrr op rd a b) v h hv = are_values_set v rd (alu_rrr op (reg v a) (reg v b)) hv h (rrr_fits op (reg v a) (reg v b) (hv.fits a) (hv.fits b))
-effect_values (Rri op rd rs imm) v h hv = are_values_set v rd (alu_rri op (reg v rs) imm) hv h.0 (rri_fits op (reg v rs) imm (hv.fits rs) h.2)
+effect_values (Rri op rd rs imm) v h hv = are_values_set v rd (alu_rri op (reg v rs) imm) hv h.0 (alu_result_fits (rri_op op) (reg v rs) 0 (low64 imm) (hv.fits rs) (lit< tt) h.2)
 effect_values (Lui rd imm) v h hv = are_values_set v rd (wrap (low64 imm * 2 ^ 12)) hv h (omega arith)
 effect_values (Load op rd base offset) v h hv = are_values_set v rd (load_result (load_op op) v.mem (address v base offset)) hv h.0 (load_fits (load_op op) v.mem (address v base offset) hv.bytes)
 effect_values (Store op base src offset) v h hv = put_values v (address v base offset) (store_bytes (store_op op) (reg v src)) hv (stored_bytes op (reg v src))
@@ -60,44 +53,21 @@ effect_values (Copy width rd rs) v h hv = hv
 
 -- it leaves the code as it was
 effect_placed : (site : Site) (a : Action) (v : Values) (m : List (List ℕ)) → AllOutside site (wrote a v m) → IsPlacedAt site v.mem → IsPlacedAt site (effect a v).mem
-effect_placed site (Rrr op rd a b) v m out placed = placed
-effect_placed site (Rri op rd rs imm) v m out placed = placed
-effect_placed site (Lui rd imm) v m out placed = placed
-effect_placed site (Load op rd base offset) v m out placed = placed
 effect_placed site (Store op base src offset) v m out placed = placed_after site v.mem (address v base offset) (store_bytes (store_op op) (reg v src)) placed out.0
-effect_placed site (Copy width rd rs) v m out placed = placed
+effect_placed site _ v m out placed = placed
 
 -- what was written before is outside, too
 wrote_earlier : (site : Site) (a : Action) (v : Values) (m : List (List ℕ)) → AllOutside site (wrote a v m) → AllOutside site m
-wrote_earlier site (Rrr op rd a b) v m out = out
-wrote_earlier site (Rri op rd rs imm) v m out = out
-wrote_earlier site (Lui rd imm) v m out = out
-wrote_earlier site (Load op rd base offset) v m out = out
 wrote_earlier site (Store op base src offset) v m out = out.1
-wrote_earlier site (Copy width rd rs) v m out = out
+wrote_earlier site _ v m out = out
 
 -- ---- a branch
 
 branch_acts : (how : IntCC) (a b : ℕ) (d : ℤ) (s : State) → act (branches how a b d) s ≡ Some (at (if holds how (reg s.values a) (reg s.values b) then wrap (s.pc + low64 d) else wrap (s.pc + 4)) s.values)
 branch_acts Equal a b d s = refl
-branch_acts NotEqual a b d s = refl
-branch_acts SignedLessThan a b d s = refl
-branch_acts SignedGreaterThanOrEqual a b d s = refl
-branch_acts SignedGreaterThan a b d s = refl
-branch_acts SignedLessThanOrEqual a b d s = refl
-branch_acts UnsignedLessThan a b d s = refl
-branch_acts UnsignedGreaterThanOrEqual a b d s = refl
-branch_acts UnsignedGreaterThan a b d s = refl
-branch_acts UnsignedLessThanOrEqual a b d s = refl
+branch_acts _ a b d s = refl
 
 -- ---- where pieces stand
-
-trap_even : (flags : IsaFlags) → length (trap_bytes flags) % 2 ≡ 0
-trap_even flags = by flags.has_zca
-  where
-    by : (c : Bool) → length {A = ℕ} (if c then 0 ∷ 0 ∷ [] else 0 ∷ 0 ∷ 0 ∷ 0 ∷ []) % 2 ≡ 0
-    by true = refl
-    by false = refl
 
 pub piece_even : (flags : IsaFlags) (p : Piece) → piece_size flags p % 2 ≡ 0
 piece_even flags (Do a) = (action_sized flags a).even
@@ -106,41 +76,25 @@ piece_even flags (Jump k) = let e = window_long flags in let h = least_even flag
 piece_even flags New = refl
 piece_even flags (Bind k) = refl
 piece_even flags (Go l) = let e = window_long flags in let h = least_even flags in omega arith
-piece_even flags (Trap code) = trap_even flags
+piece_even flags (Trap code) = elim flags.has_zca as (λ c. length {A = ℕ} (if c then 0 ∷ 0 ∷ [] else 0 ∷ 0 ∷ 0 ∷ 0 ∷ []) % 2 ≡ 0) [ true ↦ refl | false ↦ refl ]
 
 -- what stands after the first piece
 pub rest : {site : Site} {allocated start end : ℕ} (p : Piece) (ps : List Piece) → StandIn site allocated start end (p ∷ ps) → StandIn site allocated (start + piece_size site.context.flags p) end ps
-rest {site} {allocated} {start} {end} p ps k = record {
-  stand = by p k.stand;
-  even = let a = k.even in let b = piece_even site.context.flags p in omega arith;
-  ends = let e = k.ends in omega arith;
-  room = k.room;
-  ranges = ranges p k.ranges;
-}
+rest {site} {allocated} {start} {end} p ps k =
+    let after = by p k.stand in
+    let even = piece_even site.context.flags p in
+    let range = ranges p k.ranges in
+    search (rules, arith, k, after, even, range)
   where
-    flags : IsaFlags
-    flags = site.context.flags
-
-    none : start ≡ start + 0
-    none = omega arith
-
-    by : (p : Piece) → StandsIn site allocated start (slots_of flags (p ∷ ps)) → StandsIn site allocated (start + piece_size flags p) (slots_of flags ps)
-    by (Do a) h = h.1
-    by (Branch how a b j) h = h.1
-    by (Jump j) h = h.1
-    by New h = subst (λ n. StandsIn site allocated n (slots_of flags ps)) none h
-    by (Bind j) h = subst (λ n. StandsIn site allocated n (slots_of flags ps)) none h.1
-    by (Go l) h = h.1
+    by : (p : Piece) → StandsIn site allocated start (slots_of site.context.flags (p ∷ ps)) → StandsIn site allocated (start + piece_size site.context.flags p) (slots_of site.context.flags ps)
+    by New h = subst (λ n. StandsIn site allocated n (slots_of site.context.flags ps)) (omega arith) h
+    by (Bind j) h = subst (λ n. StandsIn site allocated n (slots_of site.context.flags ps)) (omega arith) h.1
     by (Trap code) h = h.1.1
+    by _ h = h.1
 
     ranges : (p : Piece) → AreInRange (p ∷ ps) → AreInRange ps
     ranges (Do a) h = h.1
-    ranges (Branch how a b j) h = h
-    ranges (Jump j) h = h
-    ranges New h = h
-    ranges (Bind j) h = h
-    ranges (Go l) h = h
-    ranges (Trap code) h = h
+    ranges _ h = h
 
 -- where an own label is bound
 record IsBound (site : Site) (allocated start end k : ℕ) (ps : List Piece) : Type 0 where
@@ -150,26 +104,17 @@ record IsBound (site : Site) (allocated start end k : ℕ) (ps : List Piece) : T
   stand : StandIn site allocated offset end ps
 
 later : {site : Site} {allocated start end k : ℕ} {ps : List Piece} (size : ℕ) → IsBound site allocated (start + size) end k ps → IsBound site allocated start end k ps
-later size b = record { offset = b.offset; within = let w = b.within in omega arith; place = b.place; stand = b.stand }
+later size b = record { offset = b.offset; within = omega arith; place = b.place; stand = b.stand }
 
 bound : {site : Site} {allocated end : ℕ} (k start : ℕ) (whole ps : List Piece) → after k whole ≡ Some ps → StandIn site allocated start end whole → IsBound site allocated start end k ps
 bound k start [] ps e h = absurd (cc)
-bound {site} k start (Do a ∷ more) ps e h = later (piece_size site.context.flags (Do a)) (bound k (start + piece_size site.context.flags (Do a)) more ps e (rest (Do a) more h))
-bound {site} k start (Branch how a b j ∷ more) ps e h = later 4 (bound k (start + 4) more ps e (rest (Branch how a b j) more h))
-bound {site} k start (Jump j ∷ more) ps e h = later (piece_size site.context.flags (Jump j)) (bound k (start + piece_size site.context.flags (Jump j)) more ps e (rest (Jump j) more h))
-bound {site} k start (New ∷ more) ps e h = later 0 (bound k (start + 0) more ps e (rest New more h))
-bound {site} k start (Go l ∷ more) ps e h = later (piece_size site.context.flags (Go l)) (bound k (start + piece_size site.context.flags (Go l)) more ps e (rest (Go l) more h))
-bound {site} k start (Trap code ∷ more) ps e h = later (piece_size site.context.flags (Trap code)) (bound k (start + piece_size site.context.flags (Trap code)) more ps e (rest (Trap code) more h))
-bound {site} {allocated} {end} k start (Bind j ∷ more) ps e h = by (nat_eq j k) refl e (λ f. later 0 (bound k (start + 0) more ps f (rest (Bind j) more h)))
-  where
-    by : (c : Bool) → nat_eq j k ≡ c → (if c then Some more else after k more) ≡ Some ps → (after k more ≡ Some ps → IsBound site allocated start end k ps) → IsBound site allocated start end k ps
-    by true test e later = record {
-      offset = start;
-      within = omega arith;
-      place = ap (λ i. site.place (own_label allocated i).number) (sym (eqb-true j k test)) ∙ h.stand.0;
-      stand = subst (StandIn site allocated start end) (same_Some more ps e) (let none : start + 0 ≡ start = omega arith in subst (λ n. StandIn site allocated n end more) none (rest (Bind j) more h));
-    }
-    by false test e later = later e
+bound {site} {allocated} {end} k start (Bind j ∷ more) ps e h =
+    let after_it : StandIn site allocated start end more = (let none : start + 0 ≡ start = omega arith in subst (λ n. StandIn site allocated n end more) none (rest (Bind j) more h)) in
+    (elim (nat_eq j k) as (λ c. nat_eq j k ≡ c → (if c then Some more else after k more) ≡ Some ps → IsBound site allocated start end k ps) [
+      | true ↦ λ test f. record { offset = start; within = omega arith; place = ap (λ i. site.place (own_label allocated i).number) (sym (eqb-true j k test)) ∙ h.stand.0; stand = subst (StandIn site allocated start end) (same_Some more ps f) after_it }
+      | false ↦ λ test f. bound k start more ps f after_it
+    ]) refl e
+bound {site} k start (p ∷ more) ps e h = later (piece_size site.context.flags p) (bound k (start + piece_size site.context.flags p) more ps e (rest p more h))
 
 -- ---- steps
 
@@ -179,6 +124,14 @@ stays {site = site} {s = s} h = record { state = s; steps = 0; few = omega arith
 steps_once : {site : Site} {allocated start end : ℕ} {p : Point} {s : State} (t : State) → istep site.context.flags s ≡ Some t → IsAtPoint site allocated start end p t → ComesToPoint 1 site allocated start end p s
 steps_once {site} {s = s} t e h = record { state = t; steps = 1; few = lit≤ tt; ran = iter_one site.context.flags s t e; there = h }
 
+-- what was written is outside
+outside_at : (site : Site) {r q : Point} → Some r ≡ Some q → AllOutside site q.written → AllOutside site r.written
+outside_at site {r} {q} e out = subst (λ (p : Point). AllOutside site p.written) (sym (same_Some r q e)) out
+
+-- it is the same place
+is_there : (site : Site) (allocated start end : ℕ) {most : ℕ} {r q : Point} {s : State} → Some r ≡ Some q → ComesToPoint most site allocated start end r s → ComesToPoint most site allocated start end q s
+is_there site allocated start end {most} {r} {q} {s} e c = subst (λ p. ComesToPoint most site allocated start end p s) (same_Some r q e) c
+
 -- an operation is done
 does : {site : Site} {allocated start end : ℕ} {ps : List Piece} {v : Values} {m : List (List ℕ)} {s : State} (a : Action) → is_of_integers a ≡ true → AllOutside site (wrote a v m) → IsAtPoint site allocated start end (points (Do a ∷ ps) v m) s → ComesToPoint 1 site allocated start end (points ps (effect a v) (wrote a v m)) s
 does {site} {allocated} {start} {end} {ps} {v} {m} {s} a of out h =
@@ -186,8 +139,6 @@ does {site} {allocated} {start} {end} {ps} {v} {m} {s} a of out h =
     let d = op_of flags a in
     let t = at (wrap (s.pc + d.len)) (effect a s.values) in
     let sized = action_sized flags a in
-    let some = sized.some in
-    let within = h.within in
     steps_once t (istep_here d [] t h.here (omega arith) h.stand.stand.0 (action_acts flags a s of h.stand.ranges.0 h.is_state)) (record {
       offset = h.offset + d.len;
       within = omega arith;
@@ -198,32 +149,30 @@ does {site} {allocated} {start} {end} {ps} {v} {m} {s} a of out h =
     })
 
 -- the machine comes to an own label
-leads : {site : Site} {allocated start end : ℕ} {ps : List Piece} {v : Values} {m : List (List ℕ)} {s : State} (k : ℕ) (whole qs : List Piece) (p : Piece) (d : ℤ → Decoded) (aim : ℕ) → StandIn site allocated start end whole → after k whole ≡ Some qs → (h : IsAtPoint site allocated start end (points (p ∷ ps) v m) s) → 0 < piece_size site.context.flags p → site.place (own_label allocated k).number ≡ Some aim → CodeHas site h.offset (d (between h.offset aim) ∷ []) → ((z : ℤ) → act (d z) s ≡ Some (at (wrap (s.pc + low64 z)) s.values)) → ComesToPoint 1 site allocated start end (points qs v m) s
-leads {site} {allocated} {start} {end} {ps} {v} {m} {s} k whole qs p d aim whole_stands e h some place has acts =
+leads : {site : Site} {allocated start end : ℕ} {ps : List Piece} {v : Values} {m : List (List ℕ)} {s : State} (k : ℕ) (whole : List Piece) (q : Point) (p : Piece) (d : ℤ → Decoded) (aim : ℕ) →
+    StandIn site allocated start end whole → (o : Option (List Piece)) → after k whole ≡ o → to o v m ≡ Some q → (h : IsAtPoint site allocated start end (points (p ∷ ps) v m) s) →
+    0 < piece_size site.context.flags p → site.place (own_label allocated k).number ≡ Some aim → CodeHas site h.offset (d (between h.offset aim) ∷ []) → ((z : ℤ) → act (d z) s ≡ Some (at (wrap (s.pc + low64 z)) s.values)) → ComesToPoint 1 site allocated start end q s
+leads {site} {allocated} {start} {end} {ps} {v} {m} {s} k whole q p d aim whole_stands None e f h some place has acts = absurd (cc)
+leads {site} {allocated} {start} {end} {ps} {v} {m} {s} k whole q p d aim whole_stands (Some qs) e f h some place has acts =
     let b = bound k start whole qs e whole_stands in
     let same : aim ≡ b.offset = same_Some aim b.offset (sym place ∙ b.place) in
     let t = at (wrap (site.base + b.offset)) s.values in
     let z = between h.offset aim in
-    steps_once t (istep_here (d z) [] t h.here (omega arith) has (acts z ∙ ap (λ a. Some (at a s.values)) (aims_at aim h.here (omega arith) ∙ ap (λ n. wrap (site.base + n)) same))) (record {
+    is_there site allocated start end f (steps_once t (istep_here (d z) [] t h.here (omega arith) has (acts z ∙ ap (λ a. Some (at a s.values)) (aims_at aim h.here (omega arith) ∙ ap (λ n. wrap (site.base + n)) same))) (record {
       offset = b.offset;
       within = b.within;
-      here = record { even = b.stand.even; room = (let ends = b.stand.ends in let room = b.stand.room in omega arith); placed = h.here.placed; pc = refl };
+      here = record { even = b.stand.even; room = omega arith; placed = h.here.placed; pc = refl };
       stand = b.stand;
       is_state = record { pc = omega arith; values = h.is_state.values };
       values = h.values;
-    })
+    }))
 
 -- the machine goes on, without a step
 passes : {site : Site} {allocated start end : ℕ} {ps : List Piece} {v : Values} {m : List (List ℕ)} {s : State} (p : Piece) → piece_size site.context.flags p ≡ 0 → IsAtPoint site allocated start end (points (p ∷ ps) v m) s → ComesToPoint 1 site allocated start end (points ps v m) s
 passes {site} {allocated} {start} {end} {ps} {s = s} p none h = stays (record {
   offset = h.offset + piece_size site.context.flags p;
-  within = let within = h.within in omega arith;
-  here = record {
-    even = let a = h.here.even in omega arith;
-    room = let a = h.here.room in omega arith;
-    placed = h.here.placed;
-    pc = let a = h.here.pc in omega arith;
-  };
+  within = omega arith;
+  here = search (rules, arith, h);
   stand = rest p ps h.stand;
   is_state = h.is_state;
   values = h.values;
@@ -231,102 +180,74 @@ passes {site} {allocated} {start} {end} {ps} {s = s} p none h = stays (record {
 
 pub one : {site : Site} {allocated start end : ℕ} (whole : List Piece) → StandIn site allocated start end whole → (ps : List Piece) (v : Values) (m : List (List ℕ)) (q : Point) (s : State) → next whole ps v m ≡ Some q → AllOutside site q.written → IsAtPoint site allocated start end (points ps v m) s → ComesToPoint 1 site allocated start end q s
 one whole k [] v m q s e out h = absurd (cc)
-one {site} {allocated} {start} {end} whole k (Do a ∷ ps) v m q s e out h = by (is_of_integers a) refl e
-  where
-    by : (c : Bool) → is_of_integers a ≡ c → (if c then Some (points ps (effect a v) (wrote a v m)) else None) ≡ Some q → ComesToPoint 1 site allocated start end q s
-    by true of e = subst (λ q. ComesToPoint 1 site allocated start end q s) (same_Some _ q e) (does a of (subst (λ (p : Point). AllOutside site p.written) (sym (same_Some _ q e)) out) h)
-    by false of e = absurd (cc)
-one {site} {allocated} {start} {end} whole k (Branch how a b j ∷ ps) v m q s e out h = by (holds how (reg s.values a) (reg s.values b)) refl (ap (λ w. if holds how (reg w a) (reg w b) then to (after j whole) v m else Some (points ps v m)) h.values ∙ e)
-  where
-    aim : StandsIn site allocated h.offset (slots_of site.context.flags (Branch how a b j ∷ ps))
-    aim = h.stand.stand
-
-    by : (c : Bool) → holds how (reg s.values a) (reg s.values b) ≡ c → (if c then to (after j whole) v m else Some (points ps v m)) ≡ Some q → ComesToPoint 1 site allocated start end q s
-    by true test e = taken (after j whole) refl e
-      where
-        taken : (o : Option (List Piece)) → after j whole ≡ o → to o v m ≡ Some q → ComesToPoint 1 site allocated start end q s
-        taken None is e = absurd (cc)
-        taken (Some qs) is e =
-            subst (λ q. ComesToPoint 1 site allocated start end q s) (same_Some _ q e)
-            (leads j whole qs (Branch how a b j) (branches how a b) aim.0.to k is h (lit< tt) aim.0.reaches aim.0.has (λ z. branch_acts how a b z s ∙ ap (λ c. Some (at (if c then wrap (s.pc + low64 z) else wrap (s.pc + 4)) s.values)) test))
-    by false test e =
-        let z = between h.offset aim.0.to in
-        let t = at (wrap (s.pc + 4)) s.values in
-        let within = h.within in
-        subst (λ q. ComesToPoint 1 site allocated start end q s) (same_Some _ q e)
-        (steps_once t (istep_here (branches how a b z) [] t h.here (omega arith) aim.0.has (branch_acts how a b z s ∙ ap (λ c. Some (at (if c then wrap (s.pc + low64 z) else wrap (s.pc + 4)) s.values)) test)) (record {
-          offset = h.offset + 4;
-          within = omega arith;
-          here = at_next 4 t h.here refl refl h.here.placed;
-          stand = rest (Branch how a b j) ps h.stand;
-          is_state = record { pc = omega arith; values = h.is_state.values };
-          values = h.values;
-        }))
-one {site} {allocated} {start} {end} whole k (Jump j ∷ ps) v m q s e out h = by (after j whole) refl e
-  where
-    by : (o : Option (List Piece)) → after j whole ≡ o → to o v m ≡ Some q → ComesToPoint 1 site allocated start end q s
-    by None is e = absurd (cc)
-    by (Some qs) is e =
-        let flags = site.context.flags in
-        let long = window_long flags in
-        let some = least_some flags in
-        subst (λ q. ComesToPoint 1 site allocated start end q s) (same_Some _ q e)
-        (leads j whole qs (Jump j) (short_jump flags) h.stand.stand.0.to k is h (omega arith) h.stand.stand.0.reaches h.stand.stand.0.has (λ z. jump_acts flags z s))
-one {site} {allocated} {start} {end} whole k (New ∷ ps) v m q s e out h = subst (λ q. ComesToPoint 1 site allocated start end q s) (same_Some _ q e) (passes New refl h)
-one {site} {allocated} {start} {end} whole k (Bind j ∷ ps) v m q s e out h = subst (λ q. ComesToPoint 1 site allocated start end q s) (same_Some _ q e) (passes (Bind j) refl h)
+one {site} {allocated} {start} {end} whole k (Do a ∷ ps) v m q s e out h =
+    (elim (is_of_integers a) as (λ c. is_of_integers a ≡ c → (if c then Some (points ps (effect a v) (wrote a v m)) else None) ≡ Some q → ComesToPoint 1 site allocated start end q s)
+    [ true ↦ λ of f. is_there site allocated start end f (does a of (outside_at site f out) h) | false ↦ λ of f. absurd (cc) ]) refl e
+one {site} {allocated} {start} {end} whole k (Branch how a b j ∷ ps) v m q s e out h =
+    let aim = h.stand.stand.0 in
+    let test = holds how (reg s.values a) (reg s.values b) in
+    let acts = λ (z : ℤ) (c : Bool) (is : test ≡ c). branch_acts how a b z s ∙ ap (λ c. Some (at (if c then wrap (s.pc + low64 z) else wrap (s.pc + 4)) s.values)) is in
+    let t = at (wrap (s.pc + 4)) s.values in
+    (elim test as (λ c. test ≡ c → (if c then to (after j whole) v m else Some (points ps v m)) ≡ Some q → ComesToPoint 1 site allocated start end q s) [
+      | true ↦ λ is f. leads j whole q (Branch how a b j) (branches how a b) aim.to k (after j whole) refl f h (lit< tt) aim.reaches aim.has (λ z. acts z true is)
+      | false ↦ λ is f. is_there site allocated start end f (steps_once t (istep_here (branches how a b (between h.offset aim.to)) [] t h.here (omega arith) aim.has (acts (between h.offset aim.to) false is)) (record {
+        offset = h.offset + 4;
+        within = omega arith;
+        here = at_next 4 t h.here refl refl h.here.placed;
+        stand = rest (Branch how a b j) ps h.stand;
+        is_state = record { pc = omega arith; values = h.is_state.values };
+        values = h.values;
+      }))
+    ]) refl (ap (λ w. if holds how (reg w a) (reg w b) then to (after j whole) v m else Some (points ps v m)) h.values ∙ e)
+one {site} {allocated} {start} {end} whole k (Jump j ∷ ps) v m q s e out h =
+    let long = window_long site.context.flags in
+    let some = least_some site.context.flags in
+    let aim = h.stand.stand.0 in
+    leads j whole q (Jump j) (short_jump site.context.flags) aim.to k (after j whole) refl e h (omega arith) aim.reaches aim.has (λ z. jump_acts site.context.flags z s)
+one {site} {allocated} {start} {end} whole k (New ∷ ps) v m q s e out h = is_there site allocated start end e (passes New refl h)
+one {site} {allocated} {start} {end} whole k (Bind j ∷ ps) v m q s e out h = is_there site allocated start end e (passes (Bind j) refl h)
 one whole k (Go l ∷ ps) v m q s e out h = absurd (cc)
 one whole k (Trap code ∷ ps) v m q s e out h = absurd (cc)
 
 -- ---- all of them
 
 -- what was written before is outside, where all is
+to_earlier : (site : Site) (o : Option (List Piece)) (v : Values) (m : List (List ℕ)) (q : Point) → to o v m ≡ Some q → AllOutside site q.written → AllOutside site m
+to_earlier site None v m q e out = absurd (cc)
+to_earlier site (Some ps) v m q e out = outside_at site e out
+
 one_earlier : (site : Site) (whole ps : List Piece) (v : Values) (m : List (List ℕ)) (q : Point) → next whole ps v m ≡ Some q → AllOutside site q.written → AllOutside site m
-one_earlier site whole [] v m q e out = absurd (cc)
-one_earlier site whole (Do a ∷ ps) v m q e out = by (is_of_integers a) e
-  where
-    by : (c : Bool) → (if c then Some (points ps (effect a v) (wrote a v m)) else None) ≡ Some q → AllOutside site m
-    by true e = wrote_earlier site a v m (subst (λ (p : Point). AllOutside site p.written) (sym (same_Some _ q e)) out)
-    by false e = absurd (cc)
-one_earlier site whole (Branch how a b k ∷ ps) v m q e out = by (holds how (reg v a) (reg v b)) (after k whole) e
-  where
-    by : (c : Bool) (o : Option (List Piece)) → (if c then to o v m else Some (points ps v m)) ≡ Some q → AllOutside site m
-    by true None e = absurd (cc)
-    by true (Some qs) e = subst (λ (p : Point). AllOutside site p.written) (sym (same_Some _ q e)) out
-    by false o e = subst (λ (p : Point). AllOutside site p.written) (sym (same_Some _ q e)) out
-one_earlier site whole (Jump k ∷ ps) v m q e out = by (after k whole) e
-  where
-    by : (o : Option (List Piece)) → to o v m ≡ Some q → AllOutside site m
-    by None e = absurd (cc)
-    by (Some qs) e = subst (λ (p : Point). AllOutside site p.written) (sym (same_Some _ q e)) out
-one_earlier site whole (New ∷ ps) v m q e out = subst (λ (p : Point). AllOutside site p.written) (sym (same_Some _ q e)) out
-one_earlier site whole (Bind k ∷ ps) v m q e out = subst (λ (p : Point). AllOutside site p.written) (sym (same_Some _ q e)) out
-one_earlier site whole (Go l ∷ ps) v m q e out = absurd (cc)
-one_earlier site whole (Trap code ∷ ps) v m q e out = absurd (cc)
+one_earlier site whole (Do a ∷ ps) v m q e out =
+    (elim (is_of_integers a) as (λ c. (if c then Some (points ps (effect a v) (wrote a v m)) else None) ≡ Some q → AllOutside site m)
+    [ true ↦ λ f. wrote_earlier site a v m (outside_at site f out) | false ↦ λ f. absurd (cc) ]) e
+one_earlier site whole (Branch how a b k ∷ ps) v m q e out =
+    (elim (holds how (reg v a) (reg v b)) as (λ c. (if c then to (after k whole) v m else Some (points ps v m)) ≡ Some q → AllOutside site m)
+    [ true ↦ λ f. to_earlier site (after k whole) v m q f out | false ↦ λ f. outside_at site f out ]) e
+one_earlier site whole (Jump k ∷ ps) v m q e out = to_earlier site (after k whole) v m q e out
+one_earlier site whole (New ∷ ps) v m q e out = outside_at site e out
+one_earlier site whole (Bind k ∷ ps) v m q e out = outside_at site e out
+one_earlier site whole _ v m q e out = absurd (cc)
 
 all_earlier : (site : Site) (whole : List Piece) (n : ℕ) (p q : Point) → evaluate n whole p ≡ Some q → AllOutside site q.written → AllOutside site p.written
-all_earlier site whole zero p q e out = subst (λ (p : Point). AllOutside site p.written) (sym (same_Some p q e)) out
-all_earlier site whole (suc n) p q e out = by (next whole p.ahead p.values p.written) refl e (λ r f. all_earlier site whole n r q f out)
-  where
-    by : (o : Option Point) → next whole p.ahead p.values p.written ≡ o → and_then o (evaluate n whole) ≡ Some q → ((r : Point) → evaluate n whole r ≡ Some q → AllOutside site r.written) → AllOutside site p.written
-    by None is e later = absurd (cc)
-    by (Some r) is e later = one_earlier site whole p.ahead p.values p.written r is (later r e)
+all_earlier site whole zero p q e out = outside_at site e out
+all_earlier site whole (suc n) p q e out =
+    (elim (next whole p.ahead p.values p.written) as (λ o. next whole p.ahead p.values p.written ≡ o → and_then o (evaluate n whole) ≡ Some q → AllOutside site p.written)
+    [ None ↦ λ is f. absurd (cc) | Some r ↦ λ is f. one_earlier site whole p.ahead p.values p.written r is (all_earlier site whole n r q f out) ]) refl e
 
 -- one piece, and others after it
 comes_then : {n : ℕ} {site : Site} {allocated start end : ℕ} {p q : Point} {s : State} (c : ComesToPoint 1 site allocated start end p s) → ComesToPoint n site allocated start end q c.state → ComesToPoint (suc n) site allocated start end q s
 comes_then {site = site} {s = s} c d = record {
   state = d.state;
   steps = d.steps + c.steps;
-  few = let a = c.few in let b = d.few in omega arith;
+  few = omega arith;
   ran = iter_after site.context.flags d.steps c.steps s c.state d.state c.ran d.ran;
   there = d.there;
 }
 
 pub pieces_run : (site : Site) (allocated start end : ℕ) (whole : List Piece) → StandIn site allocated start end whole → (n : ℕ) (p q : Point) (s : State) → evaluate n whole p ≡ Some q → AllOutside site q.written → IsAtPoint site allocated start end p s → ComesToPoint n site allocated start end q s
-pieces_run site allocated start end whole k zero p q s e out h = subst (λ q. ComesToPoint 0 site allocated start end q s) (same_Some p q e) (stays h)
-pieces_run site allocated start end whole k (suc n) p q s e out h = by (next whole p.ahead p.values p.written) refl e (λ r t f. pieces_run site allocated start end whole k n r q t f out)
-  where
-    by : (o : Option Point) → next whole p.ahead p.values p.written ≡ o → and_then o (evaluate n whole) ≡ Some q → ((r : Point) (t : State) → evaluate n whole r ≡ Some q → IsAtPoint site allocated start end r t → ComesToPoint n site allocated start end q t) → ComesToPoint (suc n) site allocated start end q s
-    by None is e later = absurd (cc)
-    by (Some r) is e later =
-        let c = one whole k p.ahead p.values p.written r s is (all_earlier site whole n r q e out) h in
-        comes_then c (later r c.state e c.there)
+pieces_run site allocated start end whole k zero p q s e out h = is_there site allocated start end e (stays h)
+pieces_run site allocated start end whole k (suc n) p q s e out h =
+    (elim (next whole p.ahead p.values p.written) as (λ o. next whole p.ahead p.values p.written ≡ o → and_then o (evaluate n whole) ≡ Some q → ComesToPoint (suc n) site allocated start end q s) [
+      | None ↦ λ is f. absurd (cc)
+      | Some r ↦ λ is f. let c = one whole k p.ahead p.values p.written r s is (all_earlier site whole n r q f out) h in comes_then c (pieces_run site allocated start end whole k n r q c.state f out c.there)
+    ]) refl e

@@ -1,12 +1,105 @@
--- The bits of bytes in reverse order, as a sum of single bits: each goes to the other end of its byte.
-use Rattle.std.proofs.Common.{◌≡◌, ◌≢◌, ℕ, zero, suc, ◌+◌, ◌-◌, ◌*◌, ◌/◌, ◌%◌, ◌^◌, ◌<◌, ◌≤◌, arith, refl, sym, ap, subst, ◌∙◌, lit<}
-use Rattle.std.specs.Prelude.{bit_or, bit_and, max}
+-- Bits in reverse order: the registers of a reversal, and the bits of bytes as a sum of single bits.
+use Rattle.std.proofs.Common.{◌≡◌, ◌≢◌, ℕ, ◌%◌, ◌<◌, ◌≤◌, false, [], ◌∷◌, List, length, arith, sym, rules, zero, suc, ◌+◌, ◌-◌, ◌*◌, ◌/◌, ◌^◌, refl, ap, subst, ◌∙◌, lit<, bit_or, max}
+use Rattle.std.proofs.lemmas.Bool.Decides.{nat_tests}
 use Rattle.std.specs.Int.{bit_at}
 use Rattle.std.specs.Int.Bits.{or_add_and}
 use Rattle.std.proofs.Math.Nat.{pow-suc}
 use Rattle.std.proofs.lemmas.Nat.{pow-add, pow_below, shr-shr}
 use Rattle.std.proofs.lemmas.Nat.Bits.{and_pow, bit_at_or, bit_at-pow_other, bit_at-zero}
+use Rattle.rv_machine.specs.State.{Values, AreValues, reg, set_reg}
+use Rattle.rv_inst.specs.SameValues.{SameBut, is_among}
 use Rattle.rv_inst.specs.Bits.{reversed_bits, reversed_bytes}
+use Rattle.rv_code.proofs.Registers.{count_set, reads_set, reads_other, temporary_set, spare_set, own_set}
+
+-- ---- the registers of a reversal of bits, and what they hold in its course.
+
+-- the registers, by their numbers, and how many bits are reversed
+pub record Reversal : Type 0 where
+  pub rd : ℕ
+  pub tmp : ℕ
+  pub tmp2 : ℕ
+  pub step : ℕ
+  pub rs : ℕ
+  pub bits : ℕ
+
+-- integer registers below x30; those that are written aren't x0, and differ from all others; the bits are those of whole bytes
+pub record IsReversal (c : Reversal) : Type 0 where
+  pub rd_usable : c.rd < 30
+  pub tmp_usable : c.tmp < 30
+  pub tmp2_usable : c.tmp2 < 30
+  pub step_usable : c.step < 30
+  pub rs_usable : c.rs < 30
+  pub rd_written : 0 < c.rd
+  pub tmp_written : 0 < c.tmp
+  pub tmp2_written : 0 < c.tmp2
+  pub step_written : 0 < c.step
+  pub rd_tmp : c.rd ≢ c.tmp
+  pub rd_tmp2 : c.rd ≢ c.tmp2
+  pub rd_step : c.rd ≢ c.step
+  pub rd_rs : c.rd ≢ c.rs
+  pub tmp_tmp2 : c.tmp ≢ c.tmp2
+  pub tmp_step : c.tmp ≢ c.step
+  pub tmp_rs : c.tmp ≢ c.rs
+  pub tmp2_step : c.tmp2 ≢ c.step
+  pub tmp2_rs : c.tmp2 ≢ c.rs
+  pub step_rs : c.step ≢ c.rs
+  pub some : 1 ≤ c.bits
+  pub few : c.bits ≤ 64
+  pub whole : c.bits % 8 ≡ 0
+
+abbrev pub written : Reversal → List ℕ
+written c = c.rd ∷ c.step ∷ c.tmp ∷ c.tmp2 ∷ []
+
+-- how many bits are left, the next one's power, that of the bit to which it goes, and what is set; all else is as it was
+pub record Holds (c : Reversal) (left next place got : ℕ) (v w : Values) : Type 0 where
+  pub step : reg w c.step ≡ left
+  pub tmp : reg w c.tmp ≡ next
+  pub tmp2 : reg w c.tmp2 ≡ place
+  pub rd : reg w c.rd ≡ got
+  pub others : SameBut (written c) v w
+
+-- and of values with all registers
+pub record InReversal (c : Reversal) (left next place got : ℕ) (v w : Values) : Type 0 where
+  pub all : length w.regs ≡ 31
+  pub holds : Holds c left next place got v w
+
+-- and x30 holds a number
+pub record Tests (c : Reversal) (left next place got tested : ℕ) (v w : Values) : Type 0 where
+  pub now : InReversal c left next place got v w
+  pub spare : reg w 30 ≡ tested
+
+-- ---- which are written
+
+-- what is reversed is as it was
+pub source_kept : {c : Reversal} {left next place got : ℕ} {v w : Values} → IsReversal c → Holds c left next place got v w → reg w c.rs ≡ reg v c.rs
+source_kept {c} h k =
+    let other : is_among (written c) c.rs ≡ false = (let a = h.rd_rs in let b = h.tmp_rs in let d = h.tmp2_rs in let e = h.step_rs in grind (arith, nat_tests)) in
+    sym (k.others.regs c.rs h.rs_usable other)
+
+-- ---- after a write
+
+pub rd_set : {c : Reversal} {left next place got : ℕ} {v w : Values} (x : ℕ) → IsReversal c → length w.regs ≡ 31 → Holds c left next place got v w → Holds c left next place x v (set_reg w c.rd x)
+rd_set {c} {v = v} {w = w} x h hw k = search (rules, reads_other, reads_set, k, h, temporary_set)
+
+pub tmp_set : {c : Reversal} {left next place got : ℕ} {v w : Values} (x : ℕ) → IsReversal c → length w.regs ≡ 31 → Holds c left next place got v w → Holds c left x place got v (set_reg w c.tmp x)
+tmp_set {c} {v = v} {w = w} x h hw k = search (rules, reads_other, reads_set, k, h, temporary_set)
+
+pub tmp2_set : {c : Reversal} {left next place got : ℕ} {v w : Values} (x : ℕ) → IsReversal c → length w.regs ≡ 31 → Holds c left next place got v w → Holds c left next x got v (set_reg w c.tmp2 x)
+tmp2_set {c} {v = v} {w = w} x h hw k = search (rules, reads_other, reads_set, k, h, temporary_set)
+
+pub step_set : {c : Reversal} {left next place got : ℕ} {v w : Values} (x : ℕ) → IsReversal c → length w.regs ≡ 31 → Holds c left next place got v w → Holds c x next place got v (set_reg w c.step x)
+step_set {c} {v = v} {w = w} x h hw k = search (rules, reads_other, reads_set, k, h, temporary_set)
+
+pub spare_tests : {c : Reversal} {left next place got : ℕ} {v w : Values} (x : ℕ) → IsReversal c → length w.regs ≡ 31 → Holds c left next place got v w → Tests c left next place got x v (set_reg w 30 x)
+spare_tests {c} {v = v} {w = w} x h hw k = search (rules, arith, reads_other, reads_set, count_set, k, h, spare_set)
+
+-- ---- at the end
+
+-- what is set stands in its register, and only temporaries differ beside it
+pub same_beside : {c : Reversal} {left next place got : ℕ} {v w : Values} → IsReversal c → AreValues v → Holds c left next place got v w → SameBut (c.step ∷ c.tmp ∷ c.tmp2 ∷ []) (set_reg v c.rd got) w
+same_beside {c} {got = got} {v = v} {w = w} h hv k = own_set v w c.rd got hv h.rd_written h.rd_usable k.rd k.others
+
+-- ---- the bits of bytes in reverse order, as a sum of single bits: each goes to the other end of its byte.
 
 -- where a bit goes
 abbrev pub mirrored : ℕ → ℕ
@@ -19,13 +112,6 @@ mirrored_bits (suc i) n = bit_at n i * 2 ^ mirrored i + mirrored_bits i n
 
 -- ---- all bits of all bytes
 
--- a bit above the lowest byte
-above_byte : (n i : ℕ) → bit_at n (8 + i) ≡ bit_at (n / 2 ^ 8) i
-above_byte n i = ap (λ m. m % 2) (sym (shr-shr n 8 i))
-
-one_byte : (n : ℕ) → mirrored_bits 8 n ≡ reversed_bits 8 n
-one_byte n = omega arith
-
 scaled : (b p l r : ℕ) → b * (2 ^ 8 * p) + (l + 2 ^ 8 * r) ≡ l + 2 ^ 8 * (b * p + r)
 scaled b p l r = omega arith
 
@@ -34,7 +120,7 @@ byte_below : (m n : ℕ) → mirrored_bits (8 + m) n ≡ mirrored_bits 8 n + 2 ^
 byte_below zero n = omega arith
 byte_below (suc i) n =
     let rest = byte_below i n in
-    let bit = above_byte n i in
+    let bit : bit_at n (8 + i) ≡ bit_at (n / 2 ^ 8) i = ap (λ m. m % 2) (sym (shr-shr n 8 i)) in
     let there : mirrored (8 + i) ≡ 8 + mirrored i = omega arith in
     let power : 2 ^ mirrored (8 + i) ≡ 2 ^ 8 * 2 ^ mirrored i = ap (λ k. 2 ^ k) there ∙ pow-add 2 8 (mirrored i) in
     let next : 8 + suc i ≡ suc (8 + i) = omega arith in
@@ -47,17 +133,14 @@ whole_bytes (suc bytes) n =
     let e : 8 * suc bytes ≡ 8 + 8 * bytes = omega arith in
     let more = whole_bytes bytes (n / 2 ^ 8) in
     let below = byte_below (8 * bytes) n in
-    let lowest = one_byte n in
+    let lowest : mirrored_bits 8 n ≡ reversed_bits 8 n = omega arith in
     ap (λ m. mirrored_bits m n) e ∙ below ∙ (λ i. lowest i + 2 ^ 8 * more i)
 
 -- ---- bit by bit
 
 -- a bit that isn't set is added
 pub or_plus : (a k : ℕ) → bit_at a k ≡ 0 → bit_or a (2 ^ k) ≡ a + 2 ^ k
-or_plus a k clear =
-    let sum = or_add_and a (2 ^ k) in
-    let both : bit_and a (2 ^ k) ≡ 0 * 2 ^ k = and_pow a k ∙ ap (λ b. b * 2 ^ k) clear in
-    omega arith
+or_plus a k clear = omega (arith, or_add_and a (2 ^ k), and_pow a k ∙ ap (λ b. b * 2 ^ k) clear)
 
 -- where so many low bits go, no bit is set
 abbrev pub IsClear : ℕ → ℕ → Type 0
@@ -91,17 +174,14 @@ pub place_down : (i : ℕ) → i % 8 ≡ 0 → 2 ^ mirrored i / 2 ^ 15 ≡ place
 place_down zero e = refl
 place_down (suc j) e =
     let there : mirrored (suc j) ≡ 15 + mirrored j = omega arith in
-    let power : 2 ^ mirrored (suc j) ≡ 2 ^ 15 * 2 ^ mirrored j = ap (λ k. 2 ^ k) there ∙ pow-add 2 15 (mirrored j) in
-    omega arith
+    omega (arith, ap (λ k. 2 ^ k) there ∙ pow-add 2 15 (mirrored j))
 
 -- else one up
 pub place_up : (i : ℕ) → i % 8 ≢ 0 → 2 ^ mirrored i * 2 ≡ place_of i
 place_up zero other = absurd (other refl)
 place_up (suc j) other =
     let there : mirrored j ≡ suc (mirrored (suc j)) = omega arith in
-    let power = pow-suc 2 (mirrored (suc j)) in
-    let same : 2 ^ mirrored j ≡ 2 ^ suc (mirrored (suc j)) = ap (λ k. 2 ^ k) there in
-    omega arith
+    omega (arith, pow-suc 2 (mirrored (suc j)), ap (λ k. 2 ^ k) there)
 
 pub place_fits : (left : ℕ) → left ≤ 64 → place_of left < 2 ^ 64
 place_fits zero le = lit< tt

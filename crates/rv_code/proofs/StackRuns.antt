@@ -1,36 +1,116 @@
--- Registers come from the stack, and the stack pointer rises or falls.
-use Rattle.std.proofs.Common.{◌≡◌, ◌≢◌, ℕ, ◌+◌, ◌^◌, ◌<◌, Bool, true, false, ℤ, pos, List, [], ◌∷◌, ◌++◌, Option, Some, None, arith, refl, sym, ap, subst, ◌∙◌, lit<, lit≤, eqb-true}
-use Rattle.std.specs.Prelude.{if◌then◌else◌, ◌==◌, is_some}
-use Rattle.std.proofs.lemmas.Bool.{or_parts}
+-- What loads and stores do to memories that are the same, and what comes from the stack.
+use Rattle.std.proofs.Common.{◌≡◌, ◌≢◌, ℕ, zero, suc, ◌+◌, ◌*◌, ◌^◌, ◌<◌, ◌≤◌, true, false, cond, List, [], ◌∷◌, length, Some, arith, refl, sym, ap, subst, ◌∙◌, ⊎_elim, rules, ◌==◌, Bool, ℤ, pos, ◌++◌, Option, None, lit<, lit≤, eqb-true, unwrap_or, if◌then◌else◌}
 use Rattle.std.specs.List.{AllByRecursion}
+use Rattle.std.specs.Cmp.{nat_cmp_total, unsigned_tied}
+use Rattle.std.specs.FinMap as map
+use Rattle.std.specs.FinMap.{get-insert}
+use Rattle.std.proofs.lemmas.Bool.Decides.{nat_tests}
+use Rattle.std.proofs.lemmas.Int.{ints}
+use mir.Syntax.{w8, w16, w32}
+use Rattle.std.proofs.lemmas.Bool.{or_parts}
 use Rattle.std.proofs.lemmas.List.{append-nil}
+use Rattle.rv_ops.specs.declared.memory.StoreOP.{StoreOP}
+use Rattle.rv_ops.specs.declared.memory.StoreOP.TheVariants as stores
+use Rattle.rv_ops.specs.Memory.{store_size, is_float_load, load_format}
+use Rattle.rv_encode.specs.Operations.{store_op, load_op, decoded_load}
+use Rattle.rv_machine.specs.declared.ops.LoadOp.{LoadOp}
+use Rattle.rv_machine.specs.declared.ops.LoadOp.TheVariants as load
+use Rattle.rv_machine.specs.Memory.{sign_extend, load_bytes, load_result, store_bytes}
+use Rattle.rv_machine.specs.State.{Memory, Values, AreValues, byte, store, wrap, State, reg, set_reg, low64, at}
+use Rattle.rv_inst.specs.Meaning.{AreOutside, addresses_from, put_bytes, loaded, stack_loaded}
+use Rattle.rv_inst.specs.SameValues.{SameBut}
 use Rattle.rv_base.specs.declared.flags.IsaFlags.{IsaFlags}
-use Rattle.rv_base.specs.declared.trap.TrapCode.{TrapCode}
 use Rattle.rv_ops.specs.declared.alu.AluOPRRR.TheVariants.{Add}
 use Rattle.rv_ops.specs.declared.alu.AluOPRRI.TheVariants.{Addi}
 use Rattle.rv_ops.specs.declared.memory.LoadOP.{LoadOP}
 use Rattle.rv_machine.specs.declared.ops.FloatFormat.{FloatFormat}
-use Rattle.rv_machine.specs.Memory.{load_result}
-use Rattle.rv_machine.specs.State.{State, Values, AreValues, reg, set_reg, wrap, low64, at}
-use Rattle.rv_ops.specs.Memory.{is_float_load, load_format}
-use Rattle.rv_encode.specs.Operations.{load_op, decoded_load, has_load}
-use Rattle.rv_inst.specs.Addresses.{Location, Based, is_near}
+use Rattle.rv_inst.specs.Addresses.{Based, is_near}
 use Rattle.rv_inst.specs.Forms.{short_rrr, short_rri, short_load}
-use Rattle.rv_inst.specs.Meaning.{loaded, stack_loaded}
 use Rattle.rv_inst.specs.Operands.{loads_float}
 use Rattle.rv_inst.specs.Returns.{StackLoad}
-use Rattle.rv_inst.specs.SameValues.{SameBut}
+use Rattle.rv_code.specs.Sites.{Site, IsPlacedAt, CodeHas, StandsIn}
 use Rattle.rv_code.specs.InstParts.{number_slots, address_slots, half_load_slots, load_line_slots, load_slots, stack_load_slots, far_step_slots, stack_step_slots}
-use Rattle.rv_code.specs.Sites.{Site, CodeHas, StandsIn}
 use Rattle.rv_code.specs.Slots.{Slot, Op, size_of}
-use Rattle.rv_code.proofs.AccessRows.{IsIntegerLoad, has_integer_load}
-use Rattle.rv_code.proofs.AddressRuns.{size_append, stands_split, shorter, based_goes, address_even}
-use Rattle.rv_code.proofs.Courses.{InCourse, Comes, comes_on, comes_here, course_before, writes, sets_comes, rrr_writes, rri_writes}
-use Rattle.rv_code.proofs.SameMemory.{load_same, load_fits}
-use Rattle.rv_code.proofs.NumberRuns.{number_comes}
-use Rattle.rv_code.proofs.OperationActs.{plus_none, set_own}
+use Rattle.rv_code.proofs.OperationActs.{IsIntegerLoad, has_integer_load, plus_none, set_own, load_acts, load_acts_wide, load_sized, no_format}
+use Rattle.rv_code.proofs.Courses.{size_append, stands_split, shorter, based_goes, address_even, InCourse, Comes, comes_on, comes_here, course_before, writes, sets_comes, rrr_writes, rri_writes, number_comes}
 use Rattle.rv_code.proofs.Registers.{are_values_set, but_set, spare_set, reads_back, reads_other}
-use Rattle.rv_code.proofs.ShortOps.{load_acts, load_acts_wide, load_sized}
+
+-- ---- what loads read and stores write of memories that are the same, and the code that a store leaves as it was.
+
+-- ---- one byte
+
+-- the byte at an address after one is written
+byte_inserted : (mem : Memory) (k b a : ℕ) → byte (map.insert mem k b) a ≡ cond (a == k) b (byte mem a)
+byte_inserted mem k b a =
+    ap (λ o. unwrap_or o 0) (get-insert nat_cmp_total mem k b a ∙ ap (λ c. cond c (Some b) (map.get mem a)) (unsigned_tied a k))
+    ∙ elim (a == k) as (λ c. unwrap_or (cond c (Some b) (map.get mem a)) 0 ≡ cond c b (byte mem a)) [ true ↦ refl | false ↦ refl ]
+
+-- ---- stores
+
+-- the same bytes, stored at the same address of memories that are the same
+pub store_same : (m w : Memory) (at : ℕ) (bytes : List ℕ) → ((a : ℕ) → byte m a ≡ byte w a) → (a : ℕ) → byte (store m at bytes) a ≡ byte (store w at bytes) a
+store_same m w at [] same = same
+store_same m w at (b ∷ bs) same = store_same (map.insert m at b) (map.insert w at b) (wrap (at + 1)) bs (λ a. byte_inserted m at b a ∙ ap (cond (a == at) b) (same a) ∙ sym (byte_inserted w at b a))
+
+store_fits : (mem : Memory) (at : ℕ) (bytes : List ℕ) → AllByRecursion (λ b. b < 256) bytes → ((a : ℕ) → byte mem a < 256) → (a : ℕ) → byte (store mem at bytes) a < 256
+store_fits mem at [] fits h = h
+store_fits mem at (b ∷ bs) fits h = store_fits (map.insert mem at b) (wrap (at + 1)) bs fits.1 (λ a. subst (λ n. n < 256) (sym (byte_inserted mem at b a)) (elim (a == at) as (λ c. cond c b (byte mem a) < 256) [ true ↦ fits.0 | false ↦ h a ]))
+
+-- a byte of a region outside which all the addresses are
+store_outside : (mem : Memory) (at from size a : ℕ) (bytes : List ℕ) → AreOutside from size (addresses_from at (length bytes)) → from ≤ a → a < from + size → byte (store mem at bytes) a ≡ byte mem a
+store_outside mem at from size a [] out low high = refl
+store_outside mem at from size a (b ∷ bs) out low high =
+    let other : a ≢ at = (λ same. ⊎_elim (λ (before : at < from). absurd (omega arith)) (λ (past : from + size ≤ at). absurd (omega arith)) (out 0 (omega arith))) in
+    let apart : (a == at) ≡ false = grind (arith, nat_tests) in
+    store_outside (map.insert mem at b) (wrap (at + 1)) from size a bs (λ k lt. out (suc k) (omega arith)) low high ∙ byte_inserted mem at b a ∙ ap (λ c. cond c b (byte mem a)) apart
+
+-- the code stands where it stood
+pub placed_after : (site : Site) (mem : Memory) (at : ℕ) (bytes : List ℕ) → IsPlacedAt site mem → AreOutside site.base (length site.bytes) (addresses_from at (length bytes)) → IsPlacedAt site (store mem at bytes)
+placed_after site mem at bytes placed out =
+    let there = λ (k : ℕ) (lt : k < length site.bytes). store_outside mem at site.base (length site.bytes) (site.base + k) bytes out (omega arith) (omega arith) ∙ placed.bytes.there k lt in
+    search (rules, placed, there)
+
+pub put_same : {free : List ℕ} (v w : Values) (at : ℕ) (bytes : List ℕ) → SameBut free v w → SameBut free (put_bytes v at bytes) (put_bytes w at bytes)
+put_same v w at bytes same = record { regs = same.regs; mem = store_same v.mem w.mem at bytes same.mem }
+
+pub put_values : (v : Values) (at : ℕ) (bytes : List ℕ) → AreValues v → AllByRecursion (λ b. b < 256) bytes → AreValues (put_bytes v at bytes)
+put_values v at bytes h fits = record { count = h.count; fits = h.fits; bytes = store_fits v.mem at bytes fits h.bytes }
+
+-- ---- what a store writes
+
+pub stored_bytes : (op : StoreOP) (x : ℕ) → AllByRecursion (λ b. b < 256) (store_bytes (store_op op) x)
+stored_bytes stores.Sb x = search rules
+stored_bytes _ x = search (rules, arith)
+
+pub stored_length : (op : StoreOP) (x : ℕ) → length (store_bytes (store_op op) x) ≡ store_size op
+stored_length stores.Sb x = refl
+stored_length _ x = refl
+
+-- ---- loads
+
+pub loaded_same : (m w : Memory) (at n : ℕ) → ((a : ℕ) → byte m a ≡ byte w a) → load_bytes m at n ≡ load_bytes w at n
+loaded_same m w at zero same = refl
+loaded_same m w at (suc n) same = λ i. loaded_same m w at n same i + same (wrap (at + n)) i * 2 ^ (8 * n)
+
+pub load_same : (op : LoadOp) (m w : Memory) (at : ℕ) → ((a : ℕ) → byte m a ≡ byte w a) → load_result op m at ≡ load_result op w at
+load_same load.Lb m w at same = ap (sign_extend w8) (loaded_same m w at 1 same)
+load_same load.Lh m w at same = ap (sign_extend w16) (loaded_same m w at 2 same)
+load_same load.Lw m w at same = ap (sign_extend w32) (loaded_same m w at 4 same)
+load_same load.Lbu m w at same = loaded_same m w at 1 same
+load_same load.Lhu m w at same = loaded_same m w at 2 same
+load_same load.Lwu m w at same = loaded_same m w at 4 same
+load_same load.Ld m w at same = loaded_same m w at 8 same
+
+-- eight bytes, or fewer, are below 2 ^ 64
+pub eight_fit : (mem : Memory) (at : ℕ) → ((a : ℕ) → byte mem a < 256) → load_bytes mem at 8 < 2 ^ 64
+eight_fit mem at h =
+    omega (arith, h (wrap (at + 0)), h (wrap (at + 1)), h (wrap (at + 2)), h (wrap (at + 3)), h (wrap (at + 4)), h (wrap (at + 5)), h (wrap (at + 6)), h (wrap (at + 7)))
+
+pub load_fits : (op : LoadOp) (mem : Memory) (at : ℕ) → ((a : ℕ) → byte mem a < 256) → load_result op mem at < 2 ^ 64
+load_fits load.Ld mem at h = eight_fit mem at h
+load_fits _ mem at h = let all = eight_fit mem at h in omega (arith, ints)
+
+-- ---- registers come from the stack, and the stack pointer rises or falls.
 
 -- ---- which registers are loaded
 
@@ -55,14 +135,10 @@ pub record IsStackLoad (l : StackLoad) : Type 0 where
 abbrev pub AreLoadable : List StackLoad → Type 0
 AreLoadable loads = AllByRecursion IsStackLoad loads
 
-as_integer : (format : Option FloatFormat) (n : ℕ) → is_some format ≡ false → IsLoadableAs format n → IsLoadable n
-as_integer None n e h = h
-as_integer (Some format) n e h = absurd (cc)
-
 -- where none is of a floating-point register
 pub integers_loadable : (loads : List StackLoad) → loads_float loads ≡ false → AreStackLoads loads → AreLoadable loads
 integers_loadable [] e h = tt
-integers_loadable (l ∷ loads) e h = let both = or_parts (is_float_load l.op) (loads_float loads) e in (record { register = as_integer (load_format l.op) l.register both.0 h.0; integer = both.0 }, integers_loadable loads both.1 h.1)
+integers_loadable (l ∷ loads) e h = let both = or_parts (is_float_load l.op) (loads_float loads) e in (record { register = subst (λ o. IsLoadableAs o l.register) (no_format (load_format l.op) both.0) h.0; integer = both.0 }, integers_loadable loads both.1 h.1)
 
 -- none of them is this one
 abbrev pub AreOthers : ℕ → List StackLoad → Type 0
@@ -76,21 +152,15 @@ IsOtherAs (Some format) n m = Unit {0}
 abbrev pub AreOthersAs : ℕ → List StackLoad → Type 0
 AreOthersAs n loads = AllByRecursion (λ (l : StackLoad). IsOtherAs (load_format l.op) n l.register) loads
 
-other_as_integer : (format : Option FloatFormat) (n m : ℕ) → is_some format ≡ false → IsOtherAs format n m → m ≢ n
-other_as_integer None n m e h = h
-other_as_integer (Some format) n m e h = absurd (cc)
-
 pub integers_other : (n : ℕ) (loads : List StackLoad) → loads_float loads ≡ false → AreOthersAs n loads → AreOthers n loads
 integers_other n [] e h = tt
-integers_other n (l ∷ loads) e h = let both = or_parts (is_float_load l.op) (loads_float loads) e in (other_as_integer (load_format l.op) n l.register both.0 h.0, integers_other n loads both.1 h.1)
+integers_other n (l ∷ loads) e h = let both = or_parts (is_float_load l.op) (loads_float loads) e in (subst (λ o. IsOtherAs o n l.register) (no_format (load_format l.op) both.0) h.0, integers_other n loads both.1 h.1)
 
 -- so it keeps its value
 pub one_other : (op : LoadOP) (rd a n : ℕ) (v : Values) → rd ≢ n → reg (loaded op rd a v) n ≡ reg v n
-one_other op rd a n v other = by (is_float_load op)
-  where
-    by : (float : Bool) → reg (if float then v else set_reg v rd (load_result (load_op op) v.mem a)) n ≡ reg v n
-    by true = refl
-    by false = reads_other v rd n (load_result (load_op op) v.mem a) (λ e. other (sym e))
+one_other op rd a n v other =
+    let x = load_result (load_op op) v.mem a in
+    elim (is_float_load op) as (λ float. reg (if float then v else set_reg v rd x) n ≡ reg v n) [ true ↦ refl | false ↦ reads_other v rd n x (λ e. other (sym e)) ]
 
 pub loaded_other : (sp n : ℕ) (loads : List StackLoad) (v : Values) → AreOthers n loads → reg (stack_loaded sp loads v) n ≡ reg v n
 loaded_other sp n [] v others = refl
@@ -183,31 +253,20 @@ far_comes {site} {offset} {size} {u} {s} allocated rd r op o integer usable base
 -- a load that can't trap sets its register, and beside it x31 at most
 load_comes : {site : Site} {offset size : ℕ} {u : Values} {s : State} (allocated rd r : ℕ) (op : LoadOP) (o : ℤ) → IsIntegerLoad op → rd < 30 → r < 30 → StandsIn site allocated offset (load_slots site.context.flags rd op None (Based r o)) → InCourse site offset (size_of (load_slots site.context.flags rd op None (Based r o)) + size) (IsAs u) s →
     Comes site (offset + size_of (load_slots site.context.flags rd op None (Based r o))) size (IsAs (set_reg u rd (read_at op r o u))) s
-load_comes {site} {offset} {size} {u} {s} allocated rd r op o integer usable based = on (is_near o)
-  where
-    slots : Bool → List Slot
-    slots near = if near then Op (short_load site.context.flags op rd r o) ∷ [] else address_slots site.context.flags 31 (Based r o) ++ [] ++ Op (decoded_load op rd 31 (pos 0)) ∷ []
-
-    -- what slots that stand there do
-    Goal : List Slot → Type 0
-    Goal xs = StandsIn site allocated offset xs → InCourse site offset (size_of xs + size) (IsAs u) s → Comes site (offset + size_of xs) size (IsAs (set_reg u rd (read_at op r o u))) s
-
-    on : (near : Bool) → Goal (slots near)
-    on true = λ stands k.
-        let n = (short_load site.context.flags op rd r o).len in
-        subst (λ m. Comes site m size (IsAs (set_reg u rd (read_at op r o u))) s) (omega arith)
-        (near_comes rd r op o integer usable based stands.0 (course_before (n + size) k (omega arith)))
-    on false = subst (λ xs. Goal (xs ++ Op (decoded_load op rd 31 (pos 0)) ∷ [])) (sym (append-nil (address_slots site.context.flags 31 (Based r o)))) (far_comes allocated rd r op o integer usable based)
-
--- so does that of a line, which is the machine's own where it has it
-line_is : (flags : IsaFlags) (rd : ℕ) (op : LoadOP) (trap : Option TrapCode) (at : Location) → has_load flags op ≡ true → load_line_slots flags rd op trap at ≡ load_slots flags rd op trap at
-line_is flags rd op trap at has = ap (λ (c : Bool). if c then load_slots flags rd op trap at else half_load_slots flags rd trap at) has
+load_comes {site} {offset} {size} {u} {s} allocated rd r op o integer usable based =
+    let Goal = λ (xs : List Slot). StandsIn site allocated offset xs → InCourse site offset (size_of xs + size) (IsAs u) s → Comes site (offset + size_of xs) size (IsAs (set_reg u rd (read_at op r o u))) s in
+    let near = short_load site.context.flags op rd r o in
+    let far = decoded_load op rd 31 (pos 0) in
+    elim (is_near o) as (λ c. Goal (if c then Op near ∷ [] else address_slots site.context.flags 31 (Based r o) ++ [] ++ Op far ∷ [])) [
+      | true ↦ λ stands k. subst (λ m. Comes site m size (IsAs (set_reg u rd (read_at op r o u))) s) (omega arith) (near_comes rd r op o integer usable based stands.0 (course_before (near.len + size) k (omega arith)))
+      | false ↦ subst (λ xs. Goal (xs ++ Op far ∷ [])) (sym (append-nil (address_slots site.context.flags 31 (Based r o)))) (far_comes allocated rd r op o integer usable based)
+    ]
 
 pub line_comes : {site : Site} {offset size : ℕ} {u : Values} {s : State} (allocated rd r : ℕ) (op : LoadOP) (o : ℤ) → IsIntegerLoad op → rd < 30 → r < 30 → StandsIn site allocated offset (load_line_slots site.context.flags rd op None (Based r o)) → InCourse site offset (size_of (load_line_slots site.context.flags rd op None (Based r o)) + size) (IsAs u) s →
     Comes site (offset + size_of (load_line_slots site.context.flags rd op None (Based r o))) size (IsAs (set_reg u rd (read_at op r o u))) s
 line_comes {site} {offset} {size} {u} {s} allocated rd r op o integer usable based =
     subst (λ xs. StandsIn site allocated offset xs → InCourse site offset (size_of xs + size) (IsAs u) s → Comes site (offset + size_of xs) size (IsAs (set_reg u rd (read_at op r o u))) s)
-    (sym (line_is site.context.flags rd op None (Based r o) (has_integer_load site.context.flags op integer)))
+    (ap (λ (c : Bool). if c then load_slots site.context.flags rd op None (Based r o) else half_load_slots site.context.flags rd None (Based r o)) (sym (has_integer_load site.context.flags op integer)))
     (load_comes allocated rd r op o integer usable based)
 
 -- ---- loads one after the other

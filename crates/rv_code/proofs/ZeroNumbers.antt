@@ -1,6 +1,5 @@
 -- The numbers of a count of zeros: which bit is the next, and how many zeros are left.
-use Rattle.std.proofs.Common.{◌≡◌, ℕ, zero, suc, ◌+◌, ◌-◌, ◌*◌, ◌/◌, ◌%◌, ◌^◌, ◌<◌, ◌≤◌, pos, Bool, true, false, arith, refl, ap, subst, ◌∙◌, lit≤}
-use Rattle.std.specs.Prelude.{◌==◌, if◌then◌else◌}
+use Rattle.std.proofs.Common.{◌≡◌, ℕ, zero, suc, ◌+◌, ◌-◌, ◌*◌, ◌/◌, ◌%◌, ◌^◌, ◌<◌, ◌≤◌, pos, Bool, true, false, arith, refl, ap, subst, ◌∙◌, lit≤, ◌==◌, if◌then◌else◌}
 use Rattle.std.specs.Int.{bit_at}
 use Rattle.std.proofs.lemmas.Nat.{pow_below}
 use Rattle.std.proofs.Math.Nat.{pow-suc, div-div-eq-div-mul}
@@ -10,10 +9,7 @@ use Rattle.rv_inst.specs.Bits.{leading_zeros, trailing_zeros, zeros}
 use Rattle.rv_inst.specs.Meaning.{alu_rri}
 use Rattle.rv_inst.specs.Rules.{is_beyond}
 use Rattle.rv_inst.specs.Sizes.{bit_shift}
-use Rattle.rv_code.proofs.NumberTests.{half_power}
-
-power_fits : (k : ℕ) → k < 64 → 2 ^ k < 2 ^ 64
-power_fits k lt = pow_below k 64 lt
+use Rattle.rv_code.proofs.Registers.{half_power}
 
 -- ---- numbers
 
@@ -34,11 +30,7 @@ zeros_left false bits left n = trailing_zeros left (n / 2 ^ (bits - left))
 
 pub power_is : (leading : Bool) (bits left : ℕ) → bits ≤ 64 → left < bits → power_of leading bits (suc left) ≡ 2 ^ index_of leading bits left
 power_is true bits left few lt = half_power left
-power_is false bits left few lt = let fits = power_fits (bits - suc left) (omega arith) in omega arith
-
-pub power_small : (leading : Bool) (bits left : ℕ) → bits ≤ 64 → left < bits → power_of leading bits left < 2 ^ 64
-power_small true bits left few lt = let fits = power_fits left (omega arith) in omega arith
-power_small false bits left few lt = omega arith
+power_is false bits left few lt = let fits = pow_below (bits - suc left) 64 (omega arith) in omega arith
 
 pub power_up : (bits left : ℕ) → left < bits → 2 ^ (bits - suc left) * 2 ≡ 2 ^ (bits - left)
 power_up bits left lt =
@@ -72,20 +64,13 @@ zeros_all true bits n = refl
 zeros_all false bits n = let none : bits - bits ≡ 0 = omega arith in ap (λ k. trailing_zeros bits (n / 2 ^ k)) none ∙ (let whole : n / 1 ≡ n = omega arith in ap (trailing_zeros bits) whole)
 
 pub chosen_few : (b : Bool) (x y : ℕ) → x ≤ y → (if b then 0 else suc x) ≤ suc y
-chosen_few true x y le = omega arith
-chosen_few false x y le = omega arith
-
-pub leading_few : (bits n : ℕ) → leading_zeros bits n ≤ bits
-leading_few zero n = lit≤ tt
-leading_few (suc bits) n = chosen_few (bit_at n bits == 1) (leading_zeros bits n) bits (leading_few bits n)
-
-pub trailing_few : (bits n : ℕ) → trailing_zeros bits n ≤ bits
-trailing_few zero n = lit≤ tt
-trailing_few (suc bits) n = chosen_few (n % 2 == 1) (trailing_zeros bits (n / 2)) bits (trailing_few bits (n / 2))
+chosen_few b x y le = elim b as (λ c. (if c then 0 else suc x) ≤ suc y) [ true ↦ omega arith | false ↦ omega arith ]
 
 pub zeros_few : (leading : Bool) (bits n : ℕ) → zeros leading bits n ≤ bits
-zeros_few true bits n = leading_few bits n
-zeros_few false bits n = trailing_few bits n
+zeros_few true zero n = lit≤ tt
+zeros_few true (suc bits) n = chosen_few (bit_at n bits == 1) (leading_zeros bits n) bits (zeros_few true bits n)
+zeros_few false zero n = lit≤ tt
+zeros_few false (suc bits) n = chosen_few (n % 2 == 1) (trailing_zeros bits (n / 2)) bits (zeros_few false bits (n / 2))
 
 -- a one ends the count, a zero is counted
 pub ends_at : (b rest count total : ℕ) → count + (if b == 1 then 0 else suc rest) ≡ total → b ≡ 1 → count ≡ total

@@ -5,8 +5,7 @@ use Rattle.mach_labels.specs.Table.{first_constant}
 use Rattle.rv_machine.specs.State.{State, IsState, Values, AreValues, wrap}
 use Rattle.rv_machine.specs.Steps.{iter, IsBreak, IsZeroHalf}
 use Rattle.rv_inst.specs.declared.inst.Inst.{Inst}
-use Rattle.rv_inst.specs.Operands.{Return, inst_temporaries}
-use Rattle.rv_inst.specs.Operands.{try_call_of}
+use Rattle.rv_inst.specs.Operands.{Return, inst_temporaries, try_call_of}
 use Rattle.rv_inst.specs.Meaning.{resumed, try_exit, Environment, Exit, Next, To, Leave, Break, Trap, Data, inst_exit, inst_effect, inst_writes, AreOutside}
 use Rattle.rv_inst.specs.SameValues.{Same, SameBut}
 use Rattle.rv_code.specs.declared.state.EmitVState.{EmitVState}

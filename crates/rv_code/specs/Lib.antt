@@ -14,12 +14,5 @@ pub mod InstParts
 pub mod InstRuns
 pub mod Chains
 pub mod Immediates
-pub mod OwnCounts
-pub mod FloatAccesses
 pub mod FullValues
-pub mod FullReturns
-pub mod FullEnds
 pub mod UnitRuns
-pub mod Entries
-pub mod FullMeaning
-pub mod FullInstRuns

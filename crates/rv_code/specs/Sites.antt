@@ -11,12 +11,11 @@ use Rattle.rv_machine.specs.State.{State, IsState, Values, AreValues, Memory, by
 use Rattle.rv_machine.specs.Steps.{fetch, iter}
 use Rattle.rv_inst.specs.Context.{Context}
 use Rattle.rv_inst.specs.Records.{IsRecorded}
-use Rattle.rv_code.specs.Slots.{Symbol, AddressOf, SlotOf}
+use Rattle.rv_code.specs.Slots.{Symbol, AddressOf, SlotOf, Target, Label, Own, Slot, Op, Aim, Data, Notes, Names, Allocate, Here, Fill, Address, CallTo, Part, Ask, Slots, size_of, own_label, between}
 use Rattle.rv_inst.specs.declared.label_use.LabelUse.{LabelUse}
 use Rattle.rv_inst.specs.LabelUse.{marks_of, has_veneer_of}
 use Rattle.rv_inst.specs.Addresses.{is_splittable}
 use Rattle.rv_inst.specs.SameValues.{Same}
-use Rattle.rv_code.specs.Slots.{Target, Label, Own, Slot, Op, Aim, Data, Notes, Names, Allocate, Here, Fill, Address, CallTo, Part, Ask, Slots, size_of, own_label, between}
 
 -- ---- code in the memory
 

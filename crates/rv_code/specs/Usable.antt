@@ -1,6 +1,6 @@
 -- What the words of an instruction ask of its registers, labels and numbers.
-use Rattle.std.specs.Prelude.{◌^◌, ◌≡◌, ◌≢◌, ◌⊎◌, ◌<◌, ◌≤◌, true, false, List, [], ◌∷◌, length, Option, Some, None, IsSome}
-use Rattle.std.proofs.Common.{refl}
+use Rattle.std.specs.Prelude.{◌^◌, ◌≡◌, ◌≢◌, ◌⊎◌, ◌<◌, ◌≤◌, true, false, List, ◌∷◌, length, Option, Some, None, IsSome}
+use Rattle.std.proofs.Common.{refl, []}
 use Rattle.rv_base.specs.declared.amode.AMode.{AMode}
 use Rattle.rv_base.specs.declared.call.CallRetPair.{CallRetPair}
 use Rattle.rv_base.specs.declared.call.RetLocation.{RetLocation}
@@ -10,7 +10,6 @@ use Rattle.rv_base.specs.declared.constant.Constant.{Constant}
 use Rattle.rv_base.specs.declared.amode.AMode.TheVariants.{RegOffset, SPOffset, FPOffset, SlotOffset, IncomingArg, Const, Label as ToLabel}
 use Rattle.rv_base.specs.AMode.{IsNear, base_of}
 use Rattle.rv_base.specs.declared.ir_type.IrType.{IrType}
-use Rattle.rv_base.specs.declared.regs.PReg.{PReg}
 use Rattle.rv_base.specs.declared.regs.Reg.{Reg}
 use Rattle.rv_base.specs.Regs.{class_of, number_of}
 use Rattle.rv_base.specs.declared.regs.Reg.TheVariants.{Real}

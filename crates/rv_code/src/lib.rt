@@ -1,4 +1,4 @@
-//! What an instruction becomes, with no buffer: its parts, where they stand in finished code, and that they run as it means.
+//! What an instruction becomes, with no buffer: its pieces and parts, where they stand in finished code, and what pieces compute.
 #![tactic(auto)]
 
 mod state;

@@ -1,36 +1,12 @@
 -- An instruction keeps its bounds: how many bytes it puts, how many uses more are pending, and how far they reach.
-use Rattle.std.proofs.Common.{◌≡◌, ℕ, ◌+◌, ◌≤◌, Bool, true, false, cond, List, [], ◌∷◌, length, Option, Some, None, pos, suc, refl, ap, sym, ◌∙◌, subst, arith, ⊎_elim}
-use Rattle.std.specs.Prelude.{◌-◌, if◌then◌else◌}
-use Rattle.std.proofs.lemmas.List.{length-append, append-nil}
-use Rattle.rv_base.specs.declared.call.TryCallInfo.{TryCallInfo}
-use Rattle.rv_base.specs.declared.flags.IsaFlags.{IsaFlags}
-use Rattle.rv_base.specs.LabelUse.{code_limit}
-use Rattle.rv_base.specs.Regs.{number_of}
-use Rattle.rv_inst.specs.Context.{Context}
-use Rattle.rv_inst.specs.Forms.{jump_kind, jump_size, short_jalr}
-use Rattle.rv_inst.specs.LabelUse.{label_kinds, forward_of}
-use Rattle.rv_inst.specs.MostBytes.{sequence_limit}
-use Rattle.rv_inst.specs.Operands.{targets_of, ways_of, ways_by, inst_ways, try_call_of}
-use Rattle.rv_inst.specs.Rules.{inst_rule}
-use Rattle.rv_inst.specs.Sizes.{Extent, Words, Island, After, Around, space_in, words_in, extent_of, island_space, inst_sum, call_extent}
-use Rattle.rv_inst.specs.Uses.{use_at, target_uses, target_reach, jump_reach, inst_reach, uses_by, uses_in, least_reach}
-use Rattle.rv_inst.specs.declared.inst.CondBrTarget.TheVariants.{Label, Fallthrough}
-use Rattle.rv_inst.specs.declared.inst.Inst.{Inst}
-use Rattle.rv_inst.specs.declared.inst.Inst.TheVariants.{Call, CallInd}
-use Rattle.rv_inst.specs.Returns.{StackLoad, result_loads, loads_unless}
+use Rattle.rv_emit.proofs.Terms.{◌≡◌, ℕ, ◌+◌, ◌≤◌, Bool, true, false, cond, List, [], ◌∷◌, length, Option, Some, None, pos, suc, refl, ap, sym, ◌∙◌, subst, arith, ⊎_elim, ◌-◌, if◌then◌else◌, append-nil, TryCallInfo, IsaFlags, code_limit, number_of, Context, jump_kind, jump_size, short_jalr}
+use Rattle.rv_emit.proofs.Terms.{label_kinds, forward_of, targets_of, ways_of, ways_by, inst_ways, try_call_of, inst_rule, Extent, Words, Island, After, Around, space_in, words_in, extent_of, island_space, inst_sum, call_extent, use_at, target_uses, target_reach, jump_reach, inst_reach, uses_by}
+use Rattle.rv_emit.proofs.Terms.{uses_in, least_reach, Fallthrough, Inst, Call, CallInd, StackLoad, result_loads, loads_unless, LabelUse, Jal20, B12, PCRelLo12I, RVCJump, Targets, Nowhere, Jumps, Branches, Refers, RefersConstant, Use, bytes_of, place_of, AllOf, deadline, deadlines, constant_label}
+use Rattle.rv_emit.proofs.Terms.{Buffer, pending, AppendsInst, AppendsBy, Appends, IslandAsked, IsBounded, words_long}
+use Rattle.rv_inst.specs.declared.inst.CondBrTarget.TheVariants.{Label}
 use Rattle.rv_inst.specs.declared.inst.Line.TheVariants.{Inst as Put}
-use Rattle.rv_inst.specs.declared.label_use.LabelUse.{LabelUse}
-use Rattle.rv_inst.specs.declared.label_use.LabelUse.TheVariants.{Jal20, B12, PCRelLo12I, RVCJump}
-use Rattle.rv_inst.specs.declared.targets.Targets.{Targets}
-use Rattle.rv_inst.specs.declared.targets.Targets.TheVariants.{Nowhere, Jumps, Branches, Refers, RefersConstant}
-use Rattle.mach_uses.specs.declared.uses.Use.{Use}
-use Rattle.mach_buffer.specs.Buffer.{bytes_of, place_of}
-use Rattle.mach_uses.specs.Reach.{AllOf, deadline, deadlines}
-use Rattle.mach_uses.specs.Labels.{constant_label}
-use Rattle.rv_emit.specs.Emitted.{Buffer, pending, AppendsInst, AppendsBy, Appends, IslandAsked, IsBounded}
 use Rattle.rv_emit.proofs.CallAppends.{words_pending}
-use Rattle.rv_emit.proofs.PlainSlots.{words_long}
-use Rattle.rv_emit.proofs.MostBytes.{words_within, most_in_sequence}
+use Rattle.rv_emit.proofs.MostBytes.{words_within}
 use Rattle.rv_emit.proofs.ReachAfterInst.{Each, bytes_put, each_more, each_none, few_deadlines, first_use, pending_adds, pending_at, pending_whole, uses_late}
 
 -- ---- how far uses reach
@@ -132,32 +108,7 @@ few_ways context place start end inst = by (try_call_of inst)
 
 -- so many more are pending after an instruction at most
 pub ways_more : (context : Context) (inst : Inst) (old new : Buffer) → AppendsInst context inst old new → length (pending new) ≤ length (pending old) + length (inst_ways inst)
-ways_more context inst old new p =
-    let whole = pending_whole context inst old new p in
-    let few = few_ways context (place_of new) (length (bytes_of old)) (length (bytes_of new)) inst in
-    omega (arith, whole, few)
-
--- none where it goes to no label
-pub none_more : (context : Context) (inst : Inst) (old new : Buffer) → inst_ways inst ≡ [] → AppendsInst context inst old new → length (pending new) ≤ length (pending old)
-none_more context inst old new none p = let more = ways_more context inst old new p in let few : length (inst_ways inst) ≡ 0 = ap length none in omega (arith, more, few)
-
--- two at most
-pub ways_few : (inst : Inst) → length (inst_ways inst) ≤ 2
-ways_few inst = by (try_call_of inst)
-  where
-    on : (targets : Targets) → length (ways_of targets) ≤ 2
-    on Nowhere = omega arith
-    on (Jumps label) = omega arith
-    on (Branches Fallthrough Fallthrough) = omega arith
-    on (Branches Fallthrough (Label f)) = omega arith
-    on (Branches (Label t) Fallthrough) = omega arith
-    on (Branches (Label t) (Label f)) = omega arith
-    on (Refers label) = omega arith
-    on (RefersConstant constant read) = omega arith
-
-    by : (t : Option TryCallInfo) → length (ways_by t (targets_of inst)) ≤ 2
-    by None = on (targets_of inst)
-    by (Some t) = omega arith
+ways_more context inst old new p = omega (arith, pending_whole context inst old new p, few_ways context (place_of new) (length (bytes_of old)) (length (bytes_of new)) inst)
 
 -- ---- bounds
 
@@ -194,10 +145,7 @@ words_bounded context inst old mid new rule small island p = record {
     long = bytes_put context inst mid new p
 
     each : Each (λ u. length (bytes_of old) + least_reach context (Put inst) ≤ deadline label_kinds u) own
-    each k u h =
-        let longer = island_longer (island_space context inst) old mid island in
-        let least = uses_least context (length (bytes_of mid)) (length (bytes_of new)) inst (has_jump context inst (length (bytes_of mid)) (length (bytes_of new)) (omega (arith, long))) k u h in
-        omega (arith, longer, least)
+    each k u h = omega (arith, island_longer (island_space context inst) old mid island, uses_least context (length (bytes_of mid)) (length (bytes_of new)) inst (has_jump context inst (length (bytes_of mid)) (length (bytes_of new)) (omega (arith, long))) k u h)
 
 -- what an instruction adds keeps its bounds
 pub emit_bounded : (context : Context) (inst : Inst) (old new : Buffer) → inst_rule context inst ≡ None → inst_sum context inst ≤ code_limit → Appends context inst old new → IsBounded context inst old new
@@ -249,25 +197,3 @@ emit_bounded context inst old new rule small e = by (extent_of context inst) ref
 
         island : IslandAsked (island_space context inst) a.mid a.last
         island = subst (λ e. IslandAsked (space_in e) a.mid a.last) (sym is) (a.made, a.room)
-
--- what the bounds of an instruction that asks for no island give
-module _ (context : Context) (inst : Inst) (old new : Buffer) (none : island_space context inst ≡ None) (b : IsBounded context inst old new) where
-  level : b.after ≡ b.before
-  level = subst (λ space. IslandAsked space b.before b.after) none b.island
-
-  pub alone_longer : length (bytes_of new) ≤ length (bytes_of old) + sequence_limit
-  alone_longer =
-      let starts = b.starts in
-      let ends = b.ends in
-      let most = b.most in
-      let limit = most_in_sequence context inst none in
-      let same : length (bytes_of b.after) ≡ length (bytes_of b.before) = ap (λ (m : Buffer). length (bytes_of m)) level in
-      omega (arith, starts, ends, most, limit, same)
-
-  pub alone_pending : length (pending new) ≤ length (pending old) + 2
-  alone_pending =
-      let few = b.few in
-      let ways = ways_few inst in
-      let whole : length (pending new) ≡ length (pending b.after) + length b.added = ap length b.adds ∙ length-append (pending b.after) b.added in
-      let same : length (pending b.after) ≡ length (pending old) = ap (λ (m : Buffer). length (pending m)) level ∙ ap length b.keeps in
-      omega (arith, few, ways, whole, same)

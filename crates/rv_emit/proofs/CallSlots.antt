@@ -1,47 +1,12 @@
 -- What calls that return add to a buffer: their words, and where they load results an island among them; and that their parts are self-contained.
-use Rattle.std.proofs.Common.{◌≡◌, ℕ, ◌+◌, ◌-◌, ◌*◌, ◌≤◌, Bool, true, false, List, [], ◌∷◌, ◌++◌, length, Option, Some, None, ℤ, pos, refl, ap, sym, ◌∙◌, subst, append-nil, arith, lit≤}
-use Rattle.rv_base.specs.declared.call.CallInfo.{CallInfo}
-use Rattle.rv_base.specs.declared.call.TryCallInfo.{TryCallInfo}
-use Rattle.rv_base.specs.declared.call.UserStackMap.{UserStackMap}
-use Rattle.rv_base.specs.declared.external_name.ExternalName.{ExternalName}
-use Rattle.rv_base.specs.declared.flags.IsaFlags.{IsaFlags}
-use Rattle.rv_base.specs.declared.frame.FrameLayout.{FrameLayout}
-use Rattle.rv_base.specs.declared.regs.Reg.{Reg}
-use Rattle.rv_base.specs.Regs.{number_of}
-use Rattle.rv_base.specs.Frame.{sp_to_fp_of}
-use Rattle.std.specs.Prelude.{is_some, count_by, if◌then◌else◌}
+use Rattle.rv_emit.proofs.Terms.{◌≡◌, ℕ, ◌+◌, ◌-◌, ◌*◌, ◌≤◌, Bool, true, false, List, [], ◌∷◌, ◌++◌, length, Option, Some, None, inst_constant, named_by, ℤ, pos, refl, ap, sym, ◌∙◌, subst, append-nil, arith, lit≤, CallInfo, TryCallInfo, UserStackMap, ExternalName, IsaFlags, FrameLayout, Reg}
+use Rattle.rv_emit.proofs.Terms.{number_of, sp_to_fp_of, is_some, count_by, if◌then◌else◌, MachRecord, Use, bytes_of, allocated_of, Shape, VCodeConstant, LabelUse, Nowhere, Context, short_jalr, jump_kind, jump_size, marks_of, site_event, return_records, patch_records, StackLoad, result_loads}
+use Rattle.rv_emit.proofs.Terms.{loads_unless, Extent, Words, stack_loads_size, stack_step_size, fall, call_size, try_size, results_space, call_extent, extent_of, space_in, island_space, inst_sum, inst_records, is_stacked, no_extra, use_at, uses_by, uses_in, Inst, Call, CallInd, EmitVState}
+use Rattle.rv_emit.proofs.Terms.{PutsAlone, PutsParts, Emits, Buffer, AppendsInst, Appends, AppendsBy, AppendsAround, AppendsWords, stack_load_slots, stack_step_slots, return_notes, after_call, patch_notes, try_slots, call_slots, call_ind_slots, loading_parts, call_parts, parts_of, GapStandsIn}
+use Rattle.rv_emit.proofs.Terms.{PartsIn, SlotsIn, SpansIn, Slot, Ask, Slots, AreSelfContained, PartsAreSelfContained, size_of, names_of, call_event, HaveContents, HaveAccess, at_end, none, nothing, of_size, note_then, from_start, IsPlain, summed, appends_words, words_long, puts_bytes, jalr_sized}
+use Rattle.rv_emit.proofs.Terms.{window_long, AreShortLoads, loads_most, loads_then, step_then, step_most}
 use Rattle.mach_records.specs.declared.records.Event.TheVariants as event
-use Rattle.mach_records.specs.declared.records.MachRecord.{MachRecord}
-use Rattle.mach_uses.specs.declared.uses.Use.{Use}
-use Rattle.mach_buffer.specs.Buffer.{bytes_of, allocated_of}
-use Rattle.mach_buffer.specs.Shape.{Shape}
-use Rattle.rv_base.specs.declared.constant.VCodeConstant.{VCodeConstant}
-use Rattle.rv_inst.specs.declared.label_use.LabelUse.{LabelUse}
-use Rattle.rv_inst.specs.declared.targets.Targets.TheVariants.{Nowhere}
-use Rattle.rv_inst.specs.Context.{Context}
-use Rattle.rv_inst.specs.Forms.{short_jalr, jump_kind, jump_size}
-use Rattle.rv_inst.specs.LabelUse.{marks_of}
-use Rattle.rv_inst.specs.Records.{site_event, return_records, patch_records}
-use Rattle.rv_inst.specs.Returns.{StackLoad, result_loads, loads_unless}
-use Rattle.rv_inst.specs.Sizes.{Extent, Words, Island, After, Around, stack_loads_size, stack_step_size, fall, call_size, try_size, results_space, call_extent, extent_of, space_in, island_space, inst_sum, inst_records}
-use Rattle.rv_inst.specs.Rules.{is_stacked}
-use Rattle.rv_inst.proofs.ResultLoads.{no_extra}
-use Rattle.rv_inst.specs.Uses.{use_at, uses_by, uses_in}
-use Rattle.rv_inst.specs.declared.inst.Inst.{Inst}
-use Rattle.rv_inst.specs.declared.inst.Inst.TheVariants.{Call, CallInd}
-use Rattle.rv_code.specs.declared.state.EmitVState.{EmitVState}
-use Rattle.rv_emit.specs.Emission.{PutsAlone, PutsParts, Emits}
-use Rattle.rv_emit.specs.Emitted.{Buffer, AppendsInst, Appends, AppendsBy, AppendsAround, AppendsWords}
-use Rattle.rv_code.specs.InstParts.{stack_load_slots, stack_step_slots, return_notes, after_call, patch_notes, try_slots, call_slots, call_ind_slots, loading_parts, call_parts, parts_of}
-use Rattle.rv_emit.specs.Standing.{GapStandsIn, PartsIn, SlotsIn, SpansIn}
-use Rattle.rv_code.specs.Slots.{Slot, Ask, Slots, AreSelfContained, PartsAreSelfContained, size_of, uses_of, records_of, names_of, call_event}
-use Rattle.rv_code.proofs.MemorySlots.{HaveContents, HaveAccess, at_end, none, nothing, of_size, note_then, from_start}
-use Rattle.rv_code.proofs.PlainSlots.{IsPlain, IsSummed}
-use Rattle.rv_emit.proofs.PlainSlots.{summed, appends_words, words_long}
-use Rattle.rv_emit.proofs.BufferAfterSlots.{puts_bytes}
-use Rattle.rv_code.proofs.ShortOps.{jalr_sized, window_long}
-use Rattle.rv_code.proofs.ShortLoads.{AreShortLoads, loads_most}
-use Rattle.rv_code.proofs.TailSlots.{loads_then, step_then, step_most}
+use Rattle.rv_code.specs.Slots.{uses_of, records_of}
 
 -- ---- pieces
 
@@ -163,32 +128,6 @@ same_use : (flags : IsaFlags) (start end : ℕ) (t : Option TryCallInfo) → try
 same_use flags start end None = refl
 same_use flags start end (Some t) = refl
 
-call_summed : (context : Context) (info : CallInfo ExternalName) → loads_unless info.patchable info.defs ≡ [] → IsSummed context (Call info) (call_slots context.flags context.frame info (try_slots context.flags info.try_call_info))
-call_summed context info none =
-    let flags = context.flags in
-    let t = info.try_call_info in
-    let c = call_contents context info (jump_contents flags t) in
-    record {
-      plain = c.plain;
-      long = ap (λ loads. call_extent flags 8 info.callee_pop_size loads t) none ∙ ap Words c.long;
-      uses = λ allocated start. c.uses allocated start ∙ same_use flags start (start + size_of (call_slots flags context.frame info (try_slots flags t))) t;
-      records = λ start. c.records start (start + size_of (call_slots flags context.frame info (try_slots flags t)));
-      names = c.names;
-    }
-
-call_ind_summed : (context : Context) (info : CallInfo Reg) → result_loads info.defs ≡ [] → IsSummed context (CallInd info) (call_ind_slots context.flags context.frame info (try_slots context.flags info.try_call_info))
-call_ind_summed context info none =
-    let flags = context.flags in
-    let t = info.try_call_info in
-    let c = call_ind_contents context info (jump_contents flags t) in
-    record {
-      plain = c.plain;
-      long = ap (λ loads. call_extent flags (short_jalr flags 1 (number_of info.dest) (pos 0)).len info.callee_pop_size loads t) none ∙ ap Words c.long;
-      uses = λ allocated start. c.uses allocated start ∙ same_use flags start (start + size_of (call_ind_slots flags context.frame info (try_slots flags t))) t;
-      records = λ start. c.records start (start + size_of (call_ind_slots flags context.frame info (try_slots flags t)));
-      names = c.names;
-    }
-
 -- ---- loads of results
 
 loads_contents : (flags : IsaFlags) (loads : List StackLoad) (t : Option TryCallInfo) → HaveContents (stack_loads_size flags loads + try_size flags t) (try_size flags t) (at_end (try_use flags t)) no_records None (stack_load_slots flags loads ++ try_slots flags t)
@@ -216,32 +155,33 @@ around {before} context inst call loads t old new c uses (mid, first, (last, mad
     }
 
 -- by what it loads
-pub call_appends : (context : Context) (info : CallInfo ExternalName) (old new : Buffer) → PutsParts context.flags (call_parts context.flags (call_slots context.flags context.frame info) (loads_unless info.patchable info.defs) info.try_call_info) old new → Appends context (Call info) old new
-call_appends context info old new = by (loads_unless info.patchable info.defs) refl
-  where
-    t : Option TryCallInfo
-    t = info.try_call_info
+call_adds : (context : Context) (inst : Inst) (jump popped : ℕ) (call : List Slot → List Slot) (loads : List StackLoad) (t : Option TryCallInfo) (old new : Buffer) →
+    AreCall context inst (call_size context.flags jump popped) (try_size context.flags t) (try_use context.flags t) (call (try_slots context.flags t)) → AreCall context inst (call_size context.flags jump popped) 0 (λ end. []) (call []) →
+    extent_of context inst ≡ call_extent context.flags jump popped loads t → ((start end : ℕ) → uses_in context start end inst ≡ uses_by context.flags start end t Nowhere) → inst_constant inst ≡ None →
+    PutsParts context.flags (call_parts context.flags call loads t) old new → AppendsBy context (call_extent context.flags jump popped loads t) inst old new
+call_adds context inst jump popped call [] t old new whole first is uses none p = summed context inst (call (try_slots context.flags t)) old new (record {
+  plain = whole.plain;
+  long = is ∙ ap Words whole.long;
+  uses = λ allocated start. whole.uses allocated start ∙ same_use context.flags start (start + size_of (call (try_slots context.flags t))) t ∙ sym (uses start (start + size_of (call (try_slots context.flags t))));
+  records = λ start. whole.records start (start + size_of (call (try_slots context.flags t)));
+  names = λ named. whole.names named ∙ sym (ap (λ k. named_by k named) none);
+}) context.flags p
+call_adds context inst jump popped call (l ∷ loads) t old new whole first is uses none p = around context inst call (l ∷ loads) t old new first uses p
 
-    by : (loads : List StackLoad) → loads_unless info.patchable info.defs ≡ loads → PutsParts context.flags (call_parts context.flags (call_slots context.flags context.frame info) loads t) old new → AppendsBy context (call_extent context.flags 8 info.callee_pop_size loads t) (Call info) old new
-    by [] none p = summed context (Call info) _ old new refl (call_summed context info none) context.flags p
-    by (l ∷ loads) some p = around context (Call info) (call_slots context.flags context.frame info) (l ∷ loads) t old new (call_contents context info nothing) (λ start end. refl) p
+pub call_appends : (context : Context) (info : CallInfo ExternalName) (old new : Buffer) → PutsParts context.flags (call_parts context.flags (call_slots context.flags context.frame info) (loads_unless info.patchable info.defs) info.try_call_info) old new → Appends context (Call info) old new
+call_appends context info old new p =
+    call_adds context (Call info) 8 info.callee_pop_size (call_slots context.flags context.frame info) (loads_unless info.patchable info.defs) info.try_call_info old new (call_contents context info (jump_contents context.flags info.try_call_info)) (call_contents context info nothing) refl
+    (λ start end. refl) refl p
 
 pub call_ind_appends : (context : Context) (info : CallInfo Reg) (old new : Buffer) → PutsParts context.flags (call_parts context.flags (call_ind_slots context.flags context.frame info) (result_loads info.defs) info.try_call_info) old new → Appends context (CallInd info) old new
-call_ind_appends context info old new = by (result_loads info.defs) refl
-  where
-    t : Option TryCallInfo
-    t = info.try_call_info
-
-    by : (loads : List StackLoad) → result_loads info.defs ≡ loads → PutsParts context.flags (call_parts context.flags (call_ind_slots context.flags context.frame info) loads t) old new → AppendsBy context (call_extent context.flags (short_jalr context.flags 1 (number_of info.dest) (pos 0)).len info.callee_pop_size loads t) (CallInd info) old new
-    by [] none p = summed context (CallInd info) _ old new refl (call_ind_summed context info none) context.flags p
-    by (l ∷ loads) some p = around context (CallInd info) (call_ind_slots context.flags context.frame info) (l ∷ loads) t old new (call_ind_contents context info nothing) (λ start end. refl) p
+call_ind_appends context info old new p =
+    call_adds context (CallInd info) (short_jalr context.flags 1 (number_of info.dest) (pos 0)).len info.callee_pop_size (call_ind_slots context.flags context.frame info) (result_loads info.defs) info.try_call_info old new
+    (call_ind_contents context info (jump_contents context.flags info.try_call_info)) (call_ind_contents context info nothing) refl (λ start end. refl) refl p
 
 -- what an instruction that asks for no island adds
 pub words_alone : (context : Context) (extent : Extent) (inst : Inst) (old new : Buffer) → space_in extent ≡ None → AppendsBy context extent inst old new → AppendsInst context inst old new
 words_alone context (Words size) inst old new asks a = a
-words_alone context (Island space) inst old new asks a = absurd (cc)
-words_alone context (After space size more) inst old new asks a = absurd (cc)
-words_alone context (Around before space after) inst old new asks a = absurd (cc)
+words_alone context extent inst old new asks a = absurd (cc)
 
 -- a call that asks for no island loads nothing
 no_loads : (flags : IsaFlags) (jump popped : ℕ) (loads : List StackLoad) (t : Option TryCallInfo) → space_in (call_extent flags jump popped loads t) ≡ None → loads ≡ []

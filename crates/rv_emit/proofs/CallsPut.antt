@@ -1,32 +1,13 @@
--- What a call puts: its words, and then what comes after them.
-use Rattle.std.proofs.Common.{◌≡◌, ℕ, ◌+◌, ◌≤◌, false, List, [], ◌∷◌, ◌++◌, length, append-nil, append_assoc, Option, pos, ap, ◌∙◌, subst, arith, lit≤}
-use Rattle.rv_base.specs.declared.call.CallInfo.{CallInfo}
-use Rattle.rv_base.specs.declared.call.TryCallInfo.{TryCallInfo}
-use Rattle.rv_base.specs.declared.external_name.ExternalName.{ExternalName}
-use Rattle.rv_base.specs.declared.flags.IsaFlags.{IsaFlags}
-use Rattle.rv_base.specs.declared.frame.FrameLayout.{FrameLayout}
-use Rattle.rv_base.specs.declared.regs.Reg.{Reg}
-use Rattle.rv_base.specs.Regs.{number_of}
-use Rattle.rv_inst.specs.Context.{Context, context_by}
-use Rattle.rv_inst.specs.Forms.{short_jalr}
-use Rattle.rv_inst.specs.Returns.{StackLoad}
-use Rattle.rv_inst.specs.Sizes.{line_space, call_size, results_space, inst_records}
-use Rattle.rv_inst.specs.declared.inst.Inst.{Inst}
-use Rattle.rv_inst.specs.declared.inst.Inst.TheVariants.{Call, CallInd}
-use Rattle.mach_buffer.specs.Buffer.{shape_of, bytes_of, allocated_of}
-use Rattle.mach_buffer.specs.Constants.{reserve_of, reserve_from}
-use Rattle.mach_uses.specs.Reach.{CanReach, is_needed}
-use Rattle.mach_records.specs.declared.records.MachRecord.{MachRecord}
-use Rattle.rv_emit.specs.Emission.{PutsAlone, PutsParts}
-use Rattle.rv_emit.specs.Emitted.{Buffer, IsSoundBuffer, AppendsWords, pending}
-use Rattle.rv_code.specs.InstParts.{return_notes, after_call, patch_notes, try_slots, stack_load_slots, call_to, call_slots, call_ind_slots, loading_parts}
-use Rattle.rv_code.specs.Slots.{Slot, Op, Ask, Slots}
+-- What calls put: the call, and the results that are loaded after it.
+use Rattle.rv_emit.proofs.Terms.{◌≡◌, ℕ, ◌+◌, ◌≤◌, false, List, [], ◌∷◌, ◌++◌, length, append-nil, append_assoc, Option, pos, ap, ◌∙◌, subst, arith, lit≤, zero, suc, ◌*◌, ◌<◌, ⊎_elim, Bool, true, cond, take, Some, None, refl, sym, CallInfo, TryCallInfo, ExternalName, IsaFlags, FrameLayout, Reg}
+use Rattle.rv_emit.proofs.Terms.{number_of, Context, context_by, short_jalr, StackLoad, typed_loads, location_loads, result_loads, result_load, line_space, call_size, results_space, inst_records, Inst, Call, CallInd, shape_of, bytes_of, allocated_of, reserve_of, reserve_from, CanReach, is_needed}
+use Rattle.rv_emit.proofs.Terms.{MachRecord, PutsAlone, PutsParts, Buffer, IsSoundBuffer, AppendsWords, pending, AppendsIsland, IslandIfNeeded, return_notes, after_call, patch_notes, try_slots, stack_load_slots, call_to, call_slots, call_ind_slots, loading_parts, load_line_slots, Slot, Op, Ask}
+use Rattle.rv_emit.proofs.Terms.{Slots, nothing, appends_words, words_long, jalr_sized, both_alone, alone_long, get_or, count_by, IsSome, length-append, take_all, take_more, is_count_by, code_limit, CallRetPair, RetLocation, IrType, LoadOP, Based, I8, I16, I32, I64, F16, F32, F64, load_of}
+use Rattle.rv_emit.proofs.Terms.{is_on_stack, is_stacked, IsFineResult, AreFineResults, results_short}
 use Rattle.rv_emit.proofs.CallAppends.{reach_first, words_pending}
 use Rattle.rv_emit.proofs.CallSlots.{AreCall, call_contents, call_ind_contents, call_few}
-use Rattle.rv_code.proofs.MemorySlots.{nothing}
-use Rattle.rv_emit.proofs.PlainSlots.{appends_words, words_long}
-use Rattle.rv_code.proofs.ShortOps.{jalr_sized}
-use Rattle.rv_emit.proofs.SlotsOfSeveralPuts.{both_alone, alone_long}
+use Rattle.rv_base.specs.declared.call.RetLocation.TheVariants.{Reg as InReg, Stack as OnStack}
+use Rattle.rv_emit.proofs.TailCallCode.{loads_both, loads_plain, loads_room}
 
 -- ---- a call without loads
 
@@ -38,28 +19,21 @@ rest_then notes steps patch last =
 
 pub call_put : {flags : IsaFlags} (frame : FrameLayout) (info : CallInfo ExternalName) (last : List Slot) (old mid new : Buffer) → PutsAlone flags (call_slots flags frame info []) old mid → PutsAlone flags last mid new → PutsAlone flags (call_slots flags frame info last) old new
 call_put {flags} frame info last old mid new p q =
-    let notes = return_notes frame info.stack_map info.try_call_info in
-    let steps = after_call flags info.callee_pop_size in
     let patch = patch_notes info.patchable (call_size flags 8 info.callee_pop_size) in
     let first = call_slots flags frame info [] in
-    let same : first ++ last ≡ call_slots flags frame info last = ap (λ more. call_to 1 1 info.dest ∷ more) (rest_then notes steps patch last) in
+    let same : first ++ last ≡ call_slots flags frame info last = ap (λ more. call_to 1 1 info.dest ∷ more) (rest_then (return_notes frame info.stack_map info.try_call_info) (after_call flags info.callee_pop_size) patch last) in
     subst (λ slots. PutsAlone flags slots old new) same (both_alone first last old mid new (call_contents (context_by flags frame []) info nothing).plain p q)
 
 pub call_ind_put : {flags : IsaFlags} (frame : FrameLayout) (info : CallInfo Reg) (last : List Slot) (old mid new : Buffer) → PutsAlone flags (call_ind_slots flags frame info []) old mid → PutsAlone flags last mid new → PutsAlone flags (call_ind_slots flags frame info last) old new
 call_ind_put {flags} frame info last old mid new p q =
-    let notes = return_notes frame info.stack_map info.try_call_info in
     let steps = after_call flags info.callee_pop_size in
     let first = call_ind_slots flags frame info [] in
-    let same : first ++ last ≡ call_ind_slots flags frame info last = ap (λ more. Op (short_jalr flags 1 (number_of info.dest) (pos 0)) ∷ more) (rest_then notes steps [] last) in
+    let same : first ++ last ≡ call_ind_slots flags frame info last = ap (λ more. Op (short_jalr flags 1 (number_of info.dest) (pos 0)) ∷ more) (rest_then (return_notes frame info.stack_map info.try_call_info) steps [] last) in
     subst (λ slots. PutsAlone flags slots old new) same (both_alone first last old mid new (call_ind_contents (context_by flags frame []) info nothing).plain p q)
 
 -- how long its words are at most
 pub call_few_after : {flags : IsaFlags} (frame : FrameLayout) (info : CallInfo ExternalName) (old mid : Buffer) → PutsAlone flags (call_slots flags frame info []) old mid → length (bytes_of mid) ≤ length (bytes_of old) + 32
-call_few_after {flags} frame info old mid p =
-    let a = alone_long (call_slots flags frame info []) old mid p in
-    let b = (call_contents (context_by flags frame []) info nothing).long in
-    let few = call_few flags 8 info.callee_pop_size (lit≤ tt) in
-    omega arith
+call_few_after {flags} frame info old mid p = omega (arith, alone_long (call_slots flags frame info []) old mid p, (call_contents (context_by flags frame []) info nothing).long, call_few flags 8 info.callee_pop_size (lit≤ tt))
 
 pub call_ind_few_after : {flags : IsaFlags} (frame : FrameLayout) (info : CallInfo Reg) (old mid : Buffer) → PutsAlone flags (call_ind_slots flags frame info []) old mid → length (bytes_of mid) ≤ length (bytes_of old) + 32
 call_ind_few_after {flags} frame info old mid p =
@@ -108,3 +82,111 @@ call_ind_begins {flags} frame info old mid calm p =
     let few = (jalr_sized flags 1 (number_of info.dest) (pos 0)).few in
     begun (call_size flags (short_jalr flags 1 (number_of info.dest) (pos 0)).len info.callee_pop_size) _ old mid (call_few flags (short_jalr flags 1 (number_of info.dest) (pos 0)).len info.callee_pop_size (omega arith)) calm
     (words_of context (CallInd info) (call_ind_slots flags frame info []) old mid (call_ind_contents context info nothing) p)
+
+-- ---- how many there are
+
+typed_one : (register offset : ℕ) (op : Option LoadOP) → IsSome op → length (typed_loads register offset op) ≡ 1
+typed_one register offset None some = absurd (cc)
+typed_one register offset (Some op) some = refl
+
+typed_few : (register offset : ℕ) (op : Option LoadOP) → length (typed_loads register offset op) ≤ 1
+typed_few register offset None = lit≤ tt
+typed_few register offset (Some op) = lit≤ tt
+
+-- from the first on
+abbrev stacked_in : List CallRetPair → ℕ
+stacked_in [] = 0
+stacked_in (d ∷ defs) = cond (is_stacked d) (1 + stacked_in defs) (stacked_in defs)
+
+stacked_counted : (defs : List CallRetPair) → stacked_in defs ≡ count_by is_stacked defs
+stacked_counted = is_count_by stacked_in is_stacked refl (λ d defs. refl)
+
+-- a load for each result on the stack
+each_loads : (r : Reg) (location : RetLocation) (m n : ℕ) → IsFineResult r location → m ≡ n → length (location_loads r location) + m ≡ cond (is_on_stack location) (1 + n) n
+each_loads r (InReg s) m n fine rest = omega arith
+each_loads r (OnStack offset type) m n fine rest = let single = typed_one (number_of r) offset (result_load type) fine.1 in omega arith
+
+all_load : (defs : List CallRetPair) → AreFineResults defs → length (result_loads defs) ≡ stacked_in defs
+all_load [] h = refl
+all_load (d ∷ defs) h = length-append (location_loads d.vreg.reg d.location) (result_loads defs) ∙ each_loads d.vreg.reg d.location (length (result_loads defs)) (stacked_in defs) h.0 (all_load defs h.1)
+
+pub results_counted : (defs : List CallRetPair) → AreFineResults defs → length (result_loads defs) ≡ count_by is_stacked defs
+results_counted defs h = all_load defs h ∙ stacked_counted defs
+
+-- no more for some of the results
+one_few : (r : Reg) (location : RetLocation) (m n : ℕ) → m ≤ n → length (location_loads r location) + m ≤ cond (is_on_stack location) (1 + n) n
+one_few r (InReg s) m n le = omega arith
+one_few r (OnStack offset type) m n le = let few = typed_few (number_of r) offset (result_load type) in omega arith
+
+front_few : (defs : List CallRetPair) (k : ℕ) → length (result_loads (take k defs)) ≤ stacked_in defs
+front_few [] zero = lit≤ tt
+front_few [] (suc k) = lit≤ tt
+front_few (d ∷ defs) zero = omega arith
+front_few (d ∷ defs) (suc k) = omega (arith, length-append (location_loads d.vreg.reg d.location) (result_loads (take k defs)), one_few d.vreg.reg d.location (length (result_loads (take k defs))) (stacked_in defs) (front_few defs k))
+
+some_few : (defs : List CallRetPair) (k : ℕ) → length (result_loads (take k defs)) ≤ count_by is_stacked defs
+some_few defs k = let few = front_few defs k in let same = stacked_counted defs in omega arith
+
+-- ---- one more
+
+results_both : (first more : List CallRetPair) → result_loads (first ++ more) ≡ result_loads first ++ result_loads more
+results_both [] more = refl
+results_both (d ∷ first) more = let own = location_loads d.vreg.reg d.location in ap (λ loads. own ++ loads) (results_both first more) ∙ sym (append_assoc own (result_loads first) (result_loads more))
+
+results_more : (defs : List CallRetPair) (k : ℕ) (d : CallRetPair) → k < length defs → result_loads (take (k + 1) defs) ≡ result_loads (take k defs) ++ location_loads (get_or defs k d).vreg.reg (get_or defs k d).location
+results_more defs k d lt = ap result_loads (take_more defs k d lt) ∙ results_both (take k defs) (get_or defs k d ∷ []) ∙ ap (λ loads. result_loads (take k defs) ++ loads) (append-nil (location_loads (get_or defs k d).vreg.reg (get_or defs k d).location))
+
+pub result_put : {flags : IsaFlags} (defs : List CallRetPair) (k : ℕ) (d : CallRetPair) (old mid new : Buffer) → k < length defs → PutsAlone flags (stack_load_slots flags (result_loads (take k defs))) old mid → PutsAlone flags (stack_load_slots flags (location_loads (get_or defs k d).vreg.reg (get_or defs k d).location)) mid new → PutsAlone flags (stack_load_slots flags (result_loads (take (k + 1) defs))) old new
+result_put {flags} defs k d old mid new lt p q =
+    let before = result_loads (take k defs) in
+    let next = location_loads (get_or defs k d).vreg.reg (get_or defs k d).location in
+    subst (λ slots. PutsAlone flags slots old new) (sym (ap (stack_load_slots flags) (results_more defs k d lt) ∙ loads_both flags before next))
+    (both_alone (stack_load_slots flags before) (stack_load_slots flags next) old mid new (loads_plain flags before) p q)
+
+-- how long they are at most
+front_fine : (defs : List CallRetPair) (k : ℕ) → AreFineResults defs → AreFineResults (take k defs)
+front_fine [] zero h = tt
+front_fine [] (suc k) h = tt
+front_fine (d ∷ defs) zero h = tt
+front_fine (d ∷ defs) (suc k) h = (h.0, front_fine defs k h.1)
+
+pub results_long : {flags : IsaFlags} (defs : List CallRetPair) (k : ℕ) (old new : Buffer) → AreFineResults defs → PutsAlone flags (stack_load_slots flags (result_loads (take k defs))) old new → length (bytes_of new) ≤ length (bytes_of old) + 28 * count_by is_stacked defs
+results_long {flags} defs k old new h p = let a = loads_room (result_loads (take k defs)) old new (results_short flags (take k defs) (front_fine defs k h)) p in let b = some_few defs k in omega arith
+
+pub all_long : {flags : IsaFlags} (defs : List CallRetPair) (old new : Buffer) → AreFineResults defs → PutsAlone flags (stack_load_slots flags (result_loads defs)) old new → length (bytes_of new) ≤ length (bytes_of old) + 28 * count_by is_stacked defs
+all_long {flags} defs old new h p = results_long defs (length defs) old new h (subst (λ ds. PutsAlone flags (stack_load_slots flags (result_loads ds)) old new) (sym (take_all (length defs) defs (omega arith))) p)
+
+-- the result of an index is fine
+pub each_fine : (defs : List CallRetPair) (k : ℕ) (d : CallRetPair) → AreFineResults defs → k < length defs → IsFineResult (get_or defs k d).vreg.reg (get_or defs k d).location
+each_fine [] k d h lt = absurd (omega arith)
+each_fine (r ∷ defs) zero d h lt = h.0
+each_fine (r ∷ defs) (suc k) d h lt = each_fine defs k d h.1 (omega arith)
+
+-- ---- one of them
+
+-- a result's load is that of its type
+pub typed_is : (type : IrType) → IsSome (result_load type) → result_load type ≡ load_of type
+typed_is I8 some = refl
+typed_is I16 some = refl
+typed_is I32 some = refl
+typed_is I64 some = refl
+typed_is F16 some = refl
+typed_is F32 some = refl
+typed_is F64 some = refl
+typed_is _ some = absurd (cc)
+
+pub typed_put : {flags : IsaFlags} (register offset : ℕ) (op : LoadOP) (found : Option LoadOP) (old new : Buffer) → found ≡ Some op → PutsAlone flags (load_line_slots flags register op None (Based 2 (pos offset))) old new → PutsAlone flags (stack_load_slots flags (typed_loads register offset found)) old new
+typed_put {flags} register offset op found old new is p =
+    subst (λ o. PutsAlone flags (stack_load_slots flags (typed_loads register offset o)) old new) (sym is)
+    (subst (λ slots. PutsAlone flags slots old new) (sym (append-nil (load_line_slots flags register op None (Based 2 (pos offset))))) p)
+
+-- ---- an island, and all of them after it
+
+pub results_room : (space more : ℕ) (old new : Buffer) (made : Bool) → length (bytes_of old) + more + reserve_of (shape_of old) + 8 * length (pending old) + 64 < code_limit → IslandIfNeeded space old new made → length (bytes_of new) + more + 47 < code_limit
+results_room space more old new made room m = ⊎_elim
+    (λ (same : (made ≡ false) × (new ≡ old)). let e : length (bytes_of new) ≡ length (bytes_of old) = ap (λ (b : Buffer). length (bytes_of b)) same.1 in omega arith)
+    (λ (put : (made ≡ true) × AppendsIsland old new). let short = put.1.short in omega arith)
+    m.put
+
+pub asked_put : {flags : IsaFlags} (defs : List CallRetPair) (t : Option TryCallInfo) (space : ℕ) (old mid last new : Buffer) (made : Bool) → space ≡ results_space (result_loads defs) → IslandIfNeeded space old mid made → PutsAlone flags (stack_load_slots flags (result_loads defs)) mid last → PutsAlone flags (try_slots flags t) last new → PutsParts flags (Ask (results_space (result_loads defs)) ∷ Slots (stack_load_slots flags (result_loads defs) ++ try_slots flags t) ∷ []) old new
+asked_put {flags} defs t space old mid last new made is island p q = (mid, made, subst (λ n. IslandIfNeeded n old mid made) is island, both_alone (stack_load_slots flags (result_loads defs)) (try_slots flags t) mid last new (loads_plain flags (result_loads defs)) p q)

@@ -1,43 +1,8 @@
 -- What was put runs wherever it stands in finished code, and leaves a buffer into which more can be put.
-use Rattle.std.proofs.Common.{◌≡◌, ℕ, ◌%◌, ◌<◌, ◌≤◌, Bool, false, List, [], length, Option, Some, None, refl, ap, sym, ◌∙◌, subst, arith}
-use Rattle.std.specs.Prelude.{slice_get}
-use Rattle.rv_base.specs.Flags.{no_flags}
-use Rattle.rv_base.specs.declared.flags.IsaFlags.{IsaFlags}
-use Rattle.rv_base.specs.LabelUse.{code_limit}
-use Rattle.rv_base.specs.declared.call.UserStackMap.{UserStackMap}
-use Rattle.rv_base.specs.declared.label.MachLabel.{MachLabel}
-use Rattle.rv_inst.specs.Context.{Context}
-use Rattle.rv_inst.specs.Frames.{is_bad_frame_for}
-use Rattle.rv_inst.specs.LabelUse.{label_kinds}
-use Rattle.rv_inst.specs.Operands.{inst_constant, named_by, tail_call_of}
-use Rattle.rv_inst.specs.Rules.{inst_rule}
-use Rattle.rv_inst.specs.declared.inst.Inst.{Inst}
-use Rattle.rv_inst.specs.declared.inst.Inst.TheVariants.{Call, CallInd}
-use Rattle.rv_inst.specs.declared.label_use.LabelUse.{LabelUse}
-use Rattle.mach_records.specs.declared.records.ConstPlace.{ConstPlace}
-use Rattle.mach_records.specs.declared.records.MachRecord.{MachRecord}
-use Rattle.mach_uses.specs.declared.uses.Use.{Use}
-use Rattle.mach_buffer.specs.Buffer.{shape_of, bytes_of, uses_of, records_of, named_of, constants_of, place_of}
-use Rattle.mach_buffer.specs.Constants.{AllStand}
-use Rattle.mach_buffer.specs.Windows.{AreWindows}
-use Rattle.mach_buffer.specs.Growth.{Lasts}
-use Rattle.mach_buffer.specs.Shape.{Shape, with_label}
-use Rattle.mach_buffer.proofs.Laws.{even_length, lasts_label, stands_last, windows_none}
-use Rattle.rv_code.specs.InstParts.{parts_of}
-use Rattle.rv_code.specs.Sites.{Site, PartsStand}
-use Rattle.rv_code.specs.declared.state.EmitVState.{EmitVState}
-use Rattle.rv_code.proofs.CallRuns.{inst_resumes}
-use Rattle.rv_code.proofs.FullInstRuns.{resumes_fully, runs_fully}
-use Rattle.rv_code.proofs.InstRuns.{inst_runs}
-use Rattle.rv_code.proofs.OneOperations.{reads_operation}
-use Rattle.rv_emit.specs.Emission.{EmitsIn}
-use Rattle.rv_emit.specs.EmitRuns.{IsBuilt, HasCode, RunsBetween, EmitsRun, GapLeads}
-use Rattle.rv_emit.specs.Emitted.{Buffer, IsSoundBuffer, CanEmit, IslandIfNeeded}
-use Rattle.rv_emit.specs.Images.{FieldsStand}
-use Rattle.rv_emit.specs.StackMaps.{with_map}
-use Rattle.rv_emit.specs.Standing.{PartsIn}
-use Rattle.rv_emit.proofs.InstKeeps.{appended_records, appended_named, emitted_keeps}
-use Rattle.rv_emit.proofs.InstSlots.{parts_are_self_contained}
+use Rattle.rv_emit.proofs.Terms.{◌≡◌, ℕ, ◌%◌, ◌<◌, ◌≤◌, Bool, false, List, [], length, Option, Some, None, refl, ap, sym, ◌∙◌, subst, arith, slice_get, no_flags, IsaFlags, code_limit, UserStackMap, MachLabel, Context, is_bad_frame_for, label_kinds, inst_constant, named_by, tail_call_of, inst_rule}
+use Rattle.rv_emit.proofs.Terms.{Inst, Call, CallInd, LabelUse, ConstPlace, MachRecord, Use, shape_of, bytes_of, uses_of, records_of, named_of, constants_of, place_of, AllStand, AreWindows, Lasts, Shape, with_label, even_length, lasts_label, stands_last, windows_none, parts_of, Site, PartsStand}
+use Rattle.rv_emit.proofs.Terms.{EmitVState, inst_resumes, resumes_fully, runs_fully, inst_runs, reads_operation, EmitsIn, IsBuilt, HasCode, RunsBetween, EmitsRun, GapLeads, Buffer, IsSoundBuffer, CanEmit, IslandIfNeeded, FieldsStand, with_map, PartsIn}
+use Rattle.rv_emit.proofs.InstSlots.{appended_records, appended_named, emitted_keeps, parts_are_self_contained}
 use Rattle.rv_emit.proofs.PartsInBuffer.{gap_last, GapPut, gap_put, parts_last, PartsPut, parts_put}
 use Rattle.rv_emit.proofs.StackMaps.{can_given}
 use Rattle.rv_emit.proofs.Standing.{gap_stands, parts_stand}
@@ -56,17 +21,10 @@ module _ (setting : EmitVState) (inst : Inst) (start end : ℕ) (f : Shape Label
       parts_stand site f code.bytes code.finished code.keeps code.place code.records code.fields code.filled (parts_of site.context setting inst) start end (parts_are_self_contained site.context setting inst rule) even (omega (arith, inside, longer, whole)) there
 
   short : length site.bytes < code_limit
-  short =
-      let whole = long in
-      let ends = code.finished.finishes.long in
-      let limit = code.finished.can.short in
-      omega (arith, whole, ends, limit)
+  short = omega (arith, long, code.finished.finishes.long, code.finished.can.short)
 
   bound : (label at : ℕ) → site.place label ≡ Some at → at ≤ length site.bytes
-  bound label at e =
-      let within = (code.finished.finishes.places label at (ap (λ (p : ℕ → Option ℕ). p label) (sym code.place) ∙ e)).0 in
-      let whole = long in
-      omega (arith, within, whole)
+  bound label at e = omega (arith, ((code.finished.finishes.places label at (ap (λ (p : ℕ → Option ℕ). p label) (sym code.place) ∙ e)).0), long)
 
   parts_run : RunsBetween site inst start end
   parts_run = record {

@@ -1,38 +1,10 @@
--- An island of a buffer is one in the finished code.
-use Rattle.std.proofs.Common.{◌≡◌, ◌⊎◌, ℕ, ◌+◌, ◌^◌, ◌≤◌, inl, inr, ⊎_elim, [], ◌∷◌, List, length, Some, pos, ◌-ℤ◌, arith, refl, ap, sym, subst, ◌∙◌, true}
-use Rattle.std.specs.FinMap as map
-use Rattle.std.proofs.lemmas.Option.{same_Some}
-use Rattle.rv_base.specs.declared.flags.IsaFlags.{IsaFlags}
-use Rattle.rv_machine.specs.declared.decoding.Decoded.{Decoded}
-use Rattle.rv_machine.specs.Decode.{int_decode, decode}
-use Rattle.rv_machine.proofs.UnitOperations.{is_integer, integer_decodes}
-use Rattle.rv_machine.specs.State.{Memory, byte, store, wrap}
-use Rattle.rv_machine.specs.Steps.{fetch}
-use Rattle.rv_machine.proofs.Images.{byte_stored}
-use Rattle.rv_inst.specs.Context.{Context}
-use Rattle.rv_inst.specs.Islands.{word_in, GoesOn, IsIsland}
-use Rattle.rv_inst.specs.declared.label_use.LabelUse.{LabelUse}
-use Rattle.rv_inst.specs.declared.label_use.LabelUse.TheVariants.{Jal20}
-use Rattle.rv_inst.specs.LabelUse.{label_kinds, veneer_of}
-use Rattle.rv_inst.specs.Uses.{use_at}
-use Rattle.mach_uses.specs.declared.uses.Use.{Use}
-use Rattle.mach_buffer.specs.Shape.{Shape}
-use Rattle.mach_buffer.specs.Finish.{IsVia}
-use Rattle.mach_buffer.specs.Growth.{Lasts}
-use Rattle.mach_uses.specs.Windows.{window}
-use Rattle.mach_buffer.specs.Pieces.{ByVeneer, UseFinished}
-use Rattle.mach_buffer.proofs.Laws.{lasts_more}
-use Rattle.rv_code.specs.InstParts.{wide_jump_to}
-use Rattle.rv_code.specs.Operations.{decoded_jump}
-use Rattle.rv_code.specs.Slots.{Label, between}
-use Rattle.rv_code.specs.Sites.{Site, BytesAt, CodeHas}
-use Rattle.rv_emit.specs.Images.{KeepsOutside}
-use Rattle.rv_emit.specs.Puts.{AllBytes}
-use Rattle.rv_emit.specs.Standing.{IslandIn, GapStandsIn, IsFinishedTo}
-use Rattle.rv_emit.proofs.PlacedBytes.{window_length, window_there}
-use Rattle.rv_emit.proofs.BufferAfterSlots.{slot_bytes, lasts_after_slots}
+-- Islands in the finished code, and where jumps and branches aim.
+use Rattle.rv_emit.proofs.Terms.{◌≡◌, ◌⊎◌, ℕ, ◌+◌, ◌^◌, ◌≤◌, inl, inr, ⊎_elim, [], ◌∷◌, List, length, Some, pos, ◌-ℤ◌, arith, refl, ap, sym, subst, ◌∙◌, true, ℤ, same_Some, IsaFlags, Decoded, int_decode, decode, is_integer, integer_decodes, Memory, store, fetch, byte_stored, Context, word_in}
+use Rattle.rv_emit.proofs.Terms.{GoesOn, IsIsland, LabelUse, Jal20, label_kinds, veneer_of, use_at, Use, Shape, IsVia, Lasts, window, ByVeneer, UseFinished, lasts_more, wide_jump_to, decoded_jump, Label, between, Aim, Site, BytesAt, CodeHas, KeepsOutside, FieldsEnd, AllBytes, PutsSlot, IslandIn}
+use Rattle.rv_emit.proofs.Terms.{GapStandsIn, IsFinishedTo, slot_bytes, lasts_after_slots, slice_get, MachLabel, is_reached, get_or, drop, get_or-drop, length-drop, slice_index, word_there}
+use Rattle.rv_emit.proofs.VeneerRuns.{window_length, window_there, via_decodes, pair_there, rest_there}
 use Rattle.rv_emit.proofs.Standing.{aim_finished, aim_has, within}
-use Rattle.rv_emit.proofs.VeneerRuns.{via_decodes, pair_there}
+use Rattle.std.specs.FinMap as map
 
 -- ---- bytes in a memory of their own
 
@@ -45,15 +17,9 @@ stored bytes le = record { room = omega arith; there = λ k lt. byte_stored map.
 
 word_fetched : (mem : Memory) (bytes : List ℕ) (at : ℕ) → at + 4 ≤ length bytes → BytesAt mem 0 bytes → fetch mem (0 + at) ≡ word_in bytes at
 word_fetched mem bytes at le placed =
-    let room = placed.room in
-    let a1 : wrap (0 + at + 1) ≡ 0 + (at + 1) = omega arith in
-    let a2 : wrap (0 + at + 2) ≡ 0 + (at + 2) = omega arith in
-    let a3 : wrap (0 + at + 3) ≡ 0 + (at + 3) = omega arith in
-    let e0 = placed.there at (omega arith) in
-    let e1 : byte mem (wrap (0 + at + 1)) ≡ _ = ap (byte mem) a1 ∙ placed.there (at + 1) (omega arith) in
-    let e2 : byte mem (wrap (0 + at + 2)) ≡ _ = ap (byte mem) a2 ∙ placed.there (at + 2) (omega arith) in
-    let e3 : byte mem (wrap (0 + at + 3)) ≡ _ = ap (byte mem) a3 ∙ placed.there (at + 3) (omega arith) in
-    omega arith
+    let there = word_there mem (0 + at) (drop at bytes) (omega (arith, length-drop at bytes)) (rest_there mem 0 bytes at (omega arith) placed) in
+    let first : get_or (drop at bytes) 0 0 ≡ slice_index bytes at = get_or-drop at bytes 0 0 ∙ ap (slice_index bytes) (omega arith) in
+    omega (arith, get_or-drop at bytes 1 0, get_or-drop at bytes 2 0, get_or-drop at bytes 3 0)
 
 -- an operation that stands there stands in the bytes
 op_in : (flags : IsaFlags) (mem : Memory) (bytes : List ℕ) (at a : ℕ) (d : Decoded) → is_integer d.op ≡ true → at + 4 ≤ length bytes → BytesAt mem 0 bytes → a ≡ 0 + at → decode flags (fetch mem a) ≡ Some d → int_decode flags (word_in bytes at) ≡ Some d
@@ -129,3 +95,25 @@ module _ (context : Context) (f : Shape LabelUse) (bytes : List ℕ) (fin : IsFi
   -- nothing, or an island
   pub gap_is : (from to : ℕ) → GapStandsIn context.flags f from to → (from ≡ to) ⊎ IsIsland context.flags bytes from to
   gap_is from to gap = ⊎_elim (λ here. inl here) (λ i. inr (island_is from to i)) gap
+
+-- ---- labels
+
+-- operations stand at an offset, by the distance to a label's place or to a veneer that goes there; straight where the use still had
+-- none in a buffer, and its label in reach
+pub record GoesToLabel (site : Site) (f : Shape LabelUse) (final : List ℕ) (index at : ℕ) (kind : LabelUse) (label : MachLabel) (ops : ℤ → List Decoded) (to : ℕ) : Type 0 where
+  pub target : ℕ
+  pub has : CodeHas site at (ops (between at target))
+  pub leads : (target ≡ to) ⊎ GoesOn site.context.flags final target to
+  pub straight : slice_get f.uses index ≡ Some (use_at at label kind) → is_reached label_kinds (f.place label.number) (use_at at label kind) ≡ true → target ≡ to
+
+pub label_reached : (site : Site) (f : Shape LabelUse) (final : List ℕ) (fin : IsFinishedTo f final) → KeepsOutside site final → site.place ≡ fin.finishes.put.place → site.records ≡ f.records → length final ≤ 2 ^ 64 → (allocated : ℕ) (kind : LabelUse) (label : MachLabel) (ops : ℤ → List Decoded) (s mid : Shape LabelUse) → PutsSlot site.context.flags allocated (Aim kind (Label label) ops) s mid → FieldsEnd s → Lasts label_kinds mid f → (to : ℕ) → fin.finishes.put.place label.number ≡ Some to → GoesToLabel site f final (length s.uses) (length s.bytes) kind label ops to
+label_reached site f final fin keeps same same_records small allocated kind label ops s mid p fields lasts to bound =
+    let x = aim_finished site f final fin keeps same same_records allocated kind (Label label) ops s mid p lasts in
+    let long = slot_bytes site.context.flags allocated (Aim kind (Label label) ops) s mid p in
+    let room = within site f final fin keeps same same_records mid lasts in
+    record {
+      target = x.target;
+      has = aim_has site f final fin keeps same same_records allocated kind (Label label) ops s mid p fields lasts (omega arith) x;
+      leads = ⊎_elim (λ here. inl (same_Some x.target to (sym here ∙ bound))) (λ g. inr (veneer_goes_on site.context f final fin small (use_at (length s.bytes) label kind) x.target to bound g)) x.goes;
+      straight = λ there reached. same_Some x.target to (sym (x.straight there reached) ∙ bound);
+    }

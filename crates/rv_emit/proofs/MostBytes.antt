@@ -1,60 +1,14 @@
 -- An instruction that breaks no rule has at most as many bytes as its kind may.
-use Rattle.std.proofs.Common.{◌≡◌, ◌⊎◌, inl, inr, ℕ, ◌+◌, ◌*◌, ◌/◌, ◌≤◌, Bool, true, false, List, [], ◌∷◌, ◌++◌, length, Option, Some, None, refl, subst, arith, lit≤}
-use Rattle.std.specs.Prelude.{ℤ, pos, ◌-ℤ◌, cond, count_by, if◌then◌else◌}
-use Rattle.std.proofs.lemmas.List.{length-append}
-use Rattle.std.proofs.lemmas.List.Recursion.{is_count_by}
-use Rattle.rv_base.specs.Frame.{sp_to_fp_of}
-use Rattle.rv_base.specs.declared.amode.AMode.{AMode}
-use Rattle.rv_base.specs.declared.amode.AMode.TheVariants.{RegOffset, SPOffset, FPOffset, SlotOffset, IncomingArg, Const, Label as LabelAt}
-use Rattle.rv_base.specs.declared.call.CallRetPair.{CallRetPair}
-use Rattle.rv_base.specs.declared.call.RetLocation.{RetLocation}
+use Rattle.rv_emit.proofs.Terms.{◌≡◌, ◌⊎◌, inl, inr, ℕ, ◌+◌, ◌*◌, ◌/◌, ◌≤◌, Bool, true, false, List, [], ◌∷◌, ◌++◌, length, Option, Some, None, refl, subst, arith, lit≤, pos, ◌-ℤ◌, cond, count_by, if◌then◌else◌, length-append, is_count_by, sp_to_fp_of, AMode, RegOffset, CallRetPair, RetLocation}
+use Rattle.rv_emit.proofs.Terms.{TryCallInfo, Reg, load_size, ways_of, ways_by, inst_ways, address_targets, Nowhere, Branches, IsaFlags, FrameLayout, IrType, I32, I64, bits_of, code_limit, number_of, low_word, Or, LoadOP, Lh, StoreOP, Sh, has_load, has_store, Location, location_of, inline_size}
+use Rattle.rv_emit.proofs.Terms.{load_size_at, store_size_at, Context, short_jalr, boxing_size, high_bits, load_line_size, store_line_size, most_bytes, load_limit, store_limit, return_limit, call_limit, sequence_limit, StackLoad, saves_from, setup_loads, restores, frame_above, typed_loads}
+use Rattle.rv_emit.proofs.Terms.{location_loads, result_loads, loads_unless, result_load, is_word_type, is_on_stack, is_stacked, inst_rule, space_in, extra_in, words_in, extent_of, island_space, inst_sum, branch_size, return_size, fall, call_extent, CondBrTarget, Fallthrough, Inst, Nop0, Nop4}
+use Rattle.rv_emit.proofs.Terms.{EBreak, SequencePoint, Args, Rets, DummyUse, EmitIsland, RawData, Lui, Auipc, LoadInlineConst, AluRRR, AluRRImm12, Mov, MovFromPReg, Extend, Select, Load, Store, LoadAddr, LabelAddress, Ret, TrapIf, Jal, CondBr, BrTable, Udf, Jalr, Popcnt, Cltz, Brev8}
+use Rattle.rv_emit.proofs.Terms.{StackProbeLoop, LoadExtNameGot, LoadExtNameNear, LoadExtNameFar, Call, CallInd, ReturnCall, ReturnCallInd, Unwind, mov_made, mov_from_preg_made, extend_made, select_made, fine, address_short, load_short, store_short, keeps, data_kept, constant_kept, probe_short}
+use Rattle.rv_emit.proofs.Terms.{rrr_sized, rri_sized, lui_sized, jalr_sized, ebreak_sized, least_few, table_short, AreShortLoads, loads_most, restores_short, results_short, unless_short, step_most, saves_long, setup_few, popcnt_made, zeros_made, reverse_made, made_short, trap_if_made, udf_made}
 use Rattle.rv_base.specs.declared.call.RetLocation.TheVariants.{Reg as InReg, Stack as OnStack}
-use Rattle.rv_base.specs.declared.call.TryCallInfo.{TryCallInfo}
-use Rattle.rv_base.specs.declared.regs.Reg.{Reg}
-use Rattle.rv_ops.specs.Memory.{load_size}
-use Rattle.rv_inst.specs.Operands.{ways_of, ways_by, inst_ways, address_targets}
-use Rattle.rv_inst.specs.declared.targets.Targets.TheVariants.{Nowhere, Branches}
-use Rattle.rv_base.specs.declared.flags.IsaFlags.{IsaFlags}
-use Rattle.rv_base.specs.declared.frame.FrameLayout.{FrameLayout}
-use Rattle.rv_base.specs.declared.ir_type.IrType.{IrType}
-use Rattle.rv_base.specs.declared.ir_type.IrType.TheVariants.{I32, I64}
-use Rattle.rv_base.specs.IrType.{bits_of}
-use Rattle.rv_base.specs.LabelUse.{code_limit}
-use Rattle.rv_base.specs.Regs.{number_of}
-use Rattle.rv_machine.specs.Arithmetic.{low_word}
-use Rattle.rv_machine.specs.declared.decoding.Decoded.{Decoded}
-use Rattle.rv_ops.specs.declared.alu.AluOPRRR.TheVariants.{Add, Or}
-use Rattle.rv_ops.specs.declared.alu.AluOPRRI.TheVariants.{Addi}
-use Rattle.rv_ops.specs.declared.memory.LoadOP.{LoadOP}
-use Rattle.rv_ops.specs.declared.memory.LoadOP.TheVariants.{Lh}
-use Rattle.rv_ops.specs.declared.memory.StoreOP.{StoreOP}
-use Rattle.rv_ops.specs.declared.memory.StoreOP.TheVariants.{Sh}
-use Rattle.rv_encode.specs.Operations.{has_load, has_store}
-use Rattle.rv_inst.specs.Addresses.{Location, Based, AtLabel, AtConstant, location_of, is_near, inline_size, far_address_size, address_size, load_size_at, store_size_at}
-use Rattle.rv_inst.specs.Context.{Context}
-use Rattle.rv_inst.specs.Forms.{short_lui, short_rri, short_rrr, short_jalr, short_load, short_store}
-use Rattle.rv_inst.specs.Halves.{boxing_size, high_bits, load_line_size, store_line_size}
-use Rattle.rv_inst.specs.MostBytes.{most_bytes, load_limit, store_limit, return_limit, call_limit, sequence_limit}
-use Rattle.rv_inst.specs.Returns.{StackLoad, saves_from, setup_loads, restores, frame_above, typed_loads, location_loads, result_loads, loads_unless, result_load}
-use Rattle.rv_inst.specs.Rules.{is_word_type, is_on_stack, is_stacked, inst_rule}
-use Rattle.rv_inst.specs.Sizes.{space_in, extra_in, words_in, extent_of, island_space, inst_sum, branch_size, return_size, fall, call_extent}
-use Rattle.rv_inst.specs.declared.inst.CondBrTarget.{CondBrTarget}
-use Rattle.rv_inst.specs.declared.inst.CondBrTarget.TheVariants.{Label, Fallthrough}
-use Rattle.rv_inst.specs.declared.inst.Inst.{Inst}
-use Rattle.rv_inst.specs.declared.inst.Inst.TheVariants.{Nop0, Nop4, EBreak, SequencePoint, Args, Rets, DummyUse, EmitIsland, RawData, Lui, Auipc, LoadInlineConst, AluRRR, AluRRImm12, Mov, MovFromPReg, Extend, Select, Load, Store, LoadAddr, LabelAddress, Ret, TrapIf, Jal, CondBr, BrTable, Udf, Jalr, Popcnt, Cltz, Brev8, StackProbeLoop, LoadExtNameGot, LoadExtNameNear, LoadExtNameFar, Call, CallInd, ReturnCall, ReturnCallInd, Unwind}
+use Rattle.rv_inst.specs.declared.inst.CondBrTarget.TheVariants.{Label}
 use Rattle.rv_emit.proofs.CallSlots.{try_few}
-use Rattle.rv_code.proofs.ChoicePieces.{mov_made, mov_from_preg_made, extend_made, select_made}
-use Rattle.rv_code.proofs.FineOperands.{fine}
-use Rattle.rv_code.proofs.OffsetSizes.{far_short}
-use Rattle.rv_code.proofs.Operands.{keeps, data_kept, constant_kept}
-use Rattle.rv_code.proofs.ProbeSlots.{probe_short}
-use Rattle.rv_code.proofs.ShortOps.{HasSize, rrr_sized, rri_sized, lui_sized, jalr_sized, ebreak_sized, load_sized, store_sized, least_few}
-use Rattle.rv_code.proofs.TableSlots.{table_short}
-use Rattle.rv_code.proofs.ShortLoads.{AreShortLoads, loads_most, restores_short, results_short, unless_short}
-use Rattle.rv_code.proofs.TailSlots.{step_most, saves_long, setup_few}
-use Rattle.rv_code.proofs.CountSlots.{popcnt_made, zeros_made, reverse_made}
-use Rattle.rv_code.proofs.MadeOfPieces.{made_short}
-use Rattle.rv_code.proofs.TrapSlots.{trap_if_made, udf_made}
 
 -- ---- pieces
 
@@ -66,29 +20,6 @@ constant_short : (flags : IsaFlags) (type : IrType) → is_word_type type ≡ tr
 constant_short flags I32 word = let few = least_few flags in omega arith
 constant_short flags I64 word = let few = least_few flags in omega arith
 constant_short flags _ word = absurd (cc)
-
-address_short : (flags : IsaFlags) (rd : ℕ) (at : Location) → address_size flags rd at ≤ 24
-address_short flags rd (Based r o) = on (is_near o)
-  where
-    on : (c : Bool) → (if c then (short_rri flags Addi rd r o).len else far_address_size flags rd r o) ≤ 24
-    on true = let few = (rri_sized flags Addi rd r o).few in omega arith
-    on false = let far = far_short flags rd o in let few = (rrr_sized flags Add rd rd r).few in omega arith
-address_short flags rd (AtLabel l) = omega arith
-address_short flags rd (AtConstant k) = omega arith
-
-access_short : (flags : IsaFlags) (near : Decoded) (r : ℕ) (o : ℤ) (c : Bool) → HasSize near → (if c then near.len else far_address_size flags 31 r o + 4) ≤ 28
-access_short flags near r o true size = let few = size.few in omega arith
-access_short flags near r o false size = let far = far_short flags 31 o in let few = (rrr_sized flags Add 31 31 r).few in omega arith
-
-pub load_short : (flags : IsaFlags) (op : LoadOP) (rd : ℕ) (at : Location) → load_size_at flags op rd at ≤ 28
-load_short flags op rd (Based r o) = access_short flags (short_load flags op rd r o) r o (is_near o) (load_sized flags op rd r o)
-load_short flags op rd (AtLabel l) = omega arith
-load_short flags op rd (AtConstant k) = omega arith
-
-pub store_short : (flags : IsaFlags) (op : StoreOP) (src : ℕ) (at : Location) → store_size_at flags op src at ≤ 28
-store_short flags op src (Based r o) = access_short flags (short_store flags op r src o) r o (is_near o) (store_sized flags op r src o)
-store_short flags op src (AtLabel l) = omega arith
-store_short flags op src (AtConstant k) = omega arith
 
 -- a half by integer registers has three words more, or one
 load_line_short : (flags : IsaFlags) (op : LoadOP) (rd : ℕ) (at : Location) → load_line_size flags op rd at ≤ load_limit flags op
@@ -130,11 +61,7 @@ return_short flags frame arguments = let a = loads_most flags (restores frame) (
 
 call_words : (flags : IsaFlags) (own jump popped : ℕ) (loads : List StackLoad) (t : Option TryCallInfo) → jump ≤ own → AreShortLoads flags loads → words_in (call_extent flags jump popped loads t) ≤ call_limit own loads
 call_words flags own jump popped [] t le short = let step = step_most flags (fall popped) in let few = try_few flags t in omega (arith, le, step, few)
-call_words flags own jump popped (l ∷ loads) t le short =
-    let step = step_most flags (fall popped) in
-    let most = loads_most flags (l ∷ loads) short in
-    let few = try_few flags t in
-    omega (arith, le, step, most, few)
+call_words flags own jump popped (l ∷ loads) t le short = omega (arith, le, step_most flags (fall popped), loads_most flags (l ∷ loads) short, try_few flags t)
 
 call_extra : (flags : IsaFlags) (jump popped : ℕ) (loads : List StackLoad) (t : Option TryCallInfo) → extra_in (call_extent flags jump popped loads t) ≡ 0
 call_extra flags jump popped [] t = refl
@@ -161,10 +88,7 @@ loads_few (d ∷ defs) = by d.vreg.reg d.location (loads_few defs)
   where
     by : (r : Reg) (location : RetLocation) → length (result_loads defs) ≤ stacked_count defs → length (location_loads r location ++ result_loads defs) ≤ cond (is_on_stack location) (1 + stacked_count defs) (stacked_count defs)
     by r (InReg s) rest = rest
-    by r (OnStack offset type) rest =
-        let both = length-append (location_loads r (OnStack offset type)) (result_loads defs) in
-        let one = type_counts (number_of r) offset (result_load type) in
-        omega (arith, both, one, rest)
+    by r (OnStack offset type) rest = omega (arith, length-append (location_loads r (OnStack offset type)) (result_loads defs), type_counts (number_of r) offset (result_load type), rest)
 
 loads_counted : (defs : List CallRetPair) → length (result_loads defs) ≤ count_by is_stacked defs
 loads_counted defs = subst (λ n. length (result_loads defs) ≤ n) (is_count_by stacked_count is_stacked refl (λ d more. refl) defs) (loads_few defs)
@@ -180,26 +104,17 @@ try_ways (Some t) = lit≤ tt
 
 branch_ways : (t f : CondBrTarget) → length (ways_of (Branches t f)) ≤ 2
 branch_ways Fallthrough Fallthrough = lit≤ tt
-branch_ways Fallthrough (Label f) = lit≤ tt
 branch_ways (Label t) Fallthrough = lit≤ tt
-branch_ways (Label t) (Label f) = lit≤ tt
+branch_ways t f = lit≤ tt
 
 address_ways : (read : ℕ) (at : AMode) → length (ways_of (address_targets read at)) ≡ 0
 address_ways read (RegOffset r o) = refl
-address_ways read (SPOffset o) = refl
-address_ways read (FPOffset o) = refl
-address_ways read (SlotOffset o) = refl
-address_ways read (IncomingArg o) = refl
-address_ways read (Const k) = refl
-address_ways read (LabelAt l) = refl
+address_ways read at = refl
 
 restores_few : (frame : FrameLayout) → length (restores frame) ≤ length frame.clobbered_callee_saves + 2
 restores_few frame =
     let from = pos (sp_to_fp_of frame) -ℤ pos 8 in
-    let both = length-append (saves_from from frame.clobbered_callee_saves) (setup_loads frame) in
-    let saves = saves_long from frame.clobbered_callee_saves in
-    let few = setup_few frame in
-    omega (arith, both, saves, few)
+    omega (arith, length-append (saves_from from frame.clobbered_callee_saves) (setup_loads frame), saves_long from frame.clobbered_callee_saves, setup_few frame)
 
 -- ---- the table
 

@@ -1,23 +1,6 @@
 -- The constants of an island, and those that the end puts, come after all bytes that stood before, one after the other.
-use Rattle.std.proofs.Common.{◌≡◌, ◌⊎◌, inl, inr, ⊎_elim, ℕ, zero, suc, ◌+◌, ◌-◌, ◌<◌, ◌≤◌, List, [], ◌∷◌, ◌++◌, length, Option, Some, None, refl, ap, sym, ◌∙◌, subst, arith}
-use Rattle.std.specs.Prelude.{slice_get}
-use Rattle.std.proofs.lemmas.List.{length-append}
-use Rattle.std.proofs.lemmas.Option.{same_Some}
-use Rattle.rv_base.specs.LabelUse.{Kinds}
-use Rattle.rv_base.specs.declared.constant.ConstAlign.{ConstAlign}
-use Rattle.rv_base.specs.declared.constant.ConstAlign.TheVariants.{A1, A2, A4, A8, A16}
-use Rattle.rv_base.specs.declared.constant.Constant.{Constant}
-use Rattle.rv_base.specs.declared.constant.VCodeConstant.{VCodeConstant}
-use Rattle.rv_base.specs.declared.label.MachLabel.{MachLabel}
-use Rattle.mach_records.specs.declared.records.ConstPlace.{ConstPlace}
-use Rattle.mach_uses.specs.declared.uses.Use.{Use}
-use Rattle.mach_buffer.specs.Shape.{Shape, with_bytes, unplaced_of}
-use Rattle.mach_buffer.specs.Constants.{zeros, aligned_to, put_constant_at, put_constant, put_each, put_constants}
-use Rattle.mach_buffer.specs.Veneers.{put_at, put_veneer, put_all}
-use Rattle.mach_buffer.specs.Islands.{Islanded, padding, padded, island_veneers}
-use Rattle.mach_buffer.specs.Finish.{Finishes, padded_for}
-use Rattle.mach_buffer.proofs.Laws.{below, locate}
-use Rattle.rv_emit.specs.NewConstants.{StandInTurn, AddsConstants}
+use Rattle.rv_emit.proofs.Terms.{◌≡◌, ◌⊎◌, inl, inr, ⊎_elim, ℕ, zero, suc, ◌+◌, ◌-◌, ◌<◌, ◌≤◌, List, [], ◌∷◌, ◌++◌, length, Option, Some, None, refl, ap, sym, ◌∙◌, subst, arith, slice_get, length-append, same_Some, Kinds, ConstAlign, A1, Constant, VCodeConstant, MachLabel, ConstPlace, Use, Shape}
+use Rattle.rv_emit.proofs.Terms.{with_bytes, unplaced_of, zeros, aligned_to, put_constant_at, put_constant, put_each, put_constants, put_at, put_veneer, put_all, Islanded, padding, padded, island_veneers, Finishes, padded_for, below, locate, StandInTurn, AddsConstants}
 
 -- ---- several steps
 
@@ -62,10 +45,7 @@ adds_bytes more s = let long = length-append s.bytes more in adds_none (omega (a
 
 aligned_after : (a : ConstAlign) (n : ℕ) → n ≤ aligned_to a n
 aligned_after A1 n = omega arith
-aligned_after A2 n = omega arith
-aligned_after A4 n = omega arith
-aligned_after A8 n = omega arith
-aligned_after A16 n = omega arith
+aligned_after a n = omega arith
 
 zeros_long : (n : ℕ) → length (zeros n) ≡ n
 zeros_long zero = refl
@@ -95,13 +75,7 @@ module _ {L : Type 0} (s : Shape L) (name : VCodeConstant) (constant : Constant)
   begins = aligned_after constant.align (length s.bytes)
 
   ends : length new.bytes ≡ at + length constant.bytes
-  ends =
-      let fill = zeros (at - length s.bytes) in
-      let whole = length-append (s.bytes ++ fill) constant.bytes in
-      let front = length-append s.bytes fill in
-      let filled = zeros_long (at - length s.bytes) in
-      let after = begins in
-      omega (arith, whole, front, filled, after)
+  ends = let fill = zeros (at - length s.bytes) in omega (arith, length-append (s.bytes ++ fill) constant.bytes, length-append s.bytes fill, zeros_long (at - length s.bytes), begins)
 
   stood_or_last : (j : ℕ) (c : ConstPlace) → slice_get new.constants j ≡ Some c → (slice_get s.constants j ≡ Some c) ⊎ ((j ≡ length s.constants) × (last ≡ c))
   stood_or_last j c h = before_or_last s.constants last j c h
@@ -109,26 +83,17 @@ module _ {L : Type 0} (s : Shape L) (name : VCodeConstant) (constant : Constant)
   -- those that stood end before it begins
   ascend : StandInTurn s → (i j : ℕ) (c d : ConstPlace) (k : Constant) → i < j → slice_get s.registered c.constant.number ≡ Some k → (slice_get s.constants i ≡ Some c) ⊎ ((i ≡ length s.constants) × (last ≡ c)) → (slice_get s.constants j ≡ Some d) ⊎ ((j ≡ length s.constants) × (last ≡ d)) → c.offset + length k.bytes ≤ d.offset
   ascend turn i j c d k lt hk (inl hc) (inl hd) = turn.ascend i j c d k lt hc hd hk
-  ascend turn i j c d k lt hk (inl hc) (inr (e, is)) =
-      let le = turn.within i c k hc hk in
-      let here : at ≡ d.offset = ap (λ (p : ConstPlace). p.offset) is in
-      let after = begins in
-      omega (arith, le, here, after)
+  ascend turn i j c d k lt hk (inl hc) (inr (e, is)) = let le = turn.within i c k hc hk in let here : at ≡ d.offset = ap (λ (p : ConstPlace). p.offset) is in omega (arith, le, here, begins)
   ascend turn i j c d k lt hk (inr (e, is)) (inl hd) = let inside = below s.constants j d hd in absurd (omega (arith, lt, e, inside))
   ascend turn i j c d k lt hk (inr (e, is)) (inr (f, there)) = absurd (omega (arith, lt, e, f))
 
   within : StandInTurn s → (j : ℕ) (c : ConstPlace) (k : Constant) → slice_get s.registered c.constant.number ≡ Some k → (slice_get s.constants j ≡ Some c) ⊎ ((j ≡ length s.constants) × (last ≡ c)) → c.offset + length k.bytes ≤ length new.bytes
-  within turn j c k hk (inl hc) =
-      let le = turn.within j c k hc hk in
-      let after = begins in
-      let end = ends in
-      omega (arith, le, after, end)
+  within turn j c k hk (inl hc) = omega (arith, turn.within j c k hc hk, begins, ends)
   within turn j c k hk (inr (e, is)) =
       let here : at ≡ c.offset = ap (λ (p : ConstPlace). p.offset) is in
       let same : constant ≡ k = same_Some _ _ (sym known ∙ ap (λ (p : ConstPlace). slice_get s.registered p.constant.number) is ∙ hk) in
       let long : length constant.bytes ≡ length k.bytes = ap (λ (x : Constant). length x.bytes) same in
-      let end = ends in
-      omega (arith, here, long, end)
+      omega (arith, here, long, ends)
 
   adds_constant : AddsConstants s new
   adds_constant = record {

@@ -1,37 +1,44 @@
--- What pieces with labels of their own add to a buffer, wherever among them the labels are bound.
-use Rattle.std.proofs.Common.{◌≡◌, ◌≢◌, inl, inr, ℕ, ◌+◌, ◌<◌, ◌≤◌, Bool, true, false, nat_eq, List, [], ◌∷◌, ◌++◌, length, Option, Some, None, refl, ap, sym, ◌∙◌, subst, arith, append_assoc, eqb-true, lit≤}
-use Rattle.std.specs.Prelude.{if◌then◌else◌, nat_lt, is_some, ◌&&◌}
-use Rattle.std.proofs.lemmas.Bool.{le-leb}
-use Rattle.std.proofs.lemmas.Bool.Decides.{nat_tests}
-use Rattle.std.proofs.lemmas.List.{length-append, append-nil}
-use Rattle.rv_base.specs.declared.flags.IsaFlags.{IsaFlags}
-use Rattle.rv_base.specs.declared.label.MachLabel.{MachLabel}
-use Rattle.mach_labels.specs.Table.{first_inner}
-use Rattle.mach_uses.specs.Labels.{inner_count}
-use Rattle.mach_uses.specs.Reach.{is_reached}
-use Rattle.mach_records.specs.declared.records.Event.TheVariants as event
-use Rattle.mach_buffer.specs.Shape.{Shape, IsUsable}
-use Rattle.mach_buffer.specs.Buffer.{shape_of, bytes_of, place_of, allocated_of, named_of}
-use Rattle.mach_buffer.proofs.Laws.{few_allocated, use_usable, placed_same, placed_other}
-use Rattle.rv_inst.specs.Context.{Context}
-use Rattle.rv_inst.specs.Forms.{jump_kind}
-use Rattle.rv_inst.specs.LabelUse.{label_kinds, forward_of, backward_of, has_veneer_of}
-use Rattle.rv_inst.specs.Sizes.{words_in, inst_records}
-use Rattle.rv_inst.specs.Uses.{use_at, uses_in}
-use Rattle.rv_inst.specs.declared.inst.Inst.{Inst}
-use Rattle.rv_inst.specs.declared.label_use.LabelUse.{LabelUse}
-use Rattle.rv_inst.specs.declared.label_use.LabelUse.TheVariants.{B12, Jal20, RVCJump}
-use Rattle.rv_code.specs.InstParts.{slots_alone}
-use Rattle.rv_code.specs.Operations.{short_jump}
-use Rattle.rv_code.specs.Pieces.{Piece, Do, Branch, Jump, New, Bind, Go, Trap, op_of, branches, slots_for, slots_of, piece_size, pieces_size, after, own_labels, AreAmong, trap_bytes, GoNowhere}
-use Rattle.rv_code.specs.Slots.{Label, Own, Op, Aim, Notes, Data, Allocate, Here, own_label, uses_of, records_of as slots_records}
-use Rattle.rv_code.proofs.ClosedPieces.{pieces_long, pieces_few, jump_reach}
-use Rattle.rv_code.proofs.MadeOfPieces.{IsMadeOf, pieces_name}
-use Rattle.rv_emit.specs.Emission.{PutsParts}
-use Rattle.rv_emit.specs.Emitted.{Buffer, IsSoundBuffer, AppendsSequence, AppendsInst, IsOwnUse}
-use Rattle.rv_emit.specs.Puts.{Puts}
-use Rattle.rv_emit.proofs.BufferAfterSlots.{slot_bytes, lasts_after_slots, puts_bytes, puts_uses, puts_named, puts_constants}
+-- Labels that an instruction allocates and binds itself, and the pieces that name them.
+use Rattle.rv_emit.proofs.Terms.{◌≡◌, ℕ, ◌+◌, Bool, true, false, List, [], ◌∷◌, length, Some, refl, ap, sym, ◌∙◌, arith, ◌≢◌, inl, inr, ◌<◌, ◌≤◌, ◌++◌, Option, None, subst, append_assoc, lit≤, nat_eq, if◌then◌else◌, nat_lt, is_some, ◌&&◌, eqb-true, le-leb, same_Some, IsaFlags, LabelUse, Shape}
+use Rattle.rv_emit.proofs.Terms.{IsUsable, placed_same, few_allocated, use_usable, placed_other, Slot, Op, Aim, Data, Notes, Names, Allocate, Here, Fill, Address, CallTo, own_label, here_at, Label, Own, PutsSlot, Puts, slot_bytes, lasts_after_slots, puts_bytes, puts_uses, puts_named, puts_constants}
+use Rattle.rv_emit.proofs.Terms.{puts_records, nat_tests, length-append, append-nil, MachLabel, first_inner, inner_count, is_reached, shape_of, bytes_of, place_of, allocated_of, named_of, Context, jump_kind, label_kinds, forward_of, backward_of, has_veneer_of, words_in, inst_records, use_at, Inst}
+use Rattle.rv_emit.proofs.Terms.{B12, Jal20, RVCJump, slots_alone, short_jump, Piece, Do, Branch, Jump, New, Bind, Go, Trap, op_of, branches, slots_for, slots_of, piece_size, pieces_size, after, own_labels, AreAmong, trap_bytes, GoNowhere, pieces_long, pieces_few, IsMadeOf, pieces_name, PutsParts}
+use Rattle.rv_emit.proofs.Terms.{Buffer, IsSoundBuffer, AppendsInst, IsOwnUse}
+use Rattle.rv_inst.specs.Sizes.{space_in}
+use Rattle.rv_code.specs.Slots.{uses_of}
+use Rattle.rv_code.proofs.MadeOfPieces.{jump_reach}
 use Rattle.rv_emit.proofs.ReachAfterInst.{Each, each_none, each_more}
+use Rattle.mach_records.specs.declared.records.Event.TheVariants as event
+
+-- ---- labels
+
+-- a label that is bound at the end of the bytes is bound there from then on
+pub bound_here : (flags : IsaFlags) (allocated k : ℕ) (slots : List Slot) (s mid t : Shape LabelUse) → PutsSlot flags allocated (Here k) s mid → Puts flags allocated slots mid t → t.place (own_label allocated k).number ≡ Some (length s.bytes)
+bound_here flags allocated k slots s mid t p q =
+    (lasts_after_slots flags allocated slots mid t q).grows.places (own_label allocated k).number (length s.bytes)
+    ((λ i. (p.1 i).place (own_label allocated k).number) ∙ placed_same s.place (own_label allocated k).number (length s.bytes))
+
+-- each own label of slots is bound where they say, counted from an offset
+pub own_bound : (flags : IsaFlags) (allocated from at : ℕ) (slots : List Slot) (s t : Shape LabelUse) → Puts flags allocated slots s t → length s.bytes ≡ from + at → (k to : ℕ) → here_at k at slots ≡ Some to → t.place (own_label allocated k).number ≡ Some (from + to)
+own_bound flags allocated from at [] s t p e k to h = absurd (cc)
+own_bound flags allocated from at (Op d ∷ slots) s t p e k to h = let l = slot_bytes flags allocated (Op d) s p.0 p.1 in own_bound flags allocated from (at + d.len) slots p.0 t p.2 (omega arith) k to h
+own_bound flags allocated from at (Aim kind target ops ∷ slots) s t p e k to h = let l = slot_bytes flags allocated (Aim kind target ops) s p.0 p.1 in own_bound flags allocated from _ slots p.0 t p.2 (omega arith) k to h
+own_bound flags allocated from at (Data bytes ∷ slots) s t p e k to h = let l = slot_bytes flags allocated (Data bytes) s p.0 p.1 in own_bound flags allocated from (at + length bytes) slots p.0 t p.2 (omega arith) k to h
+own_bound flags allocated from at (Notes event ∷ slots) s t p e k to h = let l = slot_bytes flags allocated (Notes event) s p.0 p.1 in own_bound flags allocated from at slots p.0 t p.2 (omega arith) k to h
+own_bound flags allocated from at (Names c ∷ slots) s t p e k to h = let l = slot_bytes flags allocated (Names c) s p.0 p.1 in own_bound flags allocated from at slots p.0 t p.2 (omega arith) k to h
+own_bound flags allocated from at (Allocate ∷ slots) s t p e k to h = let l = slot_bytes flags allocated Allocate s p.0 p.1 in own_bound flags allocated from at slots p.0 t p.2 (omega arith) k to h
+own_bound flags allocated from at (Fill symbol upper lower ∷ slots) s t p e k to h = let l = slot_bytes flags allocated (Fill symbol upper lower) s p.0 p.1 in own_bound flags allocated from (at + 8) slots p.0 t p.2 (omega arith) k to h
+own_bound flags allocated from at (Address name addend ∷ slots) s t p e k to h = let l = slot_bytes flags allocated (Address name addend) s p.0 p.1 in own_bound flags allocated from (at + 8) slots p.0 t p.2 (omega arith) k to h
+own_bound flags allocated from at (CallTo name ops ∷ slots) s t p e k to h = let l = slot_bytes flags allocated (CallTo name ops) s p.0 p.1 in own_bound flags allocated from (at + 8) slots p.0 t p.2 (omega arith) k to h
+own_bound flags allocated from at (Here j ∷ slots) s t p e k to h = on (nat_eq j k) refl (own_bound flags allocated from at slots p.0 t p.2 (let l = slot_bytes flags allocated (Here j) s p.0 p.1 in omega arith) k to) h
+  where
+    on : (c : Bool) → nat_eq j k ≡ c → (here_at k at slots ≡ Some to → t.place (own_label allocated k).number ≡ Some (from + to)) → (if c then Some at else here_at k at slots) ≡ Some to → t.place (own_label allocated k).number ≡ Some (from + to)
+    on true is rest here =
+        (λ i. t.place (own_label allocated (sym (eqb-true j k is) i)).number) ∙ bound_here flags allocated j slots s p.0 t p.1 p.2
+        ∙ ap (λ (n : ℕ). Some n) (e ∙ ap (λ n. from + n) (same_Some at to here))
+    on false is rest here = rest here
+
+-- ---- pieces
 
 -- so many labels of a sequence's own, from that one on
 abbrev IsOther : ℕ → ℕ → ℕ → Type 0
@@ -69,9 +76,6 @@ not_low number high = grind (arith, nat_tests)
 -- one piece does
 adds_piece : (flags : IsaFlags) (a total : ℕ) (p : Piece) (s t : Shape LabelUse) → AreAmong total (p ∷ []) → Puts flags a (slots_for flags p) s t → AddsOwn a total (own_labels (p ∷ [])) s t
 adds_piece flags a total (Do d) s t among put = let e = put.2 ∙ put.1.3 in record { code = put.1.0; bytes = ap (λ x. x.bytes) e; labels = ap (λ x. x.labels) e; allocated = ap (λ x. x.allocated) e ∙ omega arith; places = λ label other. ap (λ x. x.place label) e }
-adds_piece flags a total (Branch how x y k) s t among put = let e = put.2 ∙ put.1.2 in record { code = put.1.0; bytes = ap (λ x. x.bytes) e; labels = ap (λ x. x.labels) e; allocated = ap (λ x. x.allocated) e ∙ omega arith; places = λ label other. ap (λ x. x.place label) e }
-adds_piece flags a total (Jump k) s t among put = let e = put.2 ∙ put.1.2 in record { code = put.1.0; bytes = ap (λ x. x.bytes) e; labels = ap (λ x. x.labels) e; allocated = ap (λ x. x.allocated) e ∙ omega arith; places = λ label other. ap (λ x. x.place label) e }
-adds_piece flags a total (Go l) s t among put = let e = put.2 ∙ put.1.2 in record { code = put.1.0; bytes = ap (λ x. x.bytes) e; labels = ap (λ x. x.labels) e; allocated = ap (λ x. x.allocated) e ∙ omega arith; places = λ label other. ap (λ x. x.place label) e }
 adds_piece flags a total (Trap code) s t among put = let e = put.2.2 ∙ put.2.1 in let r = put.1.1 in record { code = trap_bytes flags; bytes = ap (λ x. x.bytes) e ∙ ap (λ x. x.bytes ++ trap_bytes flags) r; labels = ap (λ x. x.labels) e ∙ ap (λ x. x.labels) r; allocated = ap (λ x. x.allocated) e ∙ ap (λ x. x.allocated) r ∙ omega arith; places = λ label other. ap (λ x. x.place label) e ∙ ap (λ x. x.place label) r }
 adds_piece flags a total New s t among put = let e = put.1 in record { code = []; bytes = ap (λ x. x.bytes) (put.2 ∙ e) ∙ sym (append-nil s.bytes); labels = ap (λ x. x.labels) (put.2 ∙ e); allocated = ap (λ x. x.allocated) (put.2 ∙ e); places = λ label other. ap (λ x. x.place label) (put.2 ∙ e) }
 adds_piece flags a total (Bind k) s t among put =
@@ -84,34 +88,22 @@ adds_piece flags a total (Bind k) s t among put =
       allocated = ap (λ x. x.allocated) e ∙ omega arith;
       places = λ label other. ap (λ x. x.place label) e ∙ placed_other s.place own.number (length s.bytes) label (other k among.0);
     }
+adds_piece flags a total p s t among put = let e = put.2 ∙ put.1.2 in record { code = put.1.0; bytes = ap (λ x. x.bytes) e; labels = ap (λ x. x.labels) e; allocated = ap (λ x. x.allocated) e ∙ omega arith; places = λ label other. ap (λ x. x.place label) e }
 
 -- the first of pieces, and the others
 pieces_split : (flags : IsaFlags) (a : ℕ) (p : Piece) (ps : List Piece) (s t : Shape LabelUse) → Puts flags a (slots_of flags (p ∷ ps)) s t → (m : Shape LabelUse) × Puts flags a (slots_for flags p) s m × Puts flags a (slots_of flags ps) m t
-pieces_split flags a (Do d) ps s t (m, put, q) = (m, (m, put, refl), q)
-pieces_split flags a (Branch how x y k) ps s t (m, put, q) = (m, (m, put, refl), q)
-pieces_split flags a (Jump k) ps s t (m, put, q) = (m, (m, put, refl), q)
-pieces_split flags a New ps s t (m, put, q) = (m, (m, put, refl), q)
-pieces_split flags a (Bind k) ps s t (m, put, q) = (m, (m, put, refl), q)
-pieces_split flags a (Go l) ps s t (m, put, q) = (m, (m, put, refl), q)
 pieces_split flags a (Trap code) ps s t (m, put, (n, bytes, q)) = (n, (m, put, (n, bytes, refl)), q)
+pieces_split flags a p ps s t (m, put, q) = (m, (m, put, refl), q)
 
 own_split : (p : Piece) (ps : List Piece) → own_labels (p ∷ ps) ≡ own_labels (p ∷ []) + own_labels ps
 own_split (Do d) ps = omega arith
-own_split (Branch how a b k) ps = omega arith
-own_split (Jump k) ps = omega arith
-own_split New ps = omega arith
-own_split (Bind k) ps = omega arith
-own_split (Go l) ps = omega arith
-own_split (Trap code) ps = omega arith
+own_split p ps = omega arith
 
 among_split : (total : ℕ) (p : Piece) (ps : List Piece) → AreAmong total (p ∷ ps) → AreAmong total (p ∷ []) × AreAmong total ps
-among_split total (Do d) ps h = (tt, h)
 among_split total (Branch how a b k) ps h = ((h.0, tt), h.1)
 among_split total (Jump k) ps h = ((h.0, tt), h.1)
-among_split total New ps h = (tt, h)
 among_split total (Bind k) ps h = ((h.0, tt), h.1)
-among_split total (Go l) ps h = (tt, h)
-among_split total (Trap code) ps h = (tt, h)
+among_split total p ps h = (tt, h)
 
 adds : (flags : IsaFlags) (a total : ℕ) (ps : List Piece) (s t : Shape LabelUse) → AreAmong total ps → Puts flags a (slots_of flags ps) s t → AddsOwn a total (own_labels ps) s t
 adds flags a total [] s t among p = adds_none a total s t p
@@ -119,22 +111,6 @@ adds flags a total (p ∷ ps) s t among puts =
     let b = among_split total p ps among in
     let r = pieces_split flags a p ps s t puts in
     subst (λ n. AddsOwn a total n s t) (sym (own_split p ps)) (adds_both (adds_piece flags a total p s r.0 b.0 r.1) (adds flags a total ps r.0 t b.1 r.2))
-
--- ---- what they record
-
-recorded : (flags : IsaFlags) (a : ℕ) (ps : List Piece) (s t : Shape LabelUse) → Puts flags a (slots_of flags ps) s t → t.records ≡ s.records ++ slots_records (length s.bytes) (slots_of flags ps)
-recorded flags a [] s t e = ap (λ x. x.records) e ∙ sym (append-nil s.records)
-recorded flags a (Do d ∷ ps) s t (m, put, q) = let long = slot_bytes flags a (Op (op_of flags d)) s m put in recorded flags a ps m t q ∙ (λ i. (put.3 i).records ++ slots_records (long i) (slots_of flags ps))
-recorded flags a (Branch how x y k ∷ ps) s t (m, put, q) = let long = slot_bytes flags a (Aim B12 (Own k) (λ z. branches how x y z ∷ [])) s m put in recorded flags a ps m t q ∙ (λ i. (put.2 i).records ++ slots_records (long i) (slots_of flags ps))
-recorded flags a (Jump k ∷ ps) s t (m, put, q) = let long = slot_bytes flags a (Aim (jump_kind flags) (Own k) (λ z. short_jump flags z ∷ [])) s m put in recorded flags a ps m t q ∙ (λ i. (put.2 i).records ++ slots_records (long i) (slots_of flags ps))
-recorded flags a (New ∷ ps) s t (m, put, q) = recorded flags a ps m t q ∙ (λ i. (put i).records ++ slots_records (length (put i).bytes) (slots_of flags ps))
-recorded flags a (Bind k ∷ ps) s t (m, put, q) = recorded flags a ps m t q ∙ (λ i. (put.1 i).records ++ slots_records (length (put.1 i).bytes) (slots_of flags ps))
-recorded flags a (Go l ∷ ps) s t (m, put, q) = let long = slot_bytes flags a (Aim (jump_kind flags) (Label l) (λ z. short_jump flags z ∷ [])) s m put in recorded flags a ps m t q ∙ (λ i. (put.2 i).records ++ slots_records (long i) (slots_of flags ps))
-recorded flags a (Trap code ∷ ps) s t (m, put, (n, bytes, q)) =
-    let long = slot_bytes flags a (Data (trap_bytes flags)) m n bytes in
-    recorded flags a ps n t q ∙ (λ i. (bytes i).records ++ slots_records (long i) (slots_of flags ps))
-    ∙ (λ i. (put.1 i).records ++ slots_records (length (put.1 i).bytes + length (trap_bytes flags)) (slots_of flags ps))
-    ∙ append_assoc s.records (record { offset = length s.bytes; event = event.Trap code } ∷ []) (slots_records (length s.bytes + length (trap_bytes flags)) (slots_of flags ps))
 
 -- ---- an own label that is bound among them
 
@@ -222,7 +198,10 @@ pub made_appends : (context : Context) (inst : Inst) (pieces : List Piece) (old 
 made_appends context inst ps old new made before (mid, p, same) = subst (AppendsInst context inst old) (sym same) (record {
   code = x.code;
   direct = uses_of a start (slots_of flags ps);
-  adds = subst (λ n. AppendsSequence n x.code (uses_in context start (length (bytes_of mid)) inst ++ uses_of a start (slots_of flags ps)) old mid) (sym made.owns) (record {
+  own = own_labels ps;
+  few = made.owns;
+  alone = λ asks. let e : false ≡ true = ap (λ e. is_some (space_in e)) (sym made.long) ∙ asks in absurd (cc);
+  adds = record {
     bytes = x.bytes;
     uses = puts_uses flags a (slots_of flags ps) (shape_of old) (shape_of mid) p.puts ∙ ap (λ us. (shape_of old).uses ++ (us ++ uses_of a start (slots_of flags ps))) (made.uses start (length (bytes_of mid)));
     allocated = x.allocated;
@@ -234,9 +213,9 @@ made_appends context inst ps old new made before (mid, p, same) = subst (Appends
     registered = (lasts_after_slots flags a (slots_of flags ps) (shape_of old) (shape_of mid) p.puts).registered;
     constants = puts_constants flags a (slots_of flags ps) (shape_of old) (shape_of mid) p.puts;
     sound = p.sound;
-  });
-  each = λ j u h. inr (subst (λ n. IsOwnUse n a (place_of mid) u) (sym made.owns) (own_uses j u h));
-  records = recorded flags a ps (shape_of old) (shape_of mid) p.puts ∙ ap (λ more. (shape_of old).records ++ more) (made.records start ∙ ap (λ n. inst_records context start n inst) (sym end));
+  };
+  each = λ j u h. inr (own_uses j u h);
+  records = puts_records flags a (slots_of flags ps) (shape_of old) (shape_of mid) p.puts ∙ ap (λ more. (shape_of old).records ++ more) (made.records start ∙ ap (λ n. inst_records context start n inst) (sym end));
   named = puts_named flags a (slots_of flags ps) (shape_of old) (shape_of mid) p.puts ∙ pieces_name flags ps (named_of old) ∙ made.names (named_of old);
   long = ap words_in made.long ∙ (let e = end in let l = ap length x.bytes ∙ length-append (bytes_of old) x.code in omega arith);
 })

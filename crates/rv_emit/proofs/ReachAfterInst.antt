@@ -1,36 +1,11 @@
 -- How a sequence and an island keep Reach, and what is pending after them.
-use Rattle.std.proofs.Common.{◌≡◌, ◌⊎◌, inl, inr, ℕ, zero, suc, ◌+◌, ◌*◌, ◌≤◌, Bool, true, false, cond, List, [], ◌∷◌, ◌++◌, length, Option, Some, None, refl, ap, sym, ◌∙◌, subst, arith, ⊎_elim, append_assoc}
-use Rattle.std.specs.Prelude.{is_none, not, ◌&&◌, slice_get, ◌-◌, if◌then◌else◌}
-use Rattle.std.proofs.lemmas.Option.{same_Some}
-use Rattle.std.proofs.lemmas.List.{length-append, append-nil}
-use Rattle.rv_base.specs.declared.call.TryCallInfo.{TryCallInfo}
-use Rattle.rv_base.specs.declared.label.MachLabel.{MachLabel}
-use Rattle.rv_base.specs.declared.flags.IsaFlags.{IsaFlags}
-use Rattle.rv_inst.specs.Forms.{jump_kind, jump_size}
-use Rattle.rv_inst.specs.Context.{Context}
-use Rattle.rv_inst.specs.declared.inst.Inst.{Inst}
-use Rattle.rv_inst.specs.Rules.{inst_rule}
-use Rattle.rv_inst.specs.declared.inst.CondBrTarget.TheVariants.{Label, Fallthrough}
-use Rattle.rv_inst.specs.declared.label_use.LabelUse.{LabelUse}
-use Rattle.rv_inst.specs.declared.label_use.LabelUse.TheVariants.{Jal20, B12, PCRelHi20, PCRelLo12I, RVCJump}
-use Rattle.rv_inst.specs.LabelUse.{label_kinds, forward_of, has_veneer_of}
-use Rattle.rv_inst.specs.Operands.{targets_of, try_call_of}
-use Rattle.rv_inst.specs.declared.targets.Targets.{Targets}
-use Rattle.rv_inst.specs.declared.targets.Targets.TheVariants.{Nowhere, Jumps, Branches, Refers, RefersConstant}
-use Rattle.mach_uses.specs.Labels.{constant_label}
-use Rattle.mach_buffer.specs.Islands.{is_far}
-use Rattle.rv_base.specs.LabelUse.{Kinds, code_limit}
-use Rattle.mach_uses.specs.declared.uses.Use.{Use}
-use Rattle.mach_uses.specs.Reach.{CanReach, HasSlack, deadline, deadlines, is_pending, is_reached, is_needed}
-use Rattle.mach_buffer.specs.Buffer.{bytes_of, uses_of, place_of}
-use Rattle.mach_buffer.proofs.Laws.{deadlines_append, none_from, slack_use, slack_less, slack_not_needed, reach_from_slack}
-use Rattle.rv_emit.specs.Emitted.{Buffer, pending, IsFarUse, IsOwnUse, AppendsInst, IslandIfNeeded, CanEmit}
-use Rattle.rv_inst.specs.Sizes.{words_in, line_space, inst_code, extent_of, island_space, inst_sum}
-use Rattle.rv_inst.specs.MostBytes.{sequence_limit}
-use Rattle.rv_inst.specs.Uses.{use_at, target_uses, uses_by, uses_in, uses_start}
+use Rattle.rv_emit.proofs.Terms.{◌≡◌, ◌⊎◌, inl, inr, ℕ, zero, suc, ◌+◌, ◌*◌, ◌≤◌, Bool, true, false, cond, List, [], ◌∷◌, ◌++◌, length, Option, Some, None, refl, ap, sym, ◌∙◌, subst, arith, ⊎_elim, append_assoc, is_none, not, ◌&&◌, slice_get, ◌-◌, if◌then◌else◌, same_Some, length-append, append-nil}
+use Rattle.rv_emit.proofs.Terms.{TryCallInfo, MachLabel, IsaFlags, jump_kind, jump_size, Context, Inst, inst_rule, Fallthrough, LabelUse, Jal20, B12, PCRelHi20, PCRelLo12I, RVCJump, label_kinds, forward_of, has_veneer_of, targets_of, try_call_of, Targets, Nowhere, Jumps, Branches, Refers}
+use Rattle.rv_emit.proofs.Terms.{RefersConstant, constant_label, is_far, Kinds, code_limit, Use, CanReach, HasSlack, deadline, deadlines, is_pending, is_reached, is_needed, bytes_of, uses_of, place_of, deadlines_append, none_from, slack_use, slack_less, slack_not_needed, reach_from_slack, Buffer}
+use Rattle.rv_emit.proofs.Terms.{pending, IsFarUse, IsOwnUse, AppendsInst, IslandIfNeeded, CanEmit, words_in, line_space, inst_code, extent_of, island_space, inst_sum, sequence_limit, use_at, target_uses, uses_by, uses_in, uses_start, named_kept}
+use Rattle.rv_inst.specs.declared.inst.CondBrTarget.TheVariants.{Label}
 use Rattle.rv_emit.proofs.Islands.{deadlines_as}
 use Rattle.rv_emit.proofs.MostBytes.{words_within, most_in_sequence}
-use Rattle.rv_emit.proofs.Sequences.{named_kept}
 
 -- whether a use is pending
 abbrev pub pending_at : (ℕ → Option ℕ) → Use LabelUse → Bool
@@ -138,11 +113,7 @@ bytes_put context inst old new p = ap length p.adds.bytes ∙ length-append (byt
 
 -- at most the limit of a sequence where it asks for no island
 bytes_after : (context : Context) (inst : Inst) (old new : Buffer) → inst_rule context inst ≡ None → inst_sum context inst ≤ code_limit → island_space context inst ≡ None → AppendsInst context inst old new → length (bytes_of new) ≤ length (bytes_of old) + sequence_limit
-bytes_after context inst old new rule small asks p =
-    let a = words_within context inst rule small in
-    let b = bytes_put context inst old new p in
-    let c = most_in_sequence context inst asks in
-    omega (arith, a, b, c)
+bytes_after context inst old new rule small asks p = omega (arith, words_within context inst rule small, bytes_put context inst old new p, most_in_sequence context inst asks)
 
 -- ---- what is pending
 
@@ -203,8 +174,7 @@ pending_whole context inst old new p = ap length (pending_adds context inst old 
 
 -- uses are recorded: eight bytes of slack for each
 pub slack_uses : (test : Use LabelUse → Bool) (cur slack : ℕ) (uses own : List (Use LabelUse)) → Each (λ u. cur + slack + 8 * length own ≤ deadline label_kinds u) own → HasSlack cur (slack + 8 * length own) (deadlines test label_kinds uses) → HasSlack cur slack (deadlines test label_kinds (uses ++ own))
-slack_uses test cur slack uses [] far h =
-    subst (λ us. HasSlack cur slack (deadlines test label_kinds us)) (sym (append-nil uses)) (slack_less cur (slack + 8 * 0) cur slack _ (omega arith) h)
+slack_uses test cur slack uses [] far h = subst (λ us. HasSlack cur slack (deadlines test label_kinds us)) (sym (append-nil uses)) (slack_less cur (slack + 8 * 0) cur slack _ (omega arith) h)
 slack_uses test cur slack uses (u ∷ own) far h =
     let least = far 0 u refl in
     let first : HasSlack cur (slack + 8 * length own) (deadlines test label_kinds (uses ++ u ∷ [])) =

@@ -1,17 +1,15 @@
--- A call with another map of the values on the stack is the same call but for that record.
-use Rattle.std.proofs.Common.{◌≡◌, Option, refl, ap, sym, ◌∙◌, subst}
-use Rattle.rv_base.specs.declared.call.UserStackMap.{UserStackMap}
-use Rattle.rv_inst.specs.Context.{Context}
-use Rattle.rv_inst.specs.Families.{family_of}
-use Rattle.rv_inst.specs.Sizes.{island_space}
-use Rattle.rv_inst.specs.declared.inst.Family.{Family}
-use Rattle.rv_inst.specs.declared.inst.Family.TheVariants.{Pseudo, Integer, Memory, Control, Loop, Symbols, Calls, Float}
-use Rattle.rv_inst.specs.declared.inst.Inst.{Inst}
-use Rattle.rv_inst.specs.declared.inst.Inst.TheVariants.{Call, CallInd}
-use Rattle.rv_code.specs.declared.state.EmitVState.{EmitVState}
-use Rattle.rv_emit.specs.Emission.{EmitsIn, Emits, EmitsGiven}
-use Rattle.rv_emit.specs.Emitted.{Buffer, CanEmit, IsBounded}
-use Rattle.rv_emit.specs.StackMaps.{with_map, map_given}
+-- What is put is what an instruction emits, also with the map that is given to it.
+use Rattle.rv_emit.proofs.Terms.{◌≡◌, Result, sym, subst, OnOk, Option, refl, ap, ◌∙◌, on_ok_weaker, Inst, UserStackMap, Context, family_of, island_space, Family, Pseudo, Integer, Control, Loop, Symbols, Calls, Float, Call, CallInd, EmitVState, EmitsIn, Emits, EmitsGiven, Buffer, CanEmit, IsBounded}
+use Rattle.rv_emit.proofs.Terms.{with_map, map_given}
+use Rattle.rv_inst.specs.declared.inst.Family.TheVariants.{Memory}
+
+-- ---- what a call puts
+
+-- what holds where a call puts something holds of the instruction that is that one
+pub put_as : {T E P : Type 0} {inst was : Inst} (r : Result T E) (X : Inst → Type 0) → inst ≡ was → (P → X was) → OnOk r P → OnOk r (X inst)
+put_as r X is f p = subst (λ i. OnOk r (X i)) (sym is) (on_ok_weaker r f p)
+
+-- ---- the map that is given
 
 -- one of another family takes none
 abbrev pub IsOther : Family → Type 0

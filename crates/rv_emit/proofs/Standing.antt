@@ -1,50 +1,16 @@
 -- What was put into a buffer, whatever followed, stands in the finished code.
-use Rattle.std.proofs.Common.{◌≡◌, ◌⊎◌, ℕ, ◌+◌, ◌%◌, ◌≤◌, Bool, true, false, ⊎_elim, List, [], ◌∷◌, ◌++◌, length, Option, Some, None, ℤ, pos, ◌-ℤ◌, refl, ap, sym, ◌∙◌, subst, arith}
-use Rattle.std.specs.Prelude.{slice_get, ◌&&◌}
-use Rattle.std.proofs.lemmas.Bool.{true≢false, le-leb}
-use Rattle.std.proofs.lemmas.Option.{same_Some}
-use Rattle.rv_base.specs.declared.label.MachLabel.{MachLabel}
-use Rattle.std.specs.Int.{to_le_bytes, w64}
-use Rattle.std.proofs.lemmas.List.{length-append}
-use Rattle.rv_base.specs.LabelUse.{SameOutside}
-use Rattle.rv_base.specs.declared.external_name.ExternalName.{ExternalName}
-use Rattle.rv_machine.specs.declared.decoding.Decoded.{Decoded}
-use Rattle.rv_inst.specs.declared.label_use.LabelUse.{LabelUse}
-use Rattle.rv_inst.specs.declared.label_use.LabelUse.TheVariants.{PCRel32, PCRelHi20, PCRelLo12I}
-use Rattle.rv_inst.specs.LabelUse.{label_kinds, Aims, marks_of, has_veneer_of, veneer_of, forward_of, backward_of}
-use Rattle.rv_inst.specs.Uses.{use_at}
-use Rattle.mach_uses.specs.declared.uses.Use.{Use}
-use Rattle.mach_buffer.specs.Shape.{Shape, with_bytes, with_record, veneer_use}
-use Rattle.mach_records.specs.declared.records.Event.{Event}
-use Rattle.mach_records.specs.declared.records.MachRecord.{MachRecord}
-use Rattle.mach_buffer.specs.Windows.{AllEnd}
-use Rattle.mach_uses.specs.Windows.{window}
-use Rattle.mach_uses.specs.Reach.{is_reached}
-use Rattle.mach_buffer.specs.Growth.{Lasts, RecordsLast}
-use Rattle.mach_buffer.specs.Pieces.{ByVeneer, UseFinished}
-use Rattle.mach_buffer.proofs.Laws.{recorded_at as use_recorded_at, lasts_more, lasts_bytes, lasts_record, piece_finished, use_finished, slice_get-append, slice_get-append_last}
-use Rattle.rv_code.specs.InstParts.{wide_jump_to}
-use Rattle.rv_code.specs.Slots.{Symbol, AddressOf, Target, Label, Own, Slot, Op, Aim, Data, Notes, Names, Allocate, Here, Fill, Address, CallTo, upper_event, lower_event, address_event, call_event, Part, Ask, Slots, slot_size, size_of, own_label, label_of, uses_of, between, here_at, IsClosed, AreClosed, AreSelfContained, PartsAreSelfContained}
-use Rattle.rv_code.specs.Sites.{Site, BytesAt, IsPlacedAt, CodeHas, LeadsOn, Leads, Reaches, AimsFrom, symbol_address, FillsFrom, LinksFrom, StandsIn, GapIn, PartsStand}
-use Rattle.rv_machine.specs.State.{Memory}
-use Rattle.rv_machine.specs.Steps.{fetch}
-use Rattle.rv_base.specs.declared.trap.TrapCode.{TrapCode}
+use Rattle.rv_emit.proofs.Terms.{◌≡◌, ◌⊎◌, ℕ, ◌+◌, ◌%◌, ◌≤◌, Bool, true, false, ⊎_elim, List, [], ◌∷◌, ◌++◌, length, Option, Some, None, ℤ, pos, ◌-ℤ◌, refl, ap, sym, ◌∙◌, subst, arith, slice_get, ◌&&◌, true≢false, le-leb, same_Some, MachLabel, to_le_bytes, w64, length-append, SameOutside}
+use Rattle.rv_emit.proofs.Terms.{ExternalName, Decoded, LabelUse, PCRel32, PCRelHi20, PCRelLo12I, label_kinds, Aims, marks_of, has_veneer_of, veneer_of, forward_of, backward_of, use_at, Use, Shape, with_bytes, with_record, veneer_use, Event, MachRecord, AllEnd, window, is_reached, Lasts}
+use Rattle.rv_emit.proofs.Terms.{RecordsLast, ByVeneer, UseFinished, lasts_more, lasts_bytes, lasts_record, piece_finished, use_finished, slice_get-append, slice_get-append_last, wide_jump_to, access_slots, Symbol, AddressOf, Target, Label, Own, Slot, Op, Aim, Data, Notes, Names, Allocate, Here}
+use Rattle.rv_emit.proofs.Terms.{Fill, Address, CallTo, upper_event, lower_event, address_event, call_event, Part, Ask, Slots, slot_size, size_of, own_label, label_of, between, here_at, IsClosed, AreClosed, AreSelfContained, PartsAreSelfContained, Site, BytesAt, IsPlacedAt, CodeHas, LeadsOn, Leads}
+use Rattle.rv_emit.proofs.Terms.{Reaches, AimsFrom, symbol_address, FillsFrom, LinksFrom, StandsIn, GapIn, PartsStand, Memory, fetch, TrapCode, IsOwnForm, low_funct3, AllClear, FieldsEnd, FieldsStand, KeepsOutside, IsFilled, Encodes, eight_zeros, PutsSlot, Puts, SlotsIn, IslandIn, GapStandsIn}
+use Rattle.rv_emit.proofs.Terms.{PartsIn, IsFinishedTo, slot_bytes, slot_ends, lasts_after_slots, puts_bytes, puts_uses, leads_here, leads_both, jump_leads, closed_even}
+use Rattle.mach_buffer.proofs.Laws.{recorded_at as use_recorded_at}
+use Rattle.rv_code.specs.Slots.{uses_of}
 use Rattle.mach_records.specs.declared.records.Event.TheVariants as event
-use Rattle.rv_inst.specs.Forms.{IsOwnForm}
-use Rattle.rv_code.specs.InstParts.{access_slots}
-use Rattle.rv_emit.proofs.Encoded.{low_funct3}
-use Rattle.rv_emit.specs.Images.{AllClear, FieldsEnd, FieldsStand, KeepsOutside, IsFilled}
-use Rattle.rv_emit.proofs.Fields.{clear_there, clear_later, slot_fields_end}
-use Rattle.rv_emit.specs.Puts.{Encodes, eight_zeros, PutsSlot, Puts}
-use Rattle.rv_emit.specs.Standing.{SlotsIn, IslandIn, GapStandsIn, PartsIn, IsFinishedTo}
-use Rattle.rv_emit.proofs.OwnLabels.{bound_here, own_bound}
-use Rattle.rv_emit.proofs.PlacedBytes.{window_length, window_fits, window_there}
-use Rattle.rv_emit.proofs.BufferAfterSlots.{slot_bytes, slot_ends, lasts_after_slots, puts_bytes, puts_uses}
-use Rattle.rv_emit.proofs.VeneerRuns.{veneer_leads}
-use Rattle.rv_code.proofs.Ways.{leads_here, leads_both, jump_leads}
-use Rattle.rv_code.proofs.ClosedSlots.{closed_even}
-
--- ---- even lengths
+use Rattle.rv_emit.proofs.PartsInBuffer.{clear_there, clear_later, slot_fields_end}
+use Rattle.rv_emit.proofs.OwnPieces.{bound_here, own_bound}
+use Rattle.rv_emit.proofs.VeneerRuns.{window_length, window_fits, window_there, veneer_leads}
 
 -- ---- reach
 
@@ -330,8 +296,7 @@ module _ (site : Site) (f : Shape LabelUse) (final : List ℕ) (fin : IsFinished
       let long = p.1 in
       let room = a.room in
       let two : length p.0 ≡ 2 = long ∙ ap (λ (x : Decoded). x.len) is in
-      let there = window_there mem site.base site.bytes (length s.bytes) (length p.0) (omega arith) placed.bytes in
-      let bytes = subst (BytesAt mem (site.base + length s.bytes)) (piece_there s mid p.0 p.3 ends kept a.lasts) there in
+      let bytes = subst (BytesAt mem (site.base + length s.bytes)) (piece_there s mid p.0 p.3 ends kept a.lasts) (window_there mem site.base site.bytes (length s.bytes) (length p.0) (omega arith) placed.bytes) in
       low_funct3 mem (site.base + length s.bytes) p.0 bytes two ∙ p.4 rd imm is holds
 
   pub own_stands : (trap : Option TrapCode) (d : Decoded) (start end : ℕ) → SlotsIn site.context.flags (access_slots trap ++ Op d ∷ []) f start end → (mem : Memory) → IsPlacedAt site mem → IsOwnForm d (fetch mem (site.base + start))

@@ -1,63 +1,14 @@
--- What a branch by a table puts: jumps in eight bytes, and the words before them.
-use Rattle.std.proofs.Common.{◌≡◌, inl, ℕ, zero, suc, ◌+◌, ◌-◌, ◌*◌, ◌/◌, ◌%◌, ◌^◌, ◌<◌, ◌≤◌, Bool, true, false, List, [], ◌∷◌, ◌++◌, map, take, drop, length, Some, None, ℤ, pos, negsuc, ◌≤ℤ◌, ⊎_elim, refl, ap, sym, subst, ◌∙◌, append_assoc, arith}
-use Rattle.std.specs.Prelude.{get_or}
-use Rattle.std.specs.Option.{option_map}
-use Rattle.std.specs.Int.{to_le_bytes, cast_signed, w32, w64}
-use Rattle.std.proofs.lemmas.Int.{ints}
-use Rattle.std.proofs.lemmas.List.{length-drop, length-take, map-append, take_all, take_more}
-use Rattle.rv_base.specs.LabelUse.{SameOutside}
-use Rattle.rv_base.specs.declared.flags.IsaFlags.{IsaFlags}
-use Rattle.rv_base.specs.declared.label.MachLabel.{MachLabel}
-use Rattle.rv_machine.specs.declared.ops.MOp.TheVariants.{Base}
+-- What tables, symbols, call sites and steps in the making of a frame put.
+use Rattle.rv_emit.proofs.Terms.{◌≡◌, inl, ℕ, zero, suc, ◌+◌, ◌-◌, ◌*◌, ◌/◌, ◌%◌, ◌^◌, ◌<◌, ◌≤◌, Bool, true, false, List, [], ◌∷◌, ◌++◌, map, take, drop, length, Some, None, ℤ, pos, negsuc, ◌≤ℤ◌, ⊎_elim, refl, ap, sym, subst, ◌∙◌, append_assoc, arith, get_or, option_map, to_le_bytes, cast_signed}
+use Rattle.rv_emit.proofs.Terms.{w32, w64, ints, length-drop, length-take, map-append, take_all, take_more, SameOutside, code_limit, IsaFlags, MachLabel, Base, decode, int_by_opcode, word_opcode, word_funct3, u_bits, i_bits, i_layout, AUIPC, JALR, signed, IsUType, IsIType, decoded, opcode_decodes}
+use Rattle.rv_emit.proofs.Terms.{LabelUse, PCRel32, PCRelHi20, PCRelLo12I, Aims, marks_of, with_immediate, PairDecodes, word_at, word_bytes, use_at, decode-patched_pair, shape_of, bytes_of, allocated_of, Shape, with_bytes, with_use, with_record, PutsAlone, Emits, Buffer, IsSoundBuffer}
+use Rattle.rv_emit.proofs.Terms.{AppendsIsland, IslandIfNeeded, pending, upper_of, lower_of, decoded_jalr, AllBytes, IsPatchable, AsksNothing, eight_zeros, extend_pieces, slots_of, number_slots, table_slots, far_jump, jump_slots, AreListed, IsListed, word_fits, upper_fresh, lower_fresh, upper_is}
+use Rattle.rv_emit.proofs.Terms.{lower_is, Context, inst_rule, inst_sum, table_space, IsIntRegister, number_of, reserve_of, Inst, BrTable, Reg, Writable, keeps, table_fine, alone, both_alone, alone_long, even_plain, extend_even, extend_few, number_even, number_few, number_long, count_splits}
+use Rattle.rv_emit.proofs.Terms.{far_jumps_even, far_jumps_long, ExternalName, Decoded, Event, Symbol, Notes, Fill, Address, CallTo, upper_event, lower_event, address_event, call_event, word_there}
+use Rattle.rv_emit.proofs.VeneerRuns.{rest_there, rest_fits, first_bytes}
 use Rattle.rv_machine.specs.declared.ops.BaseOp.TheVariants as base
-use Rattle.rv_machine.specs.Decode.{decode, int_by_opcode}
-use Rattle.rv_machine.specs.Layout.{word_opcode, word_funct3, u_bits, i_bits, i_layout}
-use Rattle.rv_machine.specs.Opcodes.{AUIPC, JALR}
-use Rattle.rv_machine.specs.State.{signed}
-use Rattle.rv_encode.specs.Layouts.{IsUType, IsIType}
-use Rattle.rv_encode.specs.Operations.{decoded}
-use Rattle.rv_encode.proofs.Decoding.{opcode_decodes}
-use Rattle.rv_inst.specs.declared.label_use.LabelUse.{LabelUse}
-use Rattle.rv_inst.specs.declared.label_use.LabelUse.TheVariants.{PCRel32}
-use Rattle.rv_inst.specs.LabelUse.{Aims, marks_of}
-use Rattle.rv_inst.specs.LabelUseBridges.{with_immediate, PairDecodes}
-use Rattle.rv_inst.specs.LabelUseWords.{word_at, word_bytes}
-use Rattle.rv_inst.specs.Uses.{use_at}
-use Rattle.rv_inst.proofs.Bridges.{decode-patched_pair}
-use Rattle.mach_buffer.specs.Buffer.{shape_of, bytes_of, allocated_of}
-use Rattle.mach_buffer.specs.Shape.{Shape, with_bytes, with_use}
-use Rattle.rv_emit.specs.Emission.{PutsAlone, Emits}
-use Rattle.rv_emit.specs.Emitted.{Buffer, IsSoundBuffer, AppendsIsland, IslandIfNeeded, pending}
-use Rattle.rv_code.specs.Immediates.{upper_of, lower_of}
-use Rattle.rv_code.specs.Operations.{decoded_jalr}
-use Rattle.rv_emit.specs.Puts.{AllBytes, IsPatchable}
-use Rattle.rv_code.specs.Choices.{extend_pieces}
-use Rattle.rv_code.specs.Pieces.{slots_of}
-use Rattle.rv_code.specs.InstParts.{number_slots, table_slots}
-use Rattle.rv_code.specs.Tables.{far_jump, jump_slots}
-use Rattle.rv_code.specs.Usable.{AreListed, IsListed}
-use Rattle.rv_emit.proofs.Encoded.{word_fits}
-use Rattle.rv_emit.proofs.OffsetParts.{upper_is, lower_is}
-use Rattle.rv_emit.proofs.PatchedWindows.{upper_fresh, lower_fresh}
-use Rattle.rv_emit.proofs.PlacedBytes.{word_there, rest_there, rest_fits}
-use Rattle.rv_inst.specs.Context.{Context}
-use Rattle.rv_inst.specs.Rules.{inst_rule}
-use Rattle.rv_inst.specs.Sizes.{inst_sum, table_space}
-use Rattle.rv_encode.specs.Registers.{IsIntRegister}
-use Rattle.rv_base.specs.LabelUse.{code_limit}
-use Rattle.rv_base.specs.Regs.{number_of}
-use Rattle.mach_buffer.specs.Constants.{reserve_of}
-use Rattle.rv_inst.specs.declared.inst.Inst.{Inst}
-use Rattle.rv_inst.specs.declared.inst.Inst.TheVariants.{EmitIsland, BrTable}
-use Rattle.rv_base.specs.declared.regs.Reg.{Reg}
-use Rattle.rv_base.specs.declared.regs.Writable.{Writable}
-use Rattle.rv_code.proofs.Operands.{keeps}
-use Rattle.rv_code.proofs.TableRules.{table_fine}
-use Rattle.rv_emit.proofs.SlotsOfOnePut.{alone}
-use Rattle.rv_emit.proofs.SlotsOfSeveralPuts.{both_alone, alone_long}
-use Rattle.rv_code.proofs.TableSlots.{even_plain, extend_even, extend_few, number_even, number_few, number_long, count_splits, far_jumps_even, far_jumps_long}
-use Rattle.rv_emit.proofs.VeneerRuns.{first_bytes}
 
+-- A branch by a table: jumps in eight bytes, and the words before them.
 -- ---- a window of two words
 
 -- two words before a distance is patched in
@@ -149,17 +100,9 @@ one_more {flags} tmp labels k d old mid new lt p q =
     subst (λ slots. PutsAlone flags slots old new) (sym (ap (map (far_jump tmp)) (take_more labels k d lt) ∙ map-append (far_jump tmp) (take k labels) (get_or labels k d ∷ [])))
     (both_alone (map (far_jump tmp) (take k labels)) (far_jump tmp (get_or labels k d) ∷ []) old mid new (even_plain (map (far_jump tmp) (take k labels)) (far_jumps_even tmp (take k labels))) p q)
 
--- all of them
-pub all_put : {flags : IsaFlags} (tmp : ℕ) (labels : List MachLabel) (k : ℕ) (old new : Buffer) → length labels ≤ k → PutsAlone flags (map (far_jump tmp) (take k labels)) old new → PutsAlone flags (map (far_jump tmp) labels) old new
-all_put {flags} tmp labels k old new le p = subst (λ ls. PutsAlone flags (map (far_jump tmp) ls) old new) (take_all k labels le) p
-
 -- how long they are
 pub some_long : {flags : IsaFlags} (tmp : ℕ) (labels : List MachLabel) (k : ℕ) (old new : Buffer) → k ≤ length labels → PutsAlone flags (map (far_jump tmp) (take k labels)) old new → length (bytes_of new) ≡ length (bytes_of old) + 8 * k
-some_long tmp labels k old new le p =
-    let a = alone_long (map (far_jump tmp) (take k labels)) old new p in
-    let b = far_jumps_long tmp (take k labels) in
-    let e = length-take k labels in
-    omega arith
+some_long tmp labels k old new le p = omega (arith, alone_long (map (far_jump tmp) (take k labels)) old new p, far_jumps_long tmp (take k labels), length-take k labels)
 
 -- ---- the whole sequence
 
@@ -185,23 +128,17 @@ counted {flags} {old} {new} tmp2 n lt p = subst (λ z. PutsAlone flags (number_s
 -- how long the pieces are before the jumps
 pub before_few : {flags : IsaFlags} (index tmp2 n : ℕ) (old mid new : Buffer) → n < 2 ^ 30 → PutsAlone flags (slots_of flags (extend_pieces 31 index false 32)) old mid → PutsAlone flags (number_slots flags tmp2 (pos n)) mid new → length (bytes_of new) ≤ length (bytes_of old) + 16
 before_few {flags} index tmp2 n old mid new lt p q =
-    let a = alone_long (slots_of flags (extend_pieces 31 index false 32)) old mid p in
-    let b = alone_long (number_slots flags tmp2 (pos n)) mid new q in
-    let c = extend_few flags 31 index in
-    let d = number_long flags tmp2 (pos n) in
-    let e = number_few flags tmp2 (pos n) (count_splits n lt) in
-    omega arith
+    omega (arith, alone_long (slots_of flags (extend_pieces 31 index false 32)) old mid p, alone_long (number_slots flags tmp2 (pos n)) mid new q, extend_few flags 31 index, number_long flags tmp2 (pos n), number_few flags tmp2 (pos n) (count_splits n lt))
 
 pub table_put : {flags : IsaFlags} (index tmp1 tmp2 : ℕ) (targets : List MachLabel) (d : MachLabel) (old a b new : Buffer) → 1 ≤ length targets → PutsAlone flags (slots_of flags (extend_pieces 31 index false 32)) old a → PutsAlone flags (number_slots flags tmp2 (pos (length (others targets)))) a b → PutsAlone flags (jump_slots tmp1 tmp2 (get_or targets 0 d) (others targets)) b new → PutsAlone flags (table_slots flags index tmp1 tmp2 targets) old new
 table_put index tmp1 tmp2 [] d old a b new some p q r = absurd (omega arith)
 table_put {flags} index tmp1 tmp2 (default ∷ labels) d old a b new some p q r =
     let same : others (default ∷ labels) ≡ labels = take_all (length (default ∷ labels) - 1) labels (omega arith) in
-    let number = subst (λ ls. PutsAlone flags (number_slots flags tmp2 (pos (length ls))) a b) same q in
     let jumps = subst (λ ls. PutsAlone flags (jump_slots tmp1 tmp2 default ls) b new) same r in
     let extend = slots_of flags (extend_pieces 31 index false 32) in
     let count = number_slots flags tmp2 (pos (length labels)) in
     both_alone extend (count ++ jump_slots tmp1 tmp2 default labels) old a new (even_plain extend (extend_even flags 31 index)) p
-    (both_alone count (jump_slots tmp1 tmp2 default labels) a b new (even_plain count (number_even flags tmp2 (pos (length labels)))) number jumps)
+    (both_alone count (jump_slots tmp1 tmp2 default labels) a b new (even_plain count (number_even flags tmp2 (pos (length labels)))) (subst (λ ls. PutsAlone flags (number_slots flags tmp2 (pos (length ls))) a b) same q) jumps)
 
 -- ---- the instruction
 
@@ -227,12 +164,27 @@ island_sound space old new made sound m = ⊎_elim (λ same. subst IsSoundBuffer
 pub island_few : (space : ℕ) (old new : Buffer) (made : Bool) → IslandIfNeeded space old new made → allocated_of new ≤ 1 + allocated_of old
 island_few space old new made m = ⊎_elim (λ (same : (made ≡ false) × (new ≡ old)). let e : allocated_of new ≡ allocated_of old = ap (λ (b : Buffer). allocated_of b) same.1 in omega arith) (λ (put : (made ≡ true) × AppendsIsland old new). let e = put.1.allocated in omega arith) m.put
 
--- an island alone
-pub island_emits : (context : Context) (inst : Inst) (space : ℕ) (old new : Buffer) (made : Bool) → inst ≡ EmitIsland space → IslandIfNeeded space old new made → Emits context inst old new
-island_emits context inst space old new made is m = subst (λ i. Emits context i old new) (sym is) (λ setting. (new, made, m, refl))
-
 -- an island, and the sequence after it
 pub table_emits : (context : Context) (inst : Inst) (index : Reg) (tmp1 tmp2 : Writable Reg) (targets : List MachLabel) (space : ℕ) (old mid new : Buffer) (made : Bool) → inst ≡ BrTable index tmp1 tmp2 targets → space ≡ table_space (length targets) → IslandIfNeeded space old mid made → (labels : List MachLabel) → labels ≡ targets → PutsAlone context.flags (table_slots context.flags (number_of index) (number_of tmp1.reg) (number_of tmp2.reg) labels) mid new → Emits context inst old new
 table_emits context inst index tmp1 tmp2 targets space old mid new made is wide m labels all p =
     let slots = subst (λ ls. PutsAlone context.flags (table_slots context.flags (number_of index) (number_of tmp1.reg) (number_of tmp2.reg) ls) mid new) all p in
     subst (λ i. Emits context i old new) (sym is) (λ setting. (mid, made, subst (λ n. IslandIfNeeded n old mid made) wide m, slots))
+
+-- ---- symbols' addresses, jumps to symbols, call sites and steps in the making of a frame
+
+-- two words, which a linker fills with the distance to a symbol
+pub fill_put : (flags : IsaFlags) (symbol : Symbol) (upper lower : ℤ → List Decoded) (old new : Buffer) (w x : ℕ) → IsPatchable flags PCRelHi20 (word_bytes w) upper → IsPatchable flags PCRelLo12I (word_bytes x) lower → shape_of new ≡ with_bytes (word_bytes x) (with_record (lower_event (length (bytes_of old))) (with_bytes (word_bytes w) (with_record (upper_event symbol) (shape_of old)))) → IsSoundBuffer new → PutsAlone flags (Fill symbol upper lower ∷ []) old new
+fill_put flags symbol upper lower old new w x first second put sound = alone (record { puts = (shape_of new, (word_bytes w, word_bytes x, first, second, put), refl); sound = sound })
+
+-- eight bytes, which it fills with an address
+pub address_put : (flags : IsaFlags) (name : ExternalName) (addend : ℤ) (old new : Buffer) → shape_of new ≡ with_bytes eight_zeros (with_record (address_event name addend) (shape_of old)) → IsSoundBuffer new → PutsAlone flags (Address name addend ∷ []) old new
+address_put flags name addend old new put sound = alone (record { puts = (shape_of new, put, refl); sound = sound })
+
+-- two words, which it fills as one with the distance to a symbol
+pub call_put : (flags : IsaFlags) (name : ExternalName) (ops : ℤ → List Decoded) (old noted mid new : Buffer) (w x : ℕ) → IsPatchable flags PCRel32 (pair_bytes w x) ops → shape_of noted ≡ with_record (call_event name) (shape_of old) → w < 2 ^ 32 → shape_of mid ≡ with_bytes (to_le_bytes w32 w) (shape_of noted) → x < 2 ^ 32 → shape_of new ≡ with_bytes (to_le_bytes w32 x) (shape_of mid) → IsSoundBuffer new → PutsAlone flags (CallTo name ops ∷ []) old new
+call_put flags name ops old noted mid new w x is recorded fw first fx second sound =
+    alone (record { puts = (shape_of new, (pair_bytes w x, is, (pair_joined w x (with_record (call_event name) (shape_of old)) (shape_of mid) (shape_of new) (first ∙ (λ i. with_bytes (same_bytes w fw i) (recorded i))) fx second)), refl); sound = sound })
+
+-- the record of an event that asks nothing of the bytes after it
+pub note_put : (flags : IsaFlags) (event : Event) (old new : Buffer) → AsksNothing event → shape_of new ≡ with_record event (shape_of old) → IsSoundBuffer new → PutsAlone flags (Notes event ∷ []) old new
+note_put flags event old new none put sound = alone (record { puts = (shape_of new, (none, put), refl); sound = sound })

@@ -1,33 +1,175 @@
--- What tail calls add to a buffer, and so each instruction; and that Reach holds after each that asks for an island.
-use Rattle.std.proofs.Common.{◌≡◌, ℕ, ◌+◌, ◌-◌, ◌≤◌, true, List, [], ◌∷◌, None, pos, refl, ap, sym, ◌∙◌, subst, append-nil, arith}
-use Rattle.std.specs.Prelude.{length, is_some}
-use Rattle.rv_base.specs.declared.call.ReturnCallInfo.{ReturnCallInfo}
-use Rattle.rv_base.specs.declared.external_name.ExternalName.{ExternalName}
-use Rattle.rv_base.specs.declared.regs.Reg.{Reg}
-use Rattle.rv_inst.specs.Context.{Context}
-use Rattle.rv_inst.specs.Forms.{short_jalr}
-use Rattle.rv_inst.specs.Rules.{inst_rule}
-use Rattle.rv_inst.specs.Sizes.{island_space, return_size}
-use Rattle.rv_inst.specs.declared.inst.Inst.{Inst}
-use Rattle.rv_inst.specs.declared.inst.Inst.TheVariants.{EmitIsland, BrTable, Call, CallInd, ReturnCall, ReturnCallInd}
-use Rattle.mach_uses.specs.Reach.{CanReach}
-use Rattle.mach_buffer.specs.Buffer.{bytes_of}
-use Rattle.rv_code.specs.declared.state.EmitVState.{EmitVState}
-use Rattle.rv_emit.specs.Emission.{PutsParts, EmitsIn}
-use Rattle.rv_code.specs.OwnCounts.{own_count}
-use Rattle.rv_emit.specs.Emitted.{Buffer, IsSoundBuffer, pending, CanEmit, IslandIfNeeded, Appends}
-use Rattle.rv_code.specs.InstParts.{tail_slots, t0_slots, parts_of}
-use Rattle.rv_code.specs.Slots.{Slot, Ask, Slots, parts_size}
-use Rattle.rv_emit.proofs.CallAppends.{reach_call, reach_call_ind}
+-- What a branch by a table and tail calls add to a buffer, and so each instruction; and that Reach holds after each that asks for an island.
+use Rattle.rv_emit.proofs.Terms.{◌≡◌, ℕ, suc, ◌+◌, ◌^◌, ◌≤◌, inl, Bool, true, false, List, [], ◌∷◌, ◌++◌, map, length, Some, None, refl, ap, sym, ◌∙◌, subst, append-nil, arith, ◌-◌, slice_get, ◌==◌, ◌&&◌, if◌then◌else◌, ℤ, pos, is_some, to_le_bytes, w64, VCodeConstant, IsaFlags, MachLabel, Reg}
+use Rattle.rv_emit.proofs.Terms.{Writable, number_of, low64, Addi, Ld, is_splittable, Context, inst_rule, short_lui, short_rri, short_jalr, Inst, BrTable, EmitIsland, Call, CallInd, ReturnCall, ReturnCallInd, LabelUse, PCRel32, marks_of, table_space, table_size, island_space, return_size, use_at}
+use Rattle.rv_emit.proofs.Terms.{Shape, CanReach, shape_of, bytes_of, allocated_of, named_of, EmitVState, PutsSlots, PutsParts, EmitsIn, Buffer, pending, IsFarUse, AppendsInst, IslandIfNeeded, IsSoundBuffer, CanEmit, Appends, upper_of, lower_of, inline_slots, number_slots, table_slots, parts_of}
+use Rattle.rv_emit.proofs.Terms.{tail_slots, t0_slots, Target, Label, Own, Ask, Slots, Slot, Op, Aim, Data, size_of, parts_size, names_of, GapStandsIn, PartsIn, far_jump, jump_slots, fine, IsPlain, IsAdded, Adds, plain_adds, added, lasts_after_slots, puts_bytes, puts_named, puts_constants, no_own}
+use Rattle.rv_emit.proofs.Terms.{table_long, table_short, ReturnCallInfo, ExternalName, jalr_sized, call_records, tail_contents, t0_contents, loads_unless, result_loads, unless_short, results_short}
+use Rattle.rv_code.specs.Slots.{uses_of, records_of}
+use Rattle.rv_emit.proofs.ReachAfterInst.{Each, each_none, each_more, bytes_put, pending_adds, calm_after, reach_within, reach_calm, reach_after_island}
+use Rattle.rv_emit.proofs.CallAppends.{reach_loading}
 use Rattle.rv_emit.proofs.CallSlots.{call_appends, call_ind_appends}
-use Rattle.rv_code.proofs.FineOperands.{fine}
 use Rattle.rv_emit.proofs.InstSlots.{appends_inst}
-use Rattle.rv_code.proofs.PlainSlots.{IsAdded}
-use Rattle.rv_emit.proofs.PlainSlots.{added}
-use Rattle.rv_emit.proofs.ReachAfterInst.{bytes_put, pending_adds, calm_after, reach_calm, reach_after_island, reach_within}
-use Rattle.rv_code.proofs.ShortOps.{jalr_sized}
-use Rattle.rv_emit.proofs.TableAppends.{AppendsAfter, appends_table, reach_table, table_some}
-use Rattle.rv_code.proofs.TailSlots.{call_records, tail_contents, t0_contents}
+
+-- A branch by a table: an island where one is needed, and then its words, whose uses reach everywhere.
+-- ---- slots whose uses reach everywhere
+
+-- one of these labels
+record IsIn (labels : List MachLabel) (label : MachLabel) : Type 0 where
+  pub index : ℕ
+  pub there : slice_get labels index ≡ Some label
+
+abbrev IsFarAim : List MachLabel → LabelUse → Target → Type 0
+IsFarAim labels kind (Label label) = (kind ≡ PCRel32) × IsIn labels label
+IsFarAim labels kind (Own k) = ⊥
+
+-- operations, data, and uses of these labels that reach everywhere
+abbrev AreFar : List MachLabel → List Slot → Type 0
+AreFar labels [] = Unit {0}
+AreFar labels (Op d ∷ slots) = AreFar labels slots
+AreFar labels (Aim kind target ops ∷ slots) = IsFarAim labels kind target × AreFar labels slots
+AreFar labels (Data bytes ∷ slots) = AreFar labels slots
+AreFar labels (first ∷ slots) = ⊥
+
+far_both : (labels : List MachLabel) (slots more : List Slot) → AreFar labels slots → AreFar labels more → AreFar labels (slots ++ more)
+far_both labels [] more a b = b
+far_both labels (Op d ∷ slots) more a b = far_both labels slots more a b
+far_both labels (Aim kind target ops ∷ slots) more a b = (a.0, far_both labels slots more a.1 b)
+far_both labels (Data bytes ∷ slots) more a b = far_both labels slots more a b
+far_both labels (first ∷ slots) more a b = absurd a
+
+far_plain : (labels : List MachLabel) (slots : List Slot) → AreFar labels slots → IsPlain slots
+far_plain labels [] a = tt
+far_plain labels (Op d ∷ slots) a = far_plain labels slots a
+far_plain labels (Aim kind target ops ∷ slots) a = far_plain labels slots a.1
+far_plain labels (Data bytes ∷ slots) a = far_plain labels slots a
+far_plain labels (first ∷ slots) a = absurd a
+
+far_use : (labels : List MachLabel) (allocated at : ℕ) (label : MachLabel) (kind : LabelUse) → kind ≡ PCRel32 → IsIn labels label → IsFarUse labels (use_at at label kind)
+far_use labels allocated at label kind is i = subst (λ k. IsFarUse labels (use_at at label k)) (sym is) (record { far = refl; direct = refl; bare = refl; index = i.index; names = i.there })
+
+far_uses : (labels : List MachLabel) (allocated at : ℕ) (slots : List Slot) → AreFar labels slots → Each (IsFarUse labels) (uses_of allocated at slots)
+far_uses labels allocated at [] a = each_none _
+far_uses labels allocated at (Op d ∷ slots) a = far_uses labels allocated (at + d.len) slots a
+far_uses labels allocated at (Aim kind (Label label) ops ∷ slots) a = each_more (IsFarUse labels) _ (uses_of allocated (at + length (marks_of kind)) slots) (far_use labels allocated at label kind a.0.0 a.0.1) (far_uses labels allocated (at + length (marks_of kind)) slots a.1)
+far_uses labels allocated at (Aim kind (Own k) ops ∷ slots) a = absurd a.0
+far_uses labels allocated at (Data bytes ∷ slots) a = far_uses labels allocated (at + length bytes) slots a
+far_uses labels allocated at (first ∷ slots) a = absurd a
+
+far_records : (labels : List MachLabel) (at : ℕ) (slots : List Slot) → AreFar labels slots → records_of at slots ≡ []
+far_records labels at [] a = refl
+far_records labels at (Op d ∷ slots) a = far_records labels (at + d.len) slots a
+far_records labels at (Aim kind target ops ∷ slots) a = far_records labels (at + length (marks_of kind)) slots a.1
+far_records labels at (Data bytes ∷ slots) a = far_records labels (at + length bytes) slots a
+far_records labels at (first ∷ slots) a = absurd a
+
+far_names : (labels : List MachLabel) (named : List VCodeConstant) (slots : List Slot) → AreFar labels slots → names_of slots named ≡ named
+far_names labels named [] a = refl
+far_names labels named (Op d ∷ slots) a = far_names labels named slots a
+far_names labels named (Aim kind target ops ∷ slots) a = far_names labels named slots a.1
+far_names labels named (Data bytes ∷ slots) a = far_names labels named slots a
+far_names labels named (first ∷ slots) a = absurd a
+
+-- ---- those of a table
+
+-- a number in a register names no label
+number_far : (labels : List MachLabel) (flags : IsaFlags) (rd : ℕ) (z : ℤ) → AreFar labels (number_slots flags rd z)
+number_far labels flags rd z = on (is_splittable z) (low64 (upper_of z) == 0) (low64 (lower_of z) == 0)
+  where
+    on : (c d e : Bool) → AreFar labels (if c && d then Op (short_rri flags Addi rd 0 (lower_of z)) ∷ [] else if c then Op (short_lui flags rd (upper_of z)) ∷ (if e then [] else Op (short_rri flags Addi rd rd (lower_of z)) ∷ []) else inline_slots flags rd Ld 8 (to_le_bytes w64 (low64 z)))
+    on true true e = tt
+    on true false true = tt
+    on true false false = tt
+    on false d e = tt
+
+jumps_far : (all : List MachLabel) (tmp from : ℕ) (labels : List MachLabel) → ((i : ℕ) (l : MachLabel) → slice_get labels i ≡ Some l → slice_get all (from + i) ≡ Some l) → AreFar all (map (far_jump tmp) labels)
+jumps_far all tmp from [] there = tt
+jumps_far all tmp from (l ∷ labels) there =
+    ((refl, record { index = from + 0; there = there 0 l refl }), jumps_far all tmp (suc from) labels (λ i m h. let same : suc from + i ≡ from + suc i = omega arith in ap (slice_get all) same ∙ there (suc i) m h))
+
+table_far : (flags : IsaFlags) (index tmp1 tmp2 : ℕ) (targets : List MachLabel) → AreFar targets (table_slots flags index tmp1 tmp2 targets)
+table_far flags index tmp1 tmp2 [] = tt
+table_far flags index tmp1 tmp2 (default ∷ labels) =
+    let all = default ∷ labels in
+    far_both all (number_slots flags tmp2 (pos (length labels))) (jump_slots tmp1 tmp2 default labels) (number_far all flags tmp2 (pos (length labels)))
+    ((refl, record { index = 0; there = refl }), jumps_far all tmp2 1 labels (λ i l h. let same : 1 + i ≡ suc i = omega arith in ap (slice_get all) same ∙ h))
+
+-- ---- what is added
+
+-- an island where one is needed before so many bytes, and then the words of an instruction
+pub record AppendsAfter (context : Context) (inst : Inst) (space : ℕ) (old new : Buffer) : Type 0 where
+  pub mid : Buffer
+  pub made : Bool
+  pub room : IslandIfNeeded space old mid made
+  pub words : AppendsInst context inst mid new
+
+appends_words : (context : Context) (index : Reg) (tmp1 tmp2 : Writable Reg) (targets : List MachLabel) (old new : Buffer) → 1 ≤ length targets → PutsSlots context.flags (table_slots context.flags (number_of index) (number_of tmp1.reg) (number_of tmp2.reg) targets) old new → AppendsInst context (BrTable index tmp1 tmp2 targets) old new
+appends_words context index tmp1 tmp2 targets old new some p = record {
+  code = a.code;
+  own = 0;
+  few = omega arith;
+  alone = λ asks. refl;
+  direct = uses_of allocated start slots;
+  adds = no_own a.code _ old new (record {
+    bytes = a.bytes;
+    uses = a.uses;
+    places = a.place;
+    labels = a.labels;
+    allocated = a.allocated;
+    registered = (lasts_after_slots flags allocated slots (shape_of old) (shape_of new) p.puts).registered;
+    constants = puts_constants flags allocated slots (shape_of old) (shape_of new) p.puts;
+    sound = p.sound;
+  });
+  each = λ j u h. inl (far_uses targets allocated start slots far j u h);
+  records = a.records ∙ ap (λ more. (shape_of old).records ++ more) (far_records targets start slots far);
+  named = puts_named flags allocated slots (shape_of old) (shape_of new) p.puts ∙ far_names targets (named_of old) slots far;
+  long = sym (table_long flags (number_of index) (number_of tmp1.reg) (number_of tmp2.reg) targets some) ∙ sym a.long;
+}
+  where
+    flags : IsaFlags
+    flags = context.flags
+
+    allocated : ℕ
+    allocated = allocated_of old
+
+    start : ℕ
+    start = length (bytes_of old)
+
+    slots : List Slot
+    slots = table_slots flags (number_of index) (number_of tmp1.reg) (number_of tmp2.reg) targets
+
+    far : AreFar targets slots
+    far = table_far flags (number_of index) (number_of tmp1.reg) (number_of tmp2.reg) targets
+
+    a : Adds (size_of slots) (uses_of allocated start slots) (records_of start slots) (shape_of old) (shape_of new)
+    a = plain_adds flags allocated slots (shape_of old) (shape_of new) (far_plain targets slots far) p.puts
+
+pub appends_table : (context : Context) (setting : EmitVState) (index : Reg) (tmp1 tmp2 : Writable Reg) (targets : List MachLabel) (old new : Buffer) → 1 ≤ length targets → EmitsIn context setting (BrTable index tmp1 tmp2 targets) old new → AppendsAfter context (BrTable index tmp1 tmp2 targets) (table_space (length targets)) old new
+appends_table context setting index tmp1 tmp2 targets old new some (mid, made, room, (last, p, same)) = record {
+  mid = mid;
+  made = made;
+  room = room;
+  words = subst (AppendsInst context (BrTable index tmp1 tmp2 targets) mid) (sym same) (appends_words context index tmp1 tmp2 targets mid last some p);
+}
+
+-- Reach holds after it
+pub reach_table : (context : Context) (index : Reg) (tmp1 tmp2 : Writable Reg) (targets : List MachLabel) (old new : Buffer) → 1 ≤ length targets → length targets ≤ 2 ^ 30 → AppendsAfter context (BrTable index tmp1 tmp2 targets) (table_space (length targets)) old new → CanReach (length (bytes_of new)) (pending new)
+reach_table context index tmp1 tmp2 targets old new some few a =
+    let long = bytes_put context (BrTable index tmp1 tmp2 targets) a.mid new a.words in
+    let short = table_short context.flags (number_of index) (number_of tmp2.reg) (length targets) some few in
+    reach_within (table_space (length targets)) a.mid new (calm_after (table_space (length targets)) old a.mid a.made a.room) (omega arith)
+    (pending_adds context (BrTable index tmp1 tmp2 targets) a.mid new a.words ∙ append-nil (pending a.mid))
+
+-- as many bytes as the instruction has
+pub table_parts_long : (context : Context) (setting : EmitVState) (index : Reg) (tmp1 tmp2 : Writable Reg) (targets : List MachLabel) → 1 ≤ length targets → parts_size (parts_of context setting (BrTable index tmp1 tmp2 targets)) ≡ table_size context.flags (number_of index) (number_of tmp2.reg) (length targets)
+table_parts_long context setting index tmp1 tmp2 targets some = let long = table_long context.flags (number_of index) (number_of tmp1.reg) (number_of tmp2.reg) targets some in omega arith
+
+-- of one that breaks no rule
+pub table_some : (context : Context) (index : Reg) (tmp1 tmp2 : Writable Reg) (targets : List MachLabel) → inst_rule context (BrTable index tmp1 tmp2 targets) ≡ None → 1 ≤ length targets
+table_some context index tmp1 tmp2 targets rule = (fine context (BrTable index tmp1 tmp2 targets) rule).4
+
+-- the words of a table stand where its parts do, after an island or none
+pub table_stands : (flags : IsaFlags) (space : ℕ) (slots : List Slot) (f : Shape LabelUse) (start end : ℕ) → PartsIn flags (Ask space ∷ Slots slots ∷ []) f start end → (mid : ℕ) × GapStandsIn flags f start mid × (end ≡ mid + size_of slots)
+table_stands flags space slots f start end (mid, gap, (last, s, same)) = (mid, gap, let long = puts_bytes flags s.old.allocated slots s.old s.new s.puts in let starts = s.starts in let ends = s.ends in omega arith)
 
 -- ---- what is added
 
@@ -37,18 +179,16 @@ tail_added context info =
     record { plain = c.plain; long = c.long; uses = c.uses; records = λ start. c.records start ∙ ap (λ n. call_records info.dest (start + n - 8)) c.long; names = c.names }
 
 t0_added : (context : Context) (info : ReturnCallInfo Reg) → IsAdded context (ReturnCallInd info) (t0_slots context.flags context.frame info.new_stack_arg_size)
-t0_added context info =
-    let c = t0_contents context.flags context.frame info.new_stack_arg_size in
-    record { plain = c.plain; long = c.long; uses = c.uses; records = c.records; names = c.names }
+t0_added context info = let c = t0_contents context.flags context.frame info.new_stack_arg_size in record { plain = c.plain; long = c.long; uses = c.uses; records = c.records; names = c.names }
 
-appends_after : (context : Context) (inst : Inst) (space : ℕ) (slots : List Slot) (old new : Buffer) → own_count inst ≡ 0 → IsAdded context inst slots → PutsParts context.flags (Ask space ∷ Slots slots ∷ []) old new → AppendsAfter context inst space old new
-appends_after context inst space slots old new none is (mid, made, room, words) = record { mid = mid; made = made; room = room; words = added context inst slots mid new none is context.flags words }
+appends_after : (context : Context) (inst : Inst) (space : ℕ) (slots : List Slot) (old new : Buffer) → IsAdded context inst slots → PutsParts context.flags (Ask space ∷ Slots slots ∷ []) old new → AppendsAfter context inst space old new
+appends_after context inst space slots old new is (mid, made, room, words) = record { mid = mid; made = made; room = room; words = added context inst slots mid new is context.flags words }
 
 pub appends_tail : (context : Context) (setting : EmitVState) (info : ReturnCallInfo ExternalName) (old new : Buffer) → EmitsIn context setting (ReturnCall info) old new → AppendsAfter context (ReturnCall info) (return_size context.flags context.frame info.new_stack_arg_size + 8) old new
-appends_tail context setting info old new e = appends_after context (ReturnCall info) _ _ old new refl (tail_added context info) e
+appends_tail context setting info old new e = appends_after context (ReturnCall info) _ _ old new (tail_added context info) e
 
 pub appends_t0 : (context : Context) (setting : EmitVState) (info : ReturnCallInfo Reg) (old new : Buffer) → EmitsIn context setting (ReturnCallInd info) old new → AppendsAfter context (ReturnCallInd info) (return_size context.flags context.frame info.new_stack_arg_size + 4) old new
-appends_t0 context setting info old new e = appends_after context (ReturnCallInd info) _ _ old new refl (t0_added context info) e
+appends_t0 context setting info old new e = appends_after context (ReturnCallInd info) _ _ old new (t0_added context info) e
 
 -- as many bytes as the instruction has
 pub tail_parts_long : (context : Context) (setting : EmitVState) (info : ReturnCallInfo ExternalName) → parts_size (parts_of context setting (ReturnCall info)) ≡ return_size context.flags context.frame info.new_stack_arg_size + 8
@@ -91,8 +231,12 @@ reach_asking context setting (BrTable index tmp1 tmp2 targets) old new can asks 
     let some = (fine context (BrTable index tmp1 tmp2 targets) can.rule).4 in
     let room = can.room in
     reach_table context index tmp1 tmp2 targets old new some (omega arith) (appends_table context setting index tmp1 tmp2 targets old new some e)
-reach_asking context setting (Call info) old new can asks e = reach_call context info old new (fine context (Call info) can.rule).1 asks (call_appends context info old new e)
-reach_asking context setting (CallInd info) old new can asks e = reach_call_ind context info old new (fine context (CallInd info) can.rule).2 asks (call_ind_appends context info old new e)
+reach_asking context setting (Call info) old new can asks e =
+    reach_loading context (Call info) 8 info.callee_pop_size (loads_unless info.patchable info.defs) info.try_call_info old new
+    (unless_short context.flags info.patchable info.defs (fine context (Call info) can.rule).1) asks (λ start end. refl) (call_appends context info old new e)
+reach_asking context setting (CallInd info) old new can asks e =
+    reach_loading context (CallInd info) (short_jalr context.flags 1 (number_of info.dest) (pos 0)).len info.callee_pop_size (result_loads info.defs) info.try_call_info old new
+    (results_short context.flags info.defs (fine context (CallInd info) can.rule).2) asks (λ start end. refl) (call_ind_appends context info old new e)
 reach_asking context setting (ReturnCall info) old new can asks e = reach_tail context info _ old new (omega arith) (appends_tail context setting info old new e)
 reach_asking context setting (ReturnCallInd info) old new can asks e = reach_t0 context info _ old new (omega arith) (appends_t0 context setting info old new e)
 reach_asking context setting _ old new can asks e = absurd (cc)

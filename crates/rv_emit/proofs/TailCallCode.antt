@@ -1,50 +1,13 @@
 -- What a tail call puts: loads of what a frame saved, a step of the stack pointer, and a jump.
-use Rattle.std.proofs.Common.{FitsSigned, ◌≡◌, ℕ, zero, suc, ◌+◌, ◌*◌, ◌<◌, ◌≤◌, Bool, true, false, List, [], ◌∷◌, ◌++◌, take, length, Option, Some, None, ℤ, pos, refl, ap, sym, subst, ◌∙◌, append_assoc, append-nil, ⊎_elim, arith}
-use Rattle.std.specs.Prelude.{◌≢◌, get_or, slice_index_or, ◌==◌, ◌-ℤ◌, if◌then◌else◌}
-use Rattle.std.proofs.lemmas.Int.{ints, to_z-of_z}
-use Rattle.std.proofs.lemmas.List.{length-take, take_all, take_more}
-use Rattle.std.proofs.lemmas.Bool.Decides.{nat_tests}
-use Rattle.std.specs.Int.{cast_signed, w64}
-use Rattle.rv_base.specs.declared.call.CallInfo.{CallInfo}
-use Rattle.rv_base.specs.declared.call.TryCallInfo.{TryCallInfo}
-use Rattle.rv_base.specs.declared.call.UserStackMap.{UserStackMap}
-use Rattle.rv_base.specs.declared.external_name.ExternalName.{ExternalName}
-use Rattle.rv_base.specs.declared.regs.Reg.{Reg}
-use Rattle.rv_base.specs.declared.regs.RegClass.TheVariants.{Int}
-use Rattle.rv_base.specs.Regs.{IsReal, number_of}
+use Rattle.rv_emit.proofs.Terms.{FitsSigned, ◌≡◌, ℕ, zero, suc, ◌+◌, ◌*◌, ◌<◌, ◌≤◌, Bool, true, false, List, [], ◌∷◌, ◌++◌, take, length, Option, Some, None, ℤ, pos, refl, ap, sym, subst, ◌∙◌, append_assoc, append-nil, ⊎_elim, arith, ◌≢◌, get_or, slice_index_or, ◌==◌, ◌-ℤ◌, if◌then◌else◌, ints}
+use Rattle.rv_emit.proofs.Terms.{to_z-of_z, length-take, take_more, nat_tests, cast_signed, w64, CallInfo, TryCallInfo, UserStackMap, ExternalName, Reg, Int, IsReal, number_of, IsaFlags, FrameLayout, PReg, Real, Virtual, Writable, sp_to_fp_of, code_limit, Add, Addi, Ld, IsIntRegister}
+use Rattle.rv_emit.proofs.Terms.{IsRealRegister, shape_of, bytes_of, reserve_of, low64, Based, is_near, short_rrr, short_rri, short_jalr, StackLoad, saved_load, saves_from, setup_loads, restores, frame_above, site_event, stack_loads_size, stack_step_size, fall, call_size, return_size, PutsAlone}
+use Rattle.rv_emit.proofs.Terms.{PutsParts, Buffer, IsSoundBuffer, IslandIfNeeded, AppendsIsland, pending, load_line_slots, number_slots, stack_load_slots, far_step_slots, stack_step_slots, return_slots, call_to, tail_slots, t0_slots, map_notes, return_notes, after_call, patch_notes, call_slots}
+use Rattle.rv_emit.proofs.Terms.{call_ind_slots, Slot, Op, Notes, Ask, Slots, size_of, HaveAccess, none, nothing, IsPlain, both_alone, alone_long, none_put, even_plain, number_even, number_long, AreShortLoads, eight_short, loads_most, saves_short, setup_short, loads_then, saves_long, setup_few}
+use Rattle.rv_emit.proofs.Terms.{returns_counted}
 use Rattle.mach_records.specs.declared.records.Event.TheVariants as event
-use Rattle.rv_base.specs.declared.flags.IsaFlags.{IsaFlags}
-use Rattle.rv_base.specs.declared.frame.FrameLayout.{FrameLayout}
-use Rattle.rv_base.specs.declared.regs.PReg.{PReg}
-use Rattle.rv_base.specs.declared.regs.Reg.TheVariants.{Real, Virtual}
-use Rattle.rv_base.specs.declared.regs.Writable.{Writable}
-use Rattle.rv_base.specs.Frame.{sp_to_fp_of}
-use Rattle.rv_base.specs.LabelUse.{code_limit}
-use Rattle.rv_ops.specs.declared.alu.AluOPRRR.TheVariants.{Add}
-use Rattle.rv_ops.specs.declared.alu.AluOPRRI.TheVariants.{Addi}
-use Rattle.rv_ops.specs.declared.memory.LoadOP.TheVariants.{Ld}
-use Rattle.rv_encode.specs.Registers.{IsIntRegister, IsRealRegister}
-use Rattle.mach_buffer.specs.Buffer.{shape_of, bytes_of}
-use Rattle.mach_buffer.specs.Constants.{reserve_of}
-use Rattle.rv_machine.specs.State.{low64}
-use Rattle.rv_inst.specs.Addresses.{Based, is_near}
-use Rattle.rv_inst.specs.Forms.{short_rrr, short_rri, short_jalr}
-use Rattle.rv_inst.specs.Returns.{StackLoad, saved_load, saves_from, setup_loads, restores, frame_above}
-use Rattle.rv_inst.specs.Records.{site_event}
-use Rattle.rv_inst.specs.Sizes.{stack_loads_size, stack_step_size, fall, call_size, return_size}
-use Rattle.rv_emit.specs.Emission.{PutsAlone, PutsParts}
-use Rattle.rv_emit.specs.Emitted.{Buffer, IsSoundBuffer, IslandIfNeeded, AppendsIsland, pending}
-use Rattle.rv_code.specs.InstParts.{load_line_slots, number_slots, stack_load_slots, far_step_slots, stack_step_slots, return_slots, call_to, tail_slots, t0_slots, map_notes, return_notes, after_call, patch_notes, call_slots, call_ind_slots}
-use Rattle.rv_code.specs.Slots.{Slot, Op, Notes, Ask, Slots, size_of}
-use Rattle.rv_code.proofs.MemorySlots.{HaveAccess, none, nothing}
-use Rattle.rv_code.proofs.PlainSlots.{IsPlain}
-use Rattle.rv_emit.proofs.SlotsOfSeveralPuts.{both_alone, alone_long}
-use Rattle.rv_emit.proofs.SlotsOfOnePut.{none_put}
-use Rattle.rv_code.proofs.NumberSlots.{number_few}
-use Rattle.rv_code.proofs.TableSlots.{even_plain, number_even, number_long}
+use Rattle.rv_code.proofs.LineSlots.{number_few}
 use Rattle.rv_emit.proofs.CallSlots.{steps_counted}
-use Rattle.rv_code.proofs.ShortLoads.{AreShortLoads, eight_short, loads_most, saves_short, setup_short}
-use Rattle.rv_code.proofs.TailSlots.{loads_then, saves_long, setup_few, returns_counted}
 
 -- ---- loads
 
@@ -85,21 +48,12 @@ saved_put {flags} o at saves k d old mid new lt is p q =
     let before = saves_from o (take k saves) in
     let own = load_line_slots flags (get_or saves k d).reg.number (saved_load (get_or saves k d).reg.class) None (Based 2 at) in
     let next = eight_at (get_or saves k d) at ∷ [] in
-    let here = ap (λ x. before ++ eight_at (get_or saves k d) x ∷ []) (sym is) in
-    subst (λ slots. PutsAlone flags slots old new) (sym (ap (stack_load_slots flags) (saves_more o saves k d lt ∙ here) ∙ loads_both flags before next))
+    subst (λ slots. PutsAlone flags slots old new) (sym (ap (stack_load_slots flags) (saves_more o saves k d lt ∙ (ap (λ x. before ++ eight_at (get_or saves k d) x ∷ []) (sym is))) ∙ loads_both flags before next))
     (both_alone (stack_load_slots flags before) (stack_load_slots flags next) old mid new (loads_plain flags before) p (subst (λ slots. PutsAlone flags slots mid new) (sym (append-nil own)) q))
-
-pub all_saved : {flags : IsaFlags} (o : ℤ) (saves : List (Writable PReg)) (k : ℕ) (old new : Buffer) → length saves ≤ k → PutsAlone flags (stack_load_slots flags (saves_from o (take k saves))) old new → PutsAlone flags (stack_load_slots flags (saves_from o saves)) old new
-all_saved {flags} o saves k old new le p = subst (λ rs. PutsAlone flags (stack_load_slots flags (saves_from o rs)) old new) (take_all k saves le) p
 
 -- how long they are at most
 pub saved_long : {flags : IsaFlags} (o : ℤ) (saves : List (Writable PReg)) (k : ℕ) (old new : Buffer) → k ≤ length saves → PutsAlone flags (stack_load_slots flags (saves_from o (take k saves))) old new → length (bytes_of new) ≤ length (bytes_of old) + 28 * k
-saved_long {flags} o saves k old new le p =
-    let a = alone_long (stack_load_slots flags (saves_from o (take k saves))) old new p in
-    let b = loads_long flags (saves_from o (take k saves)) (saves_short flags o (take k saves)) in
-    let c = saves_long o (take k saves) in
-    let e = length-take k saves in
-    omega arith
+saved_long {flags} o saves k old new le p = omega (arith, alone_long (stack_load_slots flags (saves_from o (take k saves))) old new p, loads_long flags (saves_from o (take k saves)) (saves_short flags o (take k saves)), saves_long o (take k saves), length-take k saves)
 
 -- the register of an index, as the loop reads it
 pub saved_at : (saves : List (Writable PReg)) (k : ℕ) (r : Writable PReg) → k < length saves → r ≡ slice_index_or saves k r → r ≡ get_or saves k r
@@ -141,15 +95,9 @@ setup_put flags frame ra fp above below old mid new some link pointer up down p 
 pub load_long : {flags : IsaFlags} (rd : ℕ) (o : ℤ) (old new : Buffer) → PutsAlone flags (load_line_slots flags rd Ld None (Based 2 o)) old new → length (bytes_of new) ≤ length (bytes_of old) + 28
 load_long {flags} rd o old new p =
     let l : StackLoad = record { register = rd; op = Ld; offset = o } in
-    let a = alone_long (load_line_slots flags rd Ld None (Based 2 o)) old new p in
-    let b = loads_long flags (l ∷ []) (eight_short flags rd o, tt) in
-    let c = ap size_of (append-nil (load_line_slots flags rd Ld None (Based 2 o))) in
-    omega arith
+    omega (arith, alone_long (load_line_slots flags rd Ld None (Based 2 o)) old new p, loads_long flags (l ∷ []) (eight_short flags rd o, tt), ap size_of (append-nil (load_line_slots flags rd Ld None (Based 2 o))))
 
 -- ---- the stack pointer's step
-
-zero_bits : (z : ℤ) → low64 z ≡ 0 → (low64 z == 0) ≡ true
-zero_bits z e = ap (λ n. n == 0) e
 
 -- a number that is 0 as 64 bits is 0
 other_bits : (z : ℤ) → FitsSigned w64 z → z ≢ pos 0 → (low64 z == 0) ≡ false
@@ -157,9 +105,6 @@ other_bits z fits some = let e : low64 z ≢ 0 = λ zeroed. some (sym (to_z-of_z
 
 abbrev step_by : IsaFlags → ℤ → Bool → Bool → List Slot
 step_by flags z zeroed near = if zeroed then [] else if near then Op (short_rri flags Addi 2 2 z) ∷ [] else far_step_slots flags z
-
-pub no_step : (flags : IsaFlags) (z : ℤ) (old new : Buffer) → low64 z ≡ 0 → PutsAlone flags [] old new → PutsAlone flags (stack_step_slots flags z) old new
-no_step flags z old new none_at_all p = subst (λ c. PutsAlone flags (step_by flags z c (is_near z)) old new) (sym (zero_bits z none_at_all)) p
 
 pub near_step : (flags : IsaFlags) (z imm : ℤ) (old new : Buffer) → FitsSigned w64 z → z ≢ pos 0 → imm ≡ z → is_near imm ≡ true → PutsAlone flags (Op (short_rri flags Addi 2 2 imm) ∷ []) old new → PutsAlone flags (stack_step_slots flags z) old new
 near_step flags z imm old new fits some is near p =
@@ -180,25 +125,11 @@ pub real_any : (r : Reg) (n : ℕ) → IsReal r Int n → IsRealRegister r
 real_any (Real p) n h = refl
 real_any (Virtual class index) n h = absurd h
 
--- the number of the step, as the code has it
-pub number_there : {flags : IsaFlags} {old new : Buffer} (spare : ℕ) (z : ℤ) → spare ≡ 31 → PutsAlone flags (number_slots flags spare z) old new → PutsAlone flags (number_slots flags 31 z) old new
-number_there {flags} {old} {new} spare z e p = subst (λ r. PutsAlone flags (number_slots flags r z) old new) e p
-
 pub number_room : {flags : IsaFlags} (z : ℤ) (old new : Buffer) → PutsAlone flags (number_slots flags 31 z) old new → length (bytes_of new) ≤ length (bytes_of old) + 20
-number_room {flags} z old new p =
-    let a = alone_long (number_slots flags 31 z) old new p in
-    let b = number_long flags 31 z in
-    let c = number_few flags 31 z in
-    omega arith
-
-pub sum_named : {flags : IsaFlags} {old new : Buffer} (rd rs1 rs2 : ℕ) → rd ≡ 2 → rs1 ≡ 2 → rs2 ≡ 31 → PutsAlone flags (Op (short_rrr flags Add rd rs1 rs2) ∷ []) old new → PutsAlone flags (Op (short_rrr flags Add 2 2 31) ∷ []) old new
-sum_named {flags} {old} {new} rd rs1 rs2 a b c p = subst (λ d. PutsAlone flags (Op d ∷ []) old new) (λ i. short_rrr flags Add (a i) (b i) (c i)) p
+number_room {flags} z old new p = omega (arith, alone_long (number_slots flags 31 z) old new p, number_long flags 31 z, number_few flags 31 z)
 
 pub far_step_put : {flags : IsaFlags} (z : ℤ) (old mid new : Buffer) → PutsAlone flags (number_slots flags 31 z) old mid → PutsAlone flags (Op (short_rrr flags Add 2 2 31) ∷ []) mid new → PutsAlone flags (far_step_slots flags z) old new
 far_step_put {flags} z old mid new p q = both_alone (number_slots flags 31 z) (Op (short_rrr flags Add 2 2 31) ∷ []) old mid new (even_plain (number_slots flags 31 z) (number_even flags 31 z)) p q
-
-pub addi_named : {flags : IsaFlags} {old new : Buffer} (rd rs : ℕ) (imm : ℤ) → rd ≡ 2 → rs ≡ 2 → PutsAlone flags (Op (short_rri flags Addi rd rs imm) ∷ []) old new → PutsAlone flags (Op (short_rri flags Addi 2 2 imm) ∷ []) old new
-addi_named {flags} {old} {new} rd rs imm a b p = subst (λ d. PutsAlone flags (Op d ∷ []) old new) (λ i. short_rri flags Addi (a i) (b i) imm) p
 
 -- ---- the whole frame
 
@@ -210,9 +141,6 @@ saves_room {flags} o saves old new p = let a = loads_room (saves_from o saves) o
 
 pub setup_room : {flags : IsaFlags} (frame : FrameLayout) (old new : Buffer) → PutsAlone flags (stack_load_slots flags (setup_loads frame)) old new → length (bytes_of new) ≤ length (bytes_of old) + 56
 setup_room {flags} frame old new p = let a = loads_room (setup_loads frame) old new (setup_short flags frame) p in let b = setup_few frame in omega arith
-
-pub saves_there : {flags : IsaFlags} (frame : FrameLayout) (below : ℕ) (saves : List (Writable PReg)) (old new : Buffer) → below ≡ sp_to_fp_of frame → saves ≡ frame.clobbered_callee_saves → PutsAlone flags (stack_load_slots flags (saves_from (pos below -ℤ pos 8) saves)) old new → PutsAlone flags (stack_load_slots flags (saves_from (pos (sp_to_fp_of frame) -ℤ pos 8) frame.clobbered_callee_saves)) old new
-saves_there {flags} frame below saves old new is all p = subst (λ loads. PutsAlone flags (stack_load_slots flags loads) old new) (λ i. saves_from (pos (is i) -ℤ pos 8) (all i)) p
 
 pub return_put : {flags : IsaFlags} (frame : FrameLayout) (arguments : ℕ) (old a b new : Buffer) → PutsAlone flags (stack_load_slots flags (saves_from (pos (sp_to_fp_of frame) -ℤ pos 8) frame.clobbered_callee_saves)) old a → PutsAlone flags (stack_load_slots flags (setup_loads frame)) a b → PutsAlone flags (stack_step_slots flags (pos (frame_above frame arguments))) b new → PutsAlone flags (return_slots flags frame arguments) old new
 return_put {flags} frame arguments old a b new p q r =
@@ -236,8 +164,7 @@ after_island space extra old new made room m = ⊎_elim
 
 pub tail_put : {flags : IsaFlags} (frame : FrameLayout) (arguments : ℕ) (name : ExternalName) (size link tmp : ℕ) (old mid a b new : Buffer) (made : Bool) → size ≡ return_size flags frame arguments → link ≡ 0 → tmp ≡ 31 → IslandIfNeeded (size + 8) old mid made → PutsAlone flags (return_slots flags frame arguments) mid a → PutsAlone flags (Notes event.CallSite ∷ []) a b → PutsAlone flags (call_to link tmp name ∷ []) b new → PutsParts flags (Ask (return_size flags frame arguments + 8) ∷ Slots (tail_slots flags frame arguments name) ∷ []) old new
 tail_put {flags} frame arguments name size link tmp old mid a b new made measured zero_link spare island p q r =
-    let call = subst (λ s. PutsAlone flags (s ∷ []) b new) (λ i. call_to (zero_link i) (spare i) name) r in
-    let last = both_alone (Notes event.CallSite ∷ []) (call_to 0 31 name ∷ []) a b new tt q call in
+    let last = both_alone (Notes event.CallSite ∷ []) (call_to 0 31 name ∷ []) a b new tt q (subst (λ s. PutsAlone flags (s ∷ []) b new) (λ i. call_to (zero_link i) (spare i) name) r) in
     (mid, made, subst (λ n. IslandIfNeeded (n + 8) old mid made) measured island, both_alone (return_slots flags frame arguments) (Notes event.CallSite ∷ call_to 0 31 name ∷ []) mid a new (returns_counted flags frame arguments).plain p last)
 
 pub t0_put : {flags : IsaFlags} (frame : FrameLayout) (arguments size link target : ℕ) (old mid a new : Buffer) (made : Bool) → size ≡ return_size flags frame arguments → link ≡ 0 → target ≡ 5 → IslandIfNeeded (size + 4) old mid made → PutsAlone flags (return_slots flags frame arguments) mid a → PutsAlone flags (Op (short_jalr flags link target (pos 0)) ∷ []) a new → PutsParts flags (Ask (return_size flags frame arguments + 4) ∷ Slots (t0_slots flags frame arguments) ∷ []) old new
@@ -262,18 +189,10 @@ return_plain : (frame : FrameLayout) (entries : Option UserStackMap) (t : Option
 return_plain frame None t = tt
 return_plain frame (Some entries) t = tt
 
-patch_plain : (patchable : Bool) (n : ℕ) → IsPlain (patch_notes patchable n)
-patch_plain false n = tt
-patch_plain true n = tt
-
 -- records have no bytes
 pub returned_long : {flags : IsaFlags} (frame : FrameLayout) (entries : Option UserStackMap) (t : Option TryCallInfo) (old new : Buffer) → PutsAlone flags (return_notes frame entries t) old new → length (bytes_of new) ≡ length (bytes_of old)
 returned_long frame None t old new p = let a = alone_long _ old new p in omega arith
 returned_long frame (Some entries) t old new p = let a = alone_long _ old new p in omega arith
-
-pub patch_long : {flags : IsaFlags} (patchable : Bool) (n : ℕ) (old new : Buffer) → PutsAlone flags (patch_notes patchable n) old new → length (bytes_of new) ≡ length (bytes_of old)
-patch_long false n old new p = let a = alone_long _ old new p in omega arith
-patch_long true n old new p = let a = alone_long _ old new p in omega arith
 
 -- what comes after the words of a call
 rest_put : {flags : IsaFlags} (frame : FrameLayout) (popped n : ℕ) (patchable : Bool) (entries : Option UserStackMap) (t : Option TryCallInfo) (a b c new : Buffer) → PutsAlone flags (return_notes frame entries t) a b → PutsAlone flags (stack_step_slots flags (fall popped)) b c → PutsAlone flags (patch_notes patchable n) c new → PutsAlone flags (return_notes frame entries t ++ (after_call flags popped ++ (patch_notes patchable n ++ []))) a new
@@ -286,12 +205,10 @@ rest_put {flags} frame popped n patchable entries t a b c new q r s =
 
 pub call_begun : {flags : IsaFlags} (frame : FrameLayout) (info : CallInfo ExternalName) (link tmp : ℕ) (old a b c new : Buffer) → link ≡ 1 → tmp ≡ 1 → PutsAlone flags (call_to link tmp info.dest ∷ []) old a → PutsAlone flags (return_notes frame info.stack_map info.try_call_info) a b → PutsAlone flags (stack_step_slots flags (fall info.callee_pop_size)) b c → PutsAlone flags (patch_notes info.patchable (call_size flags 8 info.callee_pop_size)) c new → PutsAlone flags (call_slots flags frame info []) old new
 call_begun {flags} frame info link tmp old a b c new one spare p q r s =
-    let call = subst (λ s. PutsAlone flags (s ∷ []) old a) (λ i. call_to (one i) (spare i) info.dest) p in
-    both_alone (call_to 1 1 info.dest ∷ []) _ old a new tt call
+    both_alone (call_to 1 1 info.dest ∷ []) _ old a new tt (subst (λ s. PutsAlone flags (s ∷ []) old a) (λ i. call_to (one i) (spare i) info.dest) p)
     (rest_put frame info.callee_pop_size (call_size flags 8 info.callee_pop_size) info.patchable info.stack_map info.try_call_info a b c new q r s)
 
 pub call_ind_begun : {flags : IsaFlags} (frame : FrameLayout) (info : CallInfo Reg) (link : ℕ) (old a b new : Buffer) → IsSoundBuffer new → link ≡ 1 → PutsAlone flags (Op (short_jalr flags link (number_of info.dest) (pos 0)) ∷ []) old a → PutsAlone flags (return_notes frame info.stack_map info.try_call_info) a b → PutsAlone flags (stack_step_slots flags (fall info.callee_pop_size)) b new → PutsAlone flags (call_ind_slots flags frame info []) old new
 call_ind_begun {flags} frame info link old a b new sound one p q r =
-    let jump = subst (λ n. PutsAlone flags (Op (short_jalr flags n (number_of info.dest) (pos 0)) ∷ []) old a) one p in
-    both_alone (Op (short_jalr flags 1 (number_of info.dest) (pos 0)) ∷ []) _ old a new tt jump
+    both_alone (Op (short_jalr flags 1 (number_of info.dest) (pos 0)) ∷ []) _ old a new tt (subst (λ n. PutsAlone flags (Op (short_jalr flags n (number_of info.dest) (pos 0)) ∷ []) old a) one p)
     (rest_put frame info.callee_pop_size 0 false info.stack_map info.try_call_info a b new new q r (none_put flags new sound))

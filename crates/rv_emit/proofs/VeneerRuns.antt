@@ -1,38 +1,45 @@
--- A veneer in finished code leads on to where its own use aims.
-use Rattle.std.proofs.Common.{◌≡◌, ℕ, zero, suc, ◌+◌, ◌-◌, ◌*◌, ◌/◌, ◌%◌, ◌^◌, ◌<◌, ◌≤◌, inl, Bool, true, false, List, [], ◌∷◌, length, drop, Some, arith, refl, sym, ap, subst, ◌∙◌, ℤ, pos, negsuc, ◌+ℤ◌, ◌*ℤ◌, ◌-ℤ◌, lit<}
-use Rattle.std.specs.Prelude.{slice_index, slice_set, nat_lt, if◌then◌else◌}
-use Rattle.std.specs.Option.{option_map}
-use Rattle.std.proofs.lemmas.Int.{ints}
-use Rattle.std.proofs.lemmas.Bool.{ltb-true}
-use Rattle.std.proofs.lemmas.Grind.{get_or-set_at}
-use Rattle.std.proofs.Math.Seq.{get_or-set_other}
-use Rattle.std.proofs.lemmas.List.{length-drop}
-use Rattle.rv_base.specs.LabelUse.{SameOutside}
-use Rattle.rv_base.specs.declared.flags.IsaFlags.{IsaFlags}
-use Rattle.rv_inst.specs.declared.label_use.LabelUse.{LabelUse}
-use Rattle.rv_inst.specs.declared.label_use.LabelUse.TheVariants.{PCRel32}
-use Rattle.rv_inst.specs.LabelUse.{label_kinds, Aims, marks_of, veneer_of}
-use Rattle.rv_inst.specs.LabelUseWords.{word_at, AreBytes}
-use Rattle.rv_inst.specs.LabelUseBridges.{with_immediate, PairDecodes}
-use Rattle.rv_inst.specs.SameValues.{Same}
-use Rattle.rv_inst.proofs.Bridges.{decode-patched_pair}
-use Rattle.rv_machine.specs.declared.decoding.Decoded.{Decoded}
-use Rattle.rv_machine.specs.declared.ops.MOp.TheVariants.{Base}
+-- Bytes in a memory, and the veneers among them.
+use Rattle.rv_emit.proofs.Terms.{◌≡◌, ℕ, ◌+◌, ◌<◌, ◌≤◌, List, length, drop, arith, sym, ap, subst, ◌∙◌, zero, suc, ◌-◌, ◌*◌, ◌/◌, ◌%◌, ◌^◌, inl, Bool, true, false, [], ◌∷◌, Some, refl, ℤ, pos, negsuc, ◌+ℤ◌, ◌*ℤ◌, ◌-ℤ◌, lit<, slice_index, slice_set, nat_lt, if◌then◌else◌, get_or-take, get_or-drop}
+use Rattle.rv_emit.proofs.Terms.{length-take, length-drop, Memory, byte, wrap, Values, reg, set_reg, low64, signed, at, fetch, word_at, AreBytes, window, BytesAt, Site, HasOps, LeadsOn, AllBytes, option_map, ints, ltb-true, get_or-set_at, get_or-set_other, SameOutside, IsaFlags, LabelUse, PCRel32}
+use Rattle.rv_emit.proofs.Terms.{label_kinds, Aims, marks_of, veneer_of, with_immediate, PairDecodes, Same, decode-patched_pair, Decoded, Base, decoded, Use, IsVia, decoded_jalr, are_values_set, istep_at, comes_one, comes_both, word_there}
 use Rattle.rv_machine.specs.declared.ops.BaseOp.TheVariants.{Auipc}
-use Rattle.rv_machine.specs.State.{Memory, Values, reg, set_reg, wrap, low64, signed, at}
 use Rattle.rv_machine.specs.Decode.{int_decode, decode}
-use Rattle.rv_machine.specs.Steps.{fetch}
-use Rattle.rv_encode.specs.Operations.{decoded}
-use Rattle.mach_uses.specs.declared.uses.Use.{Use}
-use Rattle.mach_uses.specs.Windows.{window}
-use Rattle.mach_buffer.specs.Finish.{IsVia}
-use Rattle.rv_code.specs.Operations.{decoded_jalr}
-use Rattle.rv_emit.specs.Puts.{AllBytes}
-use Rattle.rv_code.specs.Sites.{Site, BytesAt, HasOps, LeadsOn}
-use Rattle.rv_code.proofs.Registers.{are_values_set}
-use Rattle.rv_code.proofs.Steps.{istep_at}
-use Rattle.rv_emit.proofs.PlacedBytes.{window_length, window_fits, window_there, word_there, rest_there, rest_fits}
-use Rattle.rv_code.proofs.Ways.{comes_one, comes_both}
+
+-- ---- windows
+
+pub window_byte : (bytes : List ℕ) (place size i : ℕ) → i < size → slice_index (window bytes place size) i ≡ slice_index bytes (place + i)
+window_byte bytes place size i lt = get_or-take size (drop place bytes) i 0 lt ∙ get_or-drop place bytes i 0
+
+pub window_length : (bytes : List ℕ) (place size : ℕ) → place + size ≤ length bytes → length (window bytes place size) ≡ size
+window_length bytes place size le = omega (arith, length-take size (drop place bytes), length-drop place bytes)
+
+pub window_fits : (bytes : List ℕ) (place size : ℕ) → place + size ≤ length bytes → AllBytes bytes → AllBytes (window bytes place size)
+window_fits bytes place size le fits = λ k lt.
+    let short : k < size = omega (arith, window_length bytes place size le) in
+    subst (λ (n : ℕ). n < 256) (sym (window_byte bytes place size k short)) (fits (place + k) (omega arith))
+
+pub window_there : (mem : Memory) (a : ℕ) (bytes : List ℕ) (place size : ℕ) → place + size ≤ length bytes → BytesAt mem a bytes → BytesAt mem (a + place) (window bytes place size)
+window_there mem a bytes place size le placed = record {
+  room = let r = placed.room in omega (arith, window_length bytes place size le);
+  there = λ k lt.
+      let short : k < size = omega (arith, window_length bytes place size le) in
+      let moved : a + place + k ≡ a + (place + k) = omega arith in
+      ap (byte mem) moved ∙ placed.there (place + k) (omega arith) ∙ sym (window_byte bytes place size k short);
+}
+
+-- ---- words
+
+-- bytes after the first ones
+pub rest_there : (mem : Memory) (a : ℕ) (bytes : List ℕ) (n : ℕ) → n ≤ length bytes → BytesAt mem a bytes → BytesAt mem (a + n) (drop n bytes)
+rest_there mem a bytes n le placed = record {
+  room = let r = placed.room in omega (arith, length-drop n bytes);
+  there = λ k lt.
+      let moved : a + n + k ≡ a + (n + k) = omega arith in
+      ap (byte mem) moved ∙ placed.there (n + k) (omega (arith, length-drop n bytes)) ∙ sym (get_or-drop n bytes k 0);
+}
+
+pub rest_fits : (bytes : List ℕ) (n : ℕ) → n ≤ length bytes → AllBytes bytes → AllBytes (drop n bytes)
+rest_fits bytes n le fits = λ k lt. subst (λ (m : ℕ). m < 256) (sym (get_or-drop n bytes k 0)) (fits (n + k) (omega (arith, length-drop n bytes)))
 
 -- ---- the two operations of a veneer
 
@@ -88,10 +95,7 @@ pair_lands : (base from to : ℕ) (upper lower : ℤ) → IsSmall upper → IsSm
 pair_lands base from to (pos n) (pos m) hu hl e = omega (arith, ints)
 pair_lands base from to (pos n) (negsuc m) hu hl e = let l : low64 (negsuc m) ≡ 2 ^ 64 - suc m = refl in omega (arith, ints)
 pair_lands base from to (negsuc n) (pos m) hu hl e = let u : low64 (negsuc n) ≡ 2 ^ 64 - suc n = refl in omega (arith, ints)
-pair_lands base from to (negsuc n) (negsuc m) hu hl e =
-    let l : low64 (negsuc m) ≡ 2 ^ 64 - suc m = refl in
-    let u : low64 (negsuc n) ≡ 2 ^ 64 - suc n = refl in
-    omega (arith, ints)
+pair_lands base from to (negsuc n) (negsuc m) hu hl e = let l : low64 (negsuc m) ≡ 2 ^ 64 - suc m = refl in let u : low64 (negsuc n) ≡ 2 ^ 64 - suc n = refl in omega (arith, ints)
 
 -- ---- steps
 

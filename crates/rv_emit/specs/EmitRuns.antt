@@ -8,12 +8,11 @@ use Rattle.rv_machine.specs.Decode.{decode}
 use Rattle.rv_machine.specs.State.{State, IsState, Values, AreValues, Memory, wrap}
 use Rattle.rv_machine.specs.Steps.{fetch}
 use Rattle.rv_inst.specs.Sizes.{inst_records, operation_of}
-use Rattle.rv_inst.specs.Operands.{Return, return_of, inst_temporaries}
+use Rattle.rv_inst.specs.Operands.{Return, return_of, inst_temporaries, inst_constant, named_by, try_call_of}
 use Rattle.rv_inst.specs.Context.{Context}
 use Rattle.rv_inst.specs.Core.{is_integer, is_integer_in}
 use Rattle.rv_inst.specs.LabelUse.{label_kinds}
 use Rattle.rv_inst.specs.Meaning.{AreOutside, inst_effect, inst_exit, inst_writes, resumed, try_exit}
-use Rattle.rv_inst.specs.Operands.{inst_constant, named_by, try_call_of}
 use Rattle.rv_inst.specs.SameValues.{Same}
 use Rattle.rv_inst.specs.declared.inst.Inst.{Inst}
 use Rattle.rv_inst.specs.declared.label_use.LabelUse.{LabelUse}
@@ -21,12 +20,12 @@ use Rattle.mach_buffer.specs.Buffer.{shape_of, bytes_of, place_of, labels_of, re
 use Rattle.mach_buffer.specs.Constants.{AllStand}
 use Rattle.mach_buffer.specs.Growth.{Lasts}
 use Rattle.mach_buffer.specs.Shape.{Shape}
-use Rattle.rv_code.specs.Entries.{AtReturn, AtStart}
-use Rattle.rv_code.specs.FullInstRuns.{RunsFully}
+use Rattle.rv_runs.specs.Entries.{AtReturn, AtStart}
+use Rattle.rv_runs.specs.FullInstRuns.{RunsFully}
 use Rattle.rv_code.specs.InstRuns.{ComesOut, environment}
 use Rattle.rv_code.specs.Sites.{Site, IsPlacedAt, LeadsOn}
-use Rattle.rv_emit.specs.Emitted.{Buffer, IsSoundBuffer, HasWindows}
-use Rattle.rv_emit.specs.Images.{FieldsStand, KeepsOutside, IsFilled}
+use Rattle.rv_sequences.specs.Emitted.{Buffer, IsSoundBuffer, HasWindows}
+use Rattle.rv_sequences.specs.Images.{FieldsStand, KeepsOutside, IsFilled}
 use Rattle.rv_emit.specs.StackMaps.{with_map}
 use Rattle.rv_emit.specs.Standing.{IsFinishedTo}
 

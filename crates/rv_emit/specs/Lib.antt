@@ -1,13 +1,5 @@
-pub mod Emitted
-pub mod Encoded
 pub mod State
-pub mod ProbeTurns
-pub mod Images
-pub mod Puts
 pub mod Emission
 pub mod Standing
-pub mod NewConstants
-pub mod Places
-pub mod Code
 pub mod StackMaps
 pub mod EmitRuns

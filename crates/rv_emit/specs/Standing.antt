@@ -10,8 +10,8 @@ use Rattle.mach_buffer.specs.Windows.{AreWindows}
 use Rattle.mach_buffer.specs.Finish.{CanFinish, Finishes}
 use Rattle.mach_buffer.specs.Growth.{Lasts}
 use Rattle.rv_code.specs.Slots.{Label, Slot, Part, Ask, Slots}
-use Rattle.rv_emit.specs.Images.{FieldsEnd}
-use Rattle.rv_emit.specs.Puts.{AllBytes, Puts}
+use Rattle.rv_sequences.specs.Images.{FieldsEnd}
+use Rattle.rv_sequences.specs.Puts.{AllBytes, Puts}
 use Rattle.rv_code.specs.InstParts.{wide_jump_to}
 
 -- slots were put between two offsets

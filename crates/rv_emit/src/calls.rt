@@ -16,16 +16,14 @@ ghost use Rattle.rv_inst.specs.Returns.{result_loads};
 ghost use Rattle.rv_inst.specs.Rules.{is_stacked};
 ghost use Rattle.rv_inst.specs.MostBytes.{sequence_limit};
 ghost use Rattle.rv_inst.specs.Sizes.{fall, line_space};
-ghost use Rattle.rv_emit.specs.Emission.{PutsAlone, PutsParts};
-ghost use Rattle.rv_emit.specs.Emitted.{IsSoundBuffer, pending};
+ghost use Rattle.rv_sequences.specs.Parts.{PutsAlone, PutsParts};
+ghost use Rattle.rv_sequences.specs.Emitted.{IsSoundBuffer, pending};
 ghost use Rattle.rv_emit.specs.StackMaps.{call_given};
 ghost use Rattle.rv_code.specs.InstParts.{map_notes, return_notes, try_slots, patch_notes, call_slots, call_ind_slots, loading_parts};
 ghost use Rattle.rv_code.specs.Slots.{Notes};
 ghost use Rattle.rv_code.specs.Usable.{IsFineTry, AreFineResults};
 
 use crate::results::put_results;
-use crate::sequence::put_jump;
-use crate::shortest::put_jalr;
 use crate::stack::put_stack_step;
 use crate::symbols::{put_call_site, put_call_to};
 use mach_buffer::MachBuffer;
@@ -35,6 +33,7 @@ use rv_base::{
 };
 use rv_imms::Imm12;
 use rv_inst::LabelUse;
+use rv_sequences::{put_jalr, put_jump};
 
 /// A call of a symbol that loads no result: control goes on after it, or at a label.
 pub(crate) fn put_call(

@@ -3,7 +3,7 @@
 ghost use Rattle.std.specs.Prelude.{◌≡◌, ◌≤◌, ◌^◌, is_some, length, OnOk, OnErr, IfOk, true};
 ghost use Rattle.mach_uses.specs.Reach.{CanReach};
 ghost use Rattle.mach_buffer.specs.Buffer.{bytes_of, registered_of, spoiled_of};
-ghost use Rattle.rv_emit.specs.Emitted.{pending, CanEmit, IsBounded};
+ghost use Rattle.rv_sequences.specs.Emitted.{pending, CanEmit, IsBounded};
 ghost use Rattle.rv_emit.specs.Emission.{Emits};
 ghost use Rattle.rv_emit.specs.StackMaps.{with_map, map_given, map_after};
 ghost use Rattle.rv_emit.specs.State.{setting_after, setting_beyond};
@@ -31,7 +31,7 @@ pub trait MachInstEmit {
     ghost use Rattle.mach_uses.specs.Reach.{CanReach};
     ghost use Rattle.mach_buffer.specs.Buffer.{bytes_of, registered_of, spoiled_of};
     ghost use Rattle.rv_inst.specs.Context.{Context, context_by};
-    ghost use Rattle.rv_emit.specs.Emitted.{Buffer, pending};
+    ghost use Rattle.rv_sequences.specs.Emitted.{Buffer, pending};
     ghost use Rattle.rv_code.specs.declared.state.EmitVState.{EmitVState as Setting};
 
     /// What emission asks of the buffer, in a context.
@@ -74,7 +74,7 @@ pub trait MachInstEmit {
 }
 
 impl MachInstEmit for Inst {
-    ghost use Rattle.rv_emit.specs.Emitted.{CanEmit, IsBounded};
+    ghost use Rattle.rv_sequences.specs.Emitted.{CanEmit, IsBounded};
     ghost use Rattle.rv_emit.specs.Emission.{EmitsGiven};
     ghost use Rattle.rv_emit.specs.EmitRuns.{Promises};
     ghost use Rattle.rv_emit.specs.StackMaps.{map_after as left};

@@ -6,13 +6,13 @@ ghost use Rattle.mach_uses.specs.Reach.{CanReach};
 ghost use Rattle.mach_buffer.specs.Buffer.{shape_of, bytes_of, allocated_of, spoiled_of};
 ghost use Rattle.mach_uses.specs.Labels.{inner_count};
 ghost use Rattle.mach_buffer.specs.Constants.{reserve_of};
-ghost use Rattle.rv_emit.specs.Emitted.{IsSoundBuffer, pending, AppendsIsland, IslandIfNeeded};
+ghost use Rattle.rv_sequences.specs.Emitted.{IsSoundBuffer, pending, AppendsIsland, IslandIfNeeded};
 ghost use Rattle.rv_emit.specs.EmitRuns.{IsBuilt, GapLeads};
 
-use crate::sequence::put_wide_jump;
 use mach_buffer::MachBuffer;
 use rv_base::OutOfMemory;
 use rv_inst::LabelUse;
+use rv_sequences::put_wide_jump;
 
 /// Puts an island where one is needed before so many bytes. Returns whether one was put.
 pub fn emit_island_if_needed(

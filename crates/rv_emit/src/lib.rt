@@ -2,26 +2,11 @@
 #![tactic(auto)]
 
 mod calls;
-mod choices;
-mod code;
-mod compressed;
-mod compressed_immediates;
-mod compressed_memory;
-mod compressed_registers;
-mod counts;
 mod emit;
-mod expansions;
-mod halves;
 mod island;
-mod memory;
-mod moves;
-mod numbers;
-mod probes;
 mod results;
-mod reverse;
 mod sequence;
 mod setting;
-mod shortest;
 mod stack;
 mod state;
 mod symbols;

@@ -9,7 +9,7 @@ ghost use Rattle.rv_inst.specs.Families.{family_of};
 ghost use Rattle.rv_inst.specs.Sizes.{island_space};
 ghost use Rattle.rv_inst.specs.declared.inst.Family.TheVariants.{Integer, Memory, Control, Loop, Symbols};
 ghost use Rattle.rv_code.specs.declared.state.EmitVState.{EmitVState as Setting};
-ghost use Rattle.rv_emit.specs.Emitted.{Buffer};
+ghost use Rattle.rv_sequences.specs.Emitted.{Buffer};
 ghost use Rattle.rv_emit.specs.State.{setting_after, setting_beyond, is_inline, jumps};
 ghost use Rattle.rv_code.specs.Usable.{IsFine, IsFineAddress};
 

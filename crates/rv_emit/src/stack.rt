@@ -13,16 +13,12 @@ ghost use Rattle.mach_uses.specs.Labels.{inner_count};
 ghost use Rattle.rv_inst.specs.Addresses.{Based};
 ghost use Rattle.rv_inst.specs.Returns.{saved_load, saves_from, setup_loads, frame_above};
 ghost use Rattle.rv_inst.specs.Sizes.{return_size};
-ghost use Rattle.rv_emit.specs.Emission.{PutsAlone, PutsParts};
-ghost use Rattle.rv_emit.specs.Emitted.{IsSoundBuffer, pending};
+ghost use Rattle.rv_sequences.specs.Parts.{PutsAlone, PutsParts};
+ghost use Rattle.rv_sequences.specs.Emitted.{IsSoundBuffer, pending};
 ghost use Rattle.rv_code.specs.InstParts.{load_line_slots, stack_load_slots, far_step_slots, stack_step_slots, return_slots, tail_slots, t0_slots};
 ghost use Rattle.rv_code.specs.Slots.{Ask, Slots};
 
-use crate::halves::{has_load, put_half_load};
 use crate::island::emit_island_if_needed;
-use crate::memory::{Place, put_based_load};
-use crate::numbers::put_number;
-use crate::shortest::{put_jalr, put_rri, put_rrr};
 use crate::symbols::{put_call_site, put_call_to};
 use mach_buffer::MachBuffer;
 use rv_base::{
@@ -33,6 +29,9 @@ use rv_base::{
 use rv_imms::Imm12;
 use rv_inst::LabelUse;
 use rv_ops::{AluOPRRI, AluOPRRR, LoadOP};
+use rv_sequences::{
+    Place, has_load, put_based_load, put_half_load, put_jalr, put_number, put_rri, put_rrr,
+};
 use std::alloc::Global;
 
 /// Another function, a symbol, takes the place of the frame's; after an island where one is needed before so many bytes.

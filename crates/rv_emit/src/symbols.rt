@@ -10,14 +10,12 @@ ghost use Rattle.mach_records.specs.declared.records.Event.TheVariants.{CallSite
 ghost use Rattle.mach_records.specs.declared.records.FinalizedRelocTarget.TheVariants.{ExternalName as ToName};
 ghost use Rattle.mach_buffer.specs.Buffer.{shape_of, bytes_of, spoiled_of};
 ghost use Rattle.mach_buffer.specs.Shape.{with_bytes, with_record};
-ghost use Rattle.rv_emit.specs.Emission.{PutsAlone};
-ghost use Rattle.rv_emit.specs.Emitted.{IsSoundBuffer};
+ghost use Rattle.rv_sequences.specs.Parts.{PutsAlone};
+ghost use Rattle.rv_sequences.specs.Emitted.{IsSoundBuffer};
 ghost use Rattle.rv_code.specs.InstParts.{call_to, far_slots, got_slots, near_slots};
-ghost use Rattle.rv_emit.specs.Puts.{eight_zeros};
+ghost use Rattle.rv_sequences.specs.Puts.{eight_zeros};
 ghost use Rattle.rv_code.specs.Slots.{Notes, address_event, call_event, lower_event};
 
-use crate::expansions::put_load_over;
-use crate::memory::{addition_word, load_word};
 use crate::table::far_word;
 use mach_buffer::MachBuffer;
 use rv_base::{ExternalName, IsaFlags, OutOfMemory, Reloc, RelocTarget, UnwindInst, WritableReg};
@@ -25,6 +23,7 @@ use rv_encode::enc_auipc;
 use rv_imms::Imm20;
 use rv_inst::LabelUse;
 use rv_ops::LoadOP;
+use rv_sequences::{addition_word, load_word, put_load_over};
 
 /// What stands in a symbol's slot: its address, by the distance to the slot.
 pub(crate) fn put_slot_load(

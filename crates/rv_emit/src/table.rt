@@ -12,17 +12,14 @@ ghost use Rattle.rv_machine.specs.Opcodes.{JALR};
 ghost use Rattle.rv_ops.specs.declared.alu.AluOPRRI.TheVariants.{Slli};
 ghost use Rattle.mach_uses.specs.Labels.{inner_count};
 ghost use Rattle.mach_buffer.specs.Buffer.{bytes_of, allocated_of, spoiled_of};
-ghost use Rattle.rv_emit.specs.Emitted.{IsSoundBuffer};
-ghost use Rattle.rv_emit.specs.Emission.{PutsAlone};
+ghost use Rattle.rv_sequences.specs.Emitted.{IsSoundBuffer};
+ghost use Rattle.rv_sequences.specs.Parts.{PutsAlone};
 ghost use Rattle.rv_code.specs.InstParts.{table_slots};
 ghost use Rattle.rv_code.specs.Operations.{decoded_jalr};
 ghost use Rattle.rv_code.specs.Slots.{Op};
 ghost use Rattle.rv_code.specs.Tables.{bound_op, enter_ops, far_jump, jump_slots};
 ghost use Rattle.rv_code.specs.Usable.{AreListed, IsListed};
 
-use crate::choices::put_extend;
-use crate::numbers::put_number;
-use crate::sequence::{put_use, put_word};
 use mach_buffer::MachBuffer;
 use rv_base::{
     IntCC, IsaFlags, MachLabel, OutOfMemory, Reg, WritableReg, spilltmp_reg, writable_spilltmp_reg,
@@ -35,6 +32,7 @@ use rv_imms::{Imm12, Imm20};
 use rv_inst::LabelUse;
 use rv_machine::JALR;
 use rv_ops::{AluOPRRI, AluOPRRR, IntegerCompare};
+use rv_sequences::{put_extend, put_number, put_use, put_word};
 
 /// Goes to the label of an index, which is the low 32 bits of a register; the first of the labels is the default.
 pub(crate) fn put_table(

@@ -12,16 +12,15 @@ ghost use Rattle.rv_inst.specs.UnitWords.{UnitWord, unit_word as word_of};
 ghost use Rattle.rv_inst.specs.declared.inst.Family.TheVariants.{Float};
 ghost use Rattle.rv_code.specs.Usable.{IsFine};
 ghost use Rattle.rv_emit.specs.Emission.{EmitsAnyhow};
-ghost use Rattle.rv_emit.specs.Emitted.{IsSoundBuffer};
+ghost use Rattle.rv_sequences.specs.Emitted.{IsSoundBuffer};
 
-use crate::memory::put_access;
-use crate::sequence::put_word;
 use mach_buffer::MachBuffer;
 use rv_base::OutOfMemory;
 use rv_encode::{
     encode_csr_imm, encode_csr_reg, encode_fli, encode_fp_rr, encode_fp_rrr, encode_fp_rrrr,
 };
 use rv_inst::{Inst, LabelUse};
+use rv_sequences::{put_access, put_word};
 
 /// One word, whatever the flags are.
 #[inline(never)]

@@ -1,8 +1,11 @@
 -- The operations of the machine that instructions are, with their operands.
-use Rattle.std.specs.Prelude.{ℕ, ◌==◌, if◌then◌else◌, Bool, true, ℤ, pos, Option, Some, None}
+use Rattle.std.specs.Prelude.{◌≡◌, ℕ, ◌^◌, ◌==◌, if◌then◌else◌, Bool, true, ℤ, pos, Option, Some, None}
 use Rattle.std.specs.Option.{option_map}
 use Rattle.rv_base.specs.declared.flags.IsaFlags.{IsaFlags}
 use Rattle.rv_base.specs.Regs.{number_of}
+use Rattle.rv_imms.specs.declared.imm12.Imm12.{Imm12}
+use Rattle.rv_imms.specs.Bits.{low_bits}
+use Rattle.rv_ops.specs.Alu.{rri_numbers, imm12_of}
 use Rattle.rv_ops.specs.declared.alu.AluOPRRR.{AluOPRRR}
 use Rattle.rv_ops.specs.declared.alu.AluOPRRI.{AluOPRRI}
 use Rattle.rv_ops.specs.declared.compare.BranchFunct3.{BranchFunct3}
@@ -62,6 +65,13 @@ i_op opcode funct3 =
 -- the operation of layout S with these fields, where they are one's
 abbrev pub s_op : ℕ → ℕ → Option MOp
 s_op opcode funct3 = if opcode == STORE then option_map Store (store_entry funct3) else None
+
+-- these fields of layout I are an operation's with this immediate: of a shift the amount stands below bits of its own, and an operation
+-- of one source has no other bits
+pub record IsRowOfRRI (op : AluOPRRI) (imm : Imm12) (opcode funct3 bits : ℕ) : Type 0 where
+  pub opcode_is : opcode ≡ (rri_numbers op).opcode
+  pub funct3_is : funct3 ≡ (rri_numbers op).funct3
+  pub bits_are : bits ≡ imm12_of (rri_numbers op).upper (low_bits (2 ^ 12) imm.value)
 
 -- ---- by an instruction's name
 

@@ -7,10 +7,10 @@ ghost use Rattle.rv_imms.specs.Bits.{low_bits};
 ghost use Rattle.rv_machine.specs.declared.ops.MOp.TheVariants.{Base};
 ghost use Rattle.rv_machine.specs.declared.ops.BaseOp.TheVariants as base_op;
 ghost use Rattle.rv_machine.specs.Layout.{bare_form};
-ghost use Rattle.rv_machine.specs.Opcodes.{BRANCH, JAL};
+ghost use Rattle.rv_machine.specs.Opcodes.{AUIPC, BRANCH, JAL, JALR};
 ghost use Rattle.rv_machine.specs.Decode.{decode};
 ghost use Rattle.rv_encode.specs.Registers.{IsIntRegister, IsRealRegister};
-ghost use Rattle.rv_encode.specs.Layouts.{IsEven, IsBType, IsJType};
+ghost use Rattle.rv_encode.specs.Layouts.{IsEven, IsBType, IsIType, IsJType, IsUType};
 ghost use Rattle.rv_ops.specs.Compare.{funct3_of, branch_of, is_reversed as reverses, rs1_of, rs2_of};
 ghost use Rattle.rv_encode.specs.Operations.{decoded, decoded_branch};
 
@@ -31,7 +31,8 @@ pub fn encode_lui(rd: WritableReg, imm: Imm20) -> u32
 /// The word of `auipc`: the immediate times 2^12 past its own address into a real register.
 pub fn enc_auipc(rd: WritableReg, imm: Imm20) -> u32
     requires { IsRealRegister rd.reg }
-    ensures { (flags : IsaFlags) → decode flags result ≡ Some (decoded (Base base_op.Auipc) (number_of rd.reg) 0 0 imm.value) }
+    ensures layout { IsUType result AUIPC (number_of rd.reg) (low_bits (2 ^ 20) imm.value) }
+    ensures decodes { (flags : IsaFlags) → decode flags result ≡ Some (decoded (Base base_op.Auipc) (number_of rd.reg) 0 0 imm.value) }
 {
     u_word(AUIPC, reg_to_gpr_num(rd.reg), imm.bits())
 }
@@ -40,7 +41,8 @@ pub fn enc_auipc(rd: WritableReg, imm: Imm20) -> u32
 pub fn enc_jalr(rd: WritableReg, base: Reg, offset: Imm12) -> u32
     requires rd { IsRealRegister rd.reg }
     requires base { IsRealRegister base }
-    ensures { (flags : IsaFlags) → decode flags result ≡ Some (decoded (Base base_op.Jalr) (number_of rd.reg) (number_of base) 0 offset.value) }
+    ensures layout { IsIType result JALR (number_of rd.reg) 0 (number_of base) (low_bits (2 ^ 12) offset.value) }
+    ensures decodes { (flags : IsaFlags) → decode flags result ≡ Some (decoded (Base base_op.Jalr) (number_of rd.reg) (number_of base) 0 offset.value) }
 {
     encode_i_type(JALR, rd, 0, base, offset)
 }

@@ -1,17 +1,32 @@
 //! Words put together from the fields of the manual's types: "2.2 Base Instruction Formats".
 
-ghost use Rattle.std.specs.Prelude.{◌≡◌, ◌<◌, ◌*◌, ◌/◌, ◌^◌, pos, Some};
+ghost use Rattle.std.specs.Prelude.{◌≡◌, ℕ, ◌<◌, ◌*◌, ◌/◌, ◌^◌, pos, Some, true};
 ghost use Rattle.rv_base.specs.declared.flags.IsaFlags.{IsaFlags};
 ghost use Rattle.rv_base.specs.Regs.{number_of};
 ghost use Rattle.rv_machine.specs.declared.ops.MOp.{MOp};
 ghost use Rattle.rv_machine.specs.Decode.{decode};
 ghost use Rattle.rv_imms.specs.Bits.{low_bits};
 ghost use Rattle.rv_encode.specs.Registers.{IsRealRegister};
-ghost use Rattle.rv_encode.specs.Operations.{decoded, r_op, i_op, s_op};
+ghost use Rattle.rv_imms.specs.declared.imm12.Imm12.{Imm12};
+ghost use Rattle.rv_ops.specs.declared.alu.AluOPRRI.{AluOPRRI};
+ghost use Rattle.rv_ops.specs.declared.memory.LoadOP.{LoadOP};
+ghost use Rattle.rv_ops.specs.declared.memory.StoreOP.{StoreOP};
+ghost use Rattle.rv_ops.specs.Memory.{load_opcode, load_funct3, store_opcode, store_funct3};
+ghost use Rattle.rv_encode.specs.Operations.{decoded, r_op, i_op, s_op, IsRowOfRRI, decoded_rri, has_load, has_store, decoded_load, decoded_store};
 ghost use Rattle.rv_encode.specs.Layouts.{IsRType, IsIType, IsSType, IsBType, IsUType, IsJType};
 
 use rv_base::{Reg, WritableReg};
 use rv_imms::Imm12;
+
+/// The number of a register, as instructions hold it; 0 for a virtual one, which none holds.
+pub fn number_of(reg: Reg) -> u8
+    ensures { result ≡ number_of reg }
+{
+    match reg {
+        Reg::Real(real) => real.number,
+        Reg::Virtual { .. } => 0,
+    }
+}
 
 /// The number of a real register, as words hold it.
 pub fn reg_to_gpr_num(m: Reg) -> u32
@@ -19,10 +34,7 @@ pub fn reg_to_gpr_num(m: Reg) -> u32
     ensures value { result ≡ number_of m }
     ensures width { result < 2 ^ 5 }
 {
-    match m {
-        Reg::Real(reg) => u32::from(reg.number),
-        Reg::Virtual { .. } => 0,
-    }
+    u32::from(number_of(m))
 }
 
 /// Layout R, of real registers; opcode and functs within their widths.
@@ -47,6 +59,7 @@ pub fn encode_r_type(
     requires funct7 { funct7 < 2 ^ 7 }
     ensures layout { IsRType result opcode (number_of rd.reg) funct3 (number_of rs1) (number_of rs2) funct7 }
     ensures decodes { (flags : IsaFlags) (op : MOp) → r_op opcode funct3 funct7 ≡ Some op → decode flags result ≡ Some (decoded op (number_of rd.reg) (number_of rs1) (number_of rs2) (pos 0)) }
+    ensures alike { (flags : IsaFlags) (word : ℕ) → word < 2 ^ 32 → IsRType word opcode (number_of rd.reg) funct3 (number_of rs1) (number_of rs2) funct7 → decode flags result ≡ decode flags word }
 {
     r_word(
         opcode,
@@ -71,6 +84,9 @@ pub fn encode_i_type(opcode: u32, rd: WritableReg, width: u32, rs1: Reg, offset:
     requires rs1 { IsRealRegister rs1 }
     ensures layout { IsIType result opcode (number_of rd.reg) width (number_of rs1) (low_bits (2 ^ 12) offset.value) }
     ensures decodes { (flags : IsaFlags) (op : MOp) → i_op opcode width ≡ Some op → decode flags result ≡ Some (decoded op (number_of rd.reg) (number_of rs1) 0 offset.value) }
+    ensures rows { (flags : IsaFlags) (op : AluOPRRI) (imm : Imm12) → IsRowOfRRI op imm opcode width (low_bits (2 ^ 12) offset.value) → decode flags result ≡ Some (decoded_rri op (number_of rd.reg) (number_of rs1) imm.value) }
+    ensures loads { (flags : IsaFlags) (op : LoadOP) → has_load flags op ≡ true → opcode ≡ load_opcode op → width ≡ load_funct3 op → decode flags result ≡ Some (decoded_load op (number_of rd.reg) (number_of rs1) offset.value) }
+    ensures alike { (flags : IsaFlags) (word : ℕ) → word < 2 ^ 32 → IsIType word opcode (number_of rd.reg) width (number_of rs1) (low_bits (2 ^ 12) offset.value) → decode flags result ≡ decode flags word }
 {
     i_word(
         opcode,
@@ -94,6 +110,8 @@ pub fn encode_s_type(opcode: u32, width: u32, base: Reg, src: Reg, offset: Imm12
     requires src { IsRealRegister src }
     ensures layout { IsSType result opcode width (number_of base) (number_of src) (low_bits (2 ^ 12) offset.value) }
     ensures decodes { (flags : IsaFlags) (op : MOp) → s_op opcode width ≡ Some op → decode flags result ≡ Some (decoded op 0 (number_of base) (number_of src) offset.value) }
+    ensures stores { (flags : IsaFlags) (op : StoreOP) → has_store flags op ≡ true → opcode ≡ store_opcode op → width ≡ store_funct3 op → decode flags result ≡ Some (decoded_store op (number_of base) (number_of src) offset.value) }
+    ensures alike { (flags : IsaFlags) (word : ℕ) → word < 2 ^ 32 → IsSType word opcode width (number_of base) (number_of src) (low_bits (2 ^ 12) offset.value) → decode flags result ≡ decode flags word }
 {
     s_word(
         opcode,

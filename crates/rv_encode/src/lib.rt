@@ -23,6 +23,6 @@ pub use compressed_memory::{
 pub use csr::{encode_csr_imm, encode_csr_reg};
 pub use float::{encode_fli, encode_fp_rr, encode_fp_rrr, encode_fp_rrrr};
 pub use jumps::{enc_auipc, enc_jalr, encode_branch, encode_ebreak, encode_jal, encode_lui};
-pub use layouts::{encode_i_type, encode_r_type, encode_s_type, reg_to_gpr_num};
+pub use layouts::{encode_i_type, encode_r_type, encode_s_type, number_of, reg_to_gpr_num};
 pub use memory::{encode_load, encode_store};
 pub use operations::{encode_alu_rr_imm12, encode_alu_rrr};

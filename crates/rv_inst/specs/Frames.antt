@@ -1,16 +1,16 @@
 -- Frames that can't be made, or that no tail call can take away.
-use Rattle.std.specs.Prelude.{◌^◌, Bool, false, ◌||◌, ◌&&◌, ◌==◌, nat_lt, nat_le, Option, Some, None}
+use Rattle.std.specs.Prelude.{◌^◌, Bool, false, ◌||◌, ◌&&◌, nat_le, Option, Some, None}
 use Rattle.std.specs.List.{list_any}
 use Rattle.rv_base.specs.declared.frame.FrameLayout.{FrameLayout}
 use Rattle.rv_base.specs.declared.regs.PReg.{PReg}
 use Rattle.rv_base.specs.declared.regs.Writable.{Writable}
 use Rattle.rv_base.specs.Frame.{sp_to_args_end}
-use Rattle.rv_inst.specs.Rules.{is_int_class, is_vector_class, is_x}
+use Rattle.rv_inst.specs.Rules.{is_vector_class, is_x, is_stack_or_frame, is_reserved_x}
 use Rattle.rv_inst.specs.declared.tail_calls.TailCall.{TailCall}
 
 -- a register that a frame can't save: a vector register, or x0, ra, sp, fp, x30 or x31
 abbrev pub is_unsaved : PReg → Bool
-is_unsaved p = is_vector_class p.class || (is_int_class p.class && (nat_lt p.number 3 || p.number == 8 || nat_le 30 p.number))
+is_unsaved p = is_vector_class p.class || (is_x 0 p || (is_x 1 p || (is_stack_or_frame p || is_reserved_x p)))
 
 -- t0, through which a tail call to a register's address goes
 abbrev pub is_t0 : PReg → Bool

@@ -60,8 +60,11 @@ abbrev pub is_other_class : Reg → Bool
 is_other_class r = not (is_int_class (class_of r))
 
 -- x30 or x31, which veneers and expansions change
+abbrev pub is_reserved_x : PReg → Bool
+is_reserved_x p = is_int_class p.class && nat_le 30 p.number
+
 abbrev pub is_reserved : Reg → Bool
-is_reserved (Real p) = is_int_class p.class && nat_le 30 p.number
+is_reserved (Real p) = is_reserved_x p
 is_reserved (AVirtual class index) = false
 
 abbrev pub is_vector_class : RegClass → Bool
@@ -149,7 +152,7 @@ is_stack r = is_real_x 2 r
 
 -- sp or fp
 abbrev pub is_stack_or_frame : PReg → Bool
-is_stack_or_frame p = is_int_class p.class && (p.number == 2 || p.number == 8)
+is_stack_or_frame p = is_x 2 p || is_x 8 p
 
 -- the class of a type's registers; integers and floating-point numbers of 128 bits have none
 abbrev pub class_for : IrType → Option RegClass

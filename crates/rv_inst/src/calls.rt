@@ -7,6 +7,7 @@ ghost use Rattle.rv_inst.specs.Forms.{short_jalr};
 
 use crate::inst::Inst;
 use rv_base::{IsaFlags, Reg};
+use rv_encode::number_of;
 
 impl Inst {
     /// How many bytes after the start of its line a call returns; none where the instruction is none that returns.
@@ -25,18 +26,9 @@ impl Inst {
 fn jump_length(flags: IsaFlags, dest: Reg) -> u32
     ensures { result ≡ (short_jalr flags 1 (number_of dest) (pos 0)).len }
 {
-    if flags.has_zca && number(dest) != 0 {
+    if flags.has_zca && number_of(dest) != 0 {
         2
     } else {
         4
-    }
-}
-
-fn number(reg: Reg) -> u8
-    ensures { result ≡ number_of reg }
-{
-    match reg {
-        Reg::Real(real) => real.number,
-        Reg::Virtual { .. } => 0,
     }
 }

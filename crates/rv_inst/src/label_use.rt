@@ -1,13 +1,15 @@
 //! The kinds of use by which instructions refer to labels.
 
-ghost use Rattle.std.specs.Prelude.{◌≡◌, ◌+◌, ◌*◌, ◌<◌, ◌≤◌, ◌%◌, ◌/◌, ◌++◌, ◌∷◌, ◌&&◌, [], length, take, drop, pos, ◌-ℤ◌, int_le};
+ghost use Rattle.std.specs.Prelude.{◌≡◌, ◌+◌, ◌*◌, ◌^◌, ◌<◌, ◌≤◌, ◌%◌, ◌/◌, ◌++◌, ◌∷◌, ◌&&◌, [], length, take, drop, pos, ◌-ℤ◌, int_le};
 ghost use Rattle.rv_base.specs.LabelUse.{IsFresh, SameOutside};
 ghost use Rattle.rv_machine.specs.State.{signed};
 ghost use Rattle.rv_machine.specs.Layout.{j_imm, b_imm, u_imm, i_imm, u_bits, i_bits};
 ghost use Rattle.rv_machine.specs.Compressed.{cj_imm};
 ghost use Rattle.rv_inst.specs.LabelUseWords.{word_at, word_bytes, AreBytes, half_at, half_bytes, AreTwoBytes, jal_bits, branch_bits, compressed_jump_bits, distance_bits, upper_bits};
 
-use rv_base::{MachInstLabelUse, Reloc};
+use rv_base::{MachInstLabelUse, Reloc, spilltmp_reg, writable_spilltmp_reg, writable_zero_reg};
+use rv_encode::{enc_auipc, enc_jalr};
+use rv_imms::{Imm12, Imm20};
 
 /// A kind of use.
 #[derive(Clone, Copy, Debug, PartialEq, Eq)]
@@ -89,9 +91,12 @@ impl MachInstLabelUse for LabelUse {
         match self {
             LabelUse::Jal20 => patch_jal(
                 buffer,
-                bits_of_distance(use_offset, label_offset, 2097152),
+                bits_of_distance(use_offset, label_offset, 1 << 21),
             ),
-            LabelUse::B12 => patch_branch(buffer, bits_of_distance(use_offset, label_offset, 8192)),
+            LabelUse::B12 => patch_branch(
+                buffer,
+                bits_of_distance(use_offset, label_offset, 1 << 13),
+            ),
             LabelUse::PCRel32 => patch_pair(buffer, label_offset.wrapping_sub(use_offset)),
             LabelUse::PCRelHi20 => patch_upper(buffer, label_offset.wrapping_sub(use_offset)),
             LabelUse::PCRelLo12I => patch_lower(
@@ -100,7 +105,7 @@ impl MachInstLabelUse for LabelUse {
             ),
             LabelUse::RVCJump => patch_compressed_jump(
                 buffer,
-                bits_of_distance(use_offset, label_offset, 4096),
+                bits_of_distance(use_offset, label_offset, 1 << 12),
             ),
         }
     }
@@ -118,7 +123,9 @@ impl MachInstLabelUse for LabelUse {
     }
 
     fn generate_veneer(self, buffer: &mut [u8], veneer_offset: u32) -> (u32, LabelUse) {
-        buffer.copy_from_slice(&[0x97, 0x0f, 0, 0, 0x67, 0x80, 0x0f, 0]);
+        let upper = enc_auipc(writable_spilltmp_reg(), Imm20::ZERO);
+        let jump = enc_jalr(writable_zero_reg(), spilltmp_reg(), Imm12::ZERO);
+        write_pair(buffer, upper, jump);
         (veneer_offset, LabelUse::PCRel32)
     }
 
@@ -201,7 +208,7 @@ fn bits_of_distance(use_offset: u32, label_offset: u32, size: u32) -> u32
 
 /// A distance's bits at their places in a jump.
 fn jal_field(bits: u32) -> u32
-    requires { bits < 2097152 }
+    requires { bits < 2 ^ 21 }
     ensures { result ≡ jal_bits bits }
 {
     (bits >> 12 & 0xff) << 12
@@ -212,7 +219,7 @@ fn jal_field(bits: u32) -> u32
 
 /// A distance's bits at their places in a branch.
 fn branch_field(bits: u32) -> u32
-    requires { bits < 8192 }
+    requires { bits < 2 ^ 13 }
     ensures { result ≡ branch_bits bits }
 {
     (bits >> 11 & 1) << 7 | (bits >> 1 & 0xf) << 8 | (bits >> 5 & 0x3f) << 25 | (bits >> 12) << 31
@@ -220,7 +227,7 @@ fn branch_field(bits: u32) -> u32
 
 /// A distance's bits at their places in a jump of sixteen bits.
 fn compressed_jump_field(bits: u32) -> u32
-    requires { bits < 4096 }
+    requires { bits < 2 ^ 12 }
     ensures { result ≡ compressed_jump_bits bits }
 {
     (bits >> 5 & 1) << 2
@@ -235,21 +242,21 @@ fn compressed_jump_field(bits: u32) -> u32
 
 /// The upper twenty bits of a distance, at 31:12, for a lower part that is read signed.
 fn upper_field(distance: u32) -> u32
-    ensures { result ≡ upper_bits distance * 4096 }
+    ensures { result ≡ upper_bits distance * 2 ^ 12 }
 {
     distance.wrapping_add(0x800) >> 12 << 12
 }
 
 /// The lower twelve bits of a distance, at 31:20.
 fn lower_field(distance: u32) -> u32
-    ensures { result ≡ distance % 4096 * 1048576 }
+    ensures { result ≡ distance % 2 ^ 12 * 2 ^ 20 }
 {
     (distance & 0xfff) << 20
 }
 
 /// Puts twenty-one bits of a distance into a jump's word.
 fn patch_jal(buffer: &mut [u8], bits: u32)
-    requires bits_in { bits < 2097152 }
+    requires bits_in { bits < 2 ^ 21 }
     requires even { bits % 2 ≡ 0 }
     requires long { 4 ≤ length buffer.old }
     requires fresh { IsFresh (0x00 ∷ 0xf0 ∷ 0xff ∷ 0xff ∷ []) buffer.old }
@@ -263,11 +270,11 @@ fn patch_jal(buffer: &mut [u8], bits: u32)
 
 /// Puts thirteen bits of a distance into a branch's word.
 fn patch_branch(buffer: &mut [u8], bits: u32)
-    requires bits_in { bits < 8192 }
+    requires bits_in { bits < 2 ^ 13 }
     requires even { bits % 2 ≡ 0 }
     requires long { 4 ≤ length buffer.old }
     requires fresh { IsFresh (0x80 ∷ 0x0f ∷ 0x00 ∷ 0xfe ∷ []) buffer.old }
-    ensures distance { b_imm (word_at (take 4 buffer.new)) ≡ signed 4096 bits }
+    ensures distance { b_imm (word_at (take 4 buffer.new)) ≡ signed (2 ^ 12) bits }
     ensures others { SameOutside (0x80 ∷ 0x0f ∷ 0x00 ∷ 0xfe ∷ []) buffer.old buffer.new }
     ensures rest { drop 4 buffer.new ≡ drop 4 buffer.old }
 {
@@ -280,7 +287,7 @@ fn patch_pair(buffer: &mut [u8], distance: u32)
     requires long { 8 ≤ length buffer.old }
     requires fresh { IsFresh (0x00 ∷ 0xf0 ∷ 0xff ∷ 0xff ∷ 0x00 ∷ 0x00 ∷ 0xf0 ∷ 0xff ∷ []) buffer.old }
     ensures upper { u_imm (word_at (take 8 buffer.new)) ≡ signed 524288 (upper_bits distance) }
-    ensures lower { i_imm (word_at (drop 4 (take 8 buffer.new))) ≡ signed 2048 (distance % 4096) }
+    ensures lower { i_imm (word_at (drop 4 (take 8 buffer.new))) ≡ signed (2 ^ 11) (distance % 2 ^ 12) }
     ensures others { SameOutside (0x00 ∷ 0xf0 ∷ 0xff ∷ 0xff ∷ 0x00 ∷ 0x00 ∷ 0xf0 ∷ 0xff ∷ []) buffer.old buffer.new }
     ensures rest { drop 8 buffer.new ≡ drop 8 buffer.old }
 {
@@ -309,7 +316,7 @@ fn patch_upper(buffer: &mut [u8], distance: u32)
 fn patch_lower(buffer: &mut [u8], distance: u32)
     requires long { 4 ≤ length buffer.old }
     requires fresh { IsFresh (0x00 ∷ 0x00 ∷ 0xf0 ∷ 0xff ∷ []) buffer.old }
-    ensures bits { i_bits (word_at (take 4 buffer.new)) ≡ distance % 4096 }
+    ensures bits { i_bits (word_at (take 4 buffer.new)) ≡ distance % 2 ^ 12 }
     ensures others { SameOutside (0x00 ∷ 0x00 ∷ 0xf0 ∷ 0xff ∷ []) buffer.old buffer.new }
     ensures rest { drop 4 buffer.new ≡ drop 4 buffer.old }
 {
@@ -319,7 +326,7 @@ fn patch_lower(buffer: &mut [u8], distance: u32)
 
 /// Puts twelve bits of a distance into the halfword of a jump.
 fn patch_compressed_jump(buffer: &mut [u8], bits: u32)
-    requires bits_in { bits < 4096 }
+    requires bits_in { bits < 2 ^ 12 }
     requires even { bits % 2 ≡ 0 }
     requires long { 2 ≤ length buffer.old }
     requires fresh { IsFresh (0xfc ∷ 0x1f ∷ []) buffer.old }

@@ -15,13 +15,13 @@ use crate::addresses::address_has;
 use crate::clashes::same_class;
 use crate::inst::{Family, Inst, SelectInfo};
 use crate::registers::{
-    RegisterTest, compare_has, control_has, integer_has, is_other_class, is_real_x, loop_has,
-    memory_has, symbol_has,
+    RegisterTest, compare_has, control_has, integer_has, is_other_class, is_real_x,
+    is_stack_or_frame, loop_has, memory_has, symbol_has,
 };
 use crate::units::{is_not_of, unit_misplaced};
 use rv_base::{
-    ArgPair as Arg, CallArgPair as Use, CallRetPair as Def, IrType, PReg, Reg, RegClass,
-    RetLocation, RetPair as Ret, ValueRegs, WritableReg,
+    ArgPair as Arg, CallArgPair as Use, CallRetPair as Def, IrType, Reg, RegClass, RetLocation,
+    RetPair as Ret, ValueRegs, WritableReg,
 };
 
 /// Returns whether two registers are of different classes.
@@ -33,15 +33,6 @@ pub fn differ_in_class(first: Reg, second: Reg) -> bool
         | (RegClass::Float, RegClass::Float)
         | (RegClass::Vector, RegClass::Vector) => false,
         _ => true,
-    }
-}
-
-fn is_stack_or_frame(reg: PReg) -> bool
-    ensures { result ≡ is_stack_or_frame reg }
-{
-    match reg.class {
-        RegClass::Int => reg.number == 2 || reg.number == 8,
-        RegClass::Float | RegClass::Vector => false,
     }
 }
 

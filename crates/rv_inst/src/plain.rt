@@ -12,6 +12,7 @@ use crate::addresses::is_distant;
 use crate::check::{has_inner_target, is_buffer_label, is_fallthrough};
 use crate::inst::{CondBrTarget, Family, Inst};
 use crate::ranges::{is_amount_beyond, is_int_type};
+use crate::registers::is_reserved_x;
 use rv_base::{AMode, Reg, RegClass};
 
 /// Returns whether a register is one of which no rule is broken: an integer register of the machine other than x30 and x31.
@@ -20,7 +21,7 @@ fn is_usable(reg: Reg) -> bool
 {
     match reg {
         Reg::Real(real) => match real.class {
-            RegClass::Int => real.number < 30,
+            RegClass::Int => !is_reserved_x(real),
             RegClass::Float | RegClass::Vector => false,
         },
         Reg::Virtual { .. } => false,

@@ -6,7 +6,7 @@ ghost use Rattle.rv_inst.specs.Operands.{arg_registers, ret_registers, use_regis
 ghost use Rattle.rv_inst.specs.declared.inst.Family.TheVariants.{Pseudo, Integer, Memory, Control, Loop, Symbols, Calls};
 ghost use Rattle.rv_inst.specs.Families.{family_of};
 ghost use Rattle.rv_inst.specs.RegisterTests.{test_of};
-ghost use Rattle.rv_inst.specs.Rules.{is_x, is_real_x};
+ghost use Rattle.rv_inst.specs.Rules.{is_x, is_real_x, is_reserved_x, is_stack_or_frame};
 
 use crate::addresses::address_has;
 use crate::inst::{CountInfo, Family, Inst, SelectInfo};
@@ -58,14 +58,21 @@ pub fn is_other_class(reg: Reg) -> bool
     }
 }
 
+/// Returns whether a register of the machine is x30 or x31, which veneers and expansions change.
+pub fn is_reserved_x(reg: PReg) -> bool
+    ensures { result ≡ is_reserved_x reg }
+{
+    match reg.class {
+        RegClass::Int => reg.number >= 30,
+        RegClass::Float | RegClass::Vector => false,
+    }
+}
+
 fn is_reserved(reg: Reg) -> bool
     ensures { result ≡ test_of RegisterTest.Reserved reg }
 {
     match reg {
-        Reg::Real(real) => match real.class {
-            RegClass::Int => real.number >= 30,
-            RegClass::Float | RegClass::Vector => false,
-        },
+        Reg::Real(real) => is_reserved_x(real),
         Reg::Virtual { .. } => false,
     }
 }
@@ -78,6 +85,13 @@ pub fn is_x(reg: PReg, number: u8) -> bool
         RegClass::Int => reg.number == number,
         RegClass::Float | RegClass::Vector => false,
     }
+}
+
+/// Returns whether a register of the machine is sp or fp.
+pub fn is_stack_or_frame(reg: PReg) -> bool
+    ensures { result ≡ is_stack_or_frame reg }
+{
+    is_x(reg, 2) || is_x(reg, 8)
 }
 
 /// Returns whether a register is the machine's integer register of a number.

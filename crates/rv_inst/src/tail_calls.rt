@@ -9,7 +9,7 @@ ghost use Rattle.rv_inst.specs.Rules.{exceeds_arguments};
 ghost use Rattle.rv_inst.specs.Frames.{is_unsaved, is_t0, is_bad_frame, is_unrestorable, is_unrestorable_for, is_bad_frame_for};
 
 use crate::inst::Inst;
-use crate::registers::is_x;
+use crate::registers::{is_reserved_x, is_stack_or_frame, is_x};
 use rv_base::{FrameLayout, PReg, RegClass, Writable};
 
 /// What a tail call asks of the frame that it takes away.
@@ -119,9 +119,11 @@ fn is_unsaved(reg: PReg) -> bool
     ensures { result ≡ is_unsaved reg }
 {
     match reg.class {
-        RegClass::Int => reg.number < 3 || reg.number == 8 || reg.number >= 30,
-        RegClass::Float => false,
         RegClass::Vector => true,
+        RegClass::Int | RegClass::Float => is_x(reg, 0)
+            || is_x(reg, 1)
+            || is_stack_or_frame(reg)
+            || is_reserved_x(reg),
     }
 }
 

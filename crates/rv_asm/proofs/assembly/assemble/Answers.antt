@@ -1,5 +1,5 @@
-use Rattle.rv_asm.specs.Job.{job_of}
-use Rattle.rv_asm.proofs.FinishedPromises.{finished_saves, finished_reported, finished_runs, finished_full_runs, finished_operations, finished_full_operations, finished_jumps, finished_in_reach}
+use Rattle.rv_asm.proofs.Words.{job_of}
+use Rattle.rv_asm.proofs.FinishedCode.{finished_full_operations, finished_full_runs, finished_in_reach, finished_jumps, finished_operations, finished_reported, finished_runs, finished_saves}
 use Rattle.rv_asm.proofs.RefusalOrder.{accepted_frame, accepted_lines}
 use Rattle.rv_asm.proofs.assembly.assemble.Goals as goal
 
@@ -12,23 +12,21 @@ build-requires-clause-accepted c = accepted_lines (job_of c.args.lines.now c.arg
 pub code_fits-requires : goal.code_fits-requires
 code_fits-requires c = record { saved = finished_saves (job_of c.args.lines.now c.args.flags c.args.frame.now c.args.constants.now) c.in-Ok.code c.in_ok-refuse.ensures c.in-Ok.ensures }
 
-pub returns-in-Ok-clause-reported : goal.returns-in-Ok-clause-reported
-returns-in-Ok-clause-reported c = finished_reported (job_of c.args.lines.now c.args.flags c.args.frame.now c.args.constants.now) c.in-Ok.code c.in_ok-refuse.ensures c.in-Ok.ensures c.code_fits.ensures
-
-pub returns-in-Ok-clause-runs : goal.returns-in-Ok-clause-runs
-returns-in-Ok-clause-runs c = finished_runs (job_of c.args.lines.now c.args.flags c.args.frame.now c.args.constants.now) c.in-Ok.code c.in_ok-refuse.ensures c.in-Ok.ensures c.code_fits.ensures
-
-pub returns-in-Ok-clause-reach : goal.returns-in-Ok-clause-reach
-returns-in-Ok-clause-reach c = finished_in_reach (job_of c.args.lines.now c.args.flags c.args.frame.now c.args.constants.now) c.in-Ok.code c.in_ok-refuse.ensures c.in-Ok.ensures c.code_fits.ensures
-
-pub returns-in-Ok-clause-operations : goal.returns-in-Ok-clause-operations
-returns-in-Ok-clause-operations c = finished_operations (job_of c.args.lines.now c.args.flags c.args.frame.now c.args.constants.now) c.in-Ok.code c.in_ok-refuse.ensures c.in-Ok.ensures c.code_fits.ensures
-
-pub returns-in-Ok-clause-full_operations : goal.returns-in-Ok-clause-full_operations
-returns-in-Ok-clause-full_operations c = finished_full_operations (job_of c.args.lines.now c.args.flags c.args.frame.now c.args.constants.now) c.in-Ok.code c.in_ok-refuse.ensures c.in-Ok.ensures c.code_fits.ensures
-
-pub returns-in-Ok-clause-jumps : goal.returns-in-Ok-clause-jumps
-returns-in-Ok-clause-jumps c = finished_jumps (job_of c.args.lines.now c.args.flags c.args.frame.now c.args.constants.now) c.in-Ok.code c.in_ok-refuse.ensures c.in-Ok.ensures c.code_fits.ensures
-
-pub returns-in-Ok-clause-full_runs : goal.returns-in-Ok-clause-full_runs
-returns-in-Ok-clause-full_runs c = finished_full_runs (job_of c.args.lines.now c.args.flags c.args.frame.now c.args.constants.now) c.in-Ok.code c.in_ok-refuse.ensures c.in-Ok.ensures c.code_fits.ensures
+pub returns-in-Ok : goal.returns-in-Ok
+returns-in-Ok c =
+    let job = job_of c.args.lines.now c.args.flags c.args.frame.now c.args.constants.now in
+    let code = c.in-Ok.code in
+    let accepted = c.in_ok-refuse.ensures in
+    let f = c.in-Ok.ensures in
+    let fits = c.code_fits.ensures in
+    record {
+      reported = finished_reported job code accepted f fits;
+      runs = finished_runs job code accepted f fits;
+      full_runs = finished_full_runs job code accepted f fits;
+      operations = finished_operations job code accepted f fits;
+      full_operations = finished_full_operations job code accepted f fits;
+      jumps = finished_jumps job code accepted f fits;
+      reach = finished_in_reach job code accepted f fits;
+      ranges = fits;
+      refused = accepted;
+    }

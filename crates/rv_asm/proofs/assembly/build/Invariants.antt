@@ -1,12 +1,11 @@
-use Rattle.std.proofs.Common.{◌≡◌, take}
-use Rattle.rv_inst.specs.Context.{context_by}
-use Rattle.rv_asm.specs.Reported.{returns_from}
+use Rattle.std.proofs.Common.{take, ◌≡◌}
+use Rattle.rv_asm.proofs.Words.{context_by, returns_from}
 use Rattle.rv_asm.proofs.AssemblyLoop.{SoFar}
 use Rattle.rv_asm.proofs.assembly.build.Given as goal
 
 abbrev pub invariant-loop-index : goal.invariant-loop-index
 invariant-loop-index l = record {
   frame : l.state.frame ≡ l.frame;
-  so_far : SoFar (context_by l.info.isa_flags l.frame l.constants) l.lines l.index l.spans.items l.sink;
+  so_far : SoFar (context_by l.flags l.frame l.constants) l.lines l.index l.spans.items l.sink;
   returns : l.returns.items ≡ returns_from l.flags l.spans.items 0 (take l.index l.lines);
 }

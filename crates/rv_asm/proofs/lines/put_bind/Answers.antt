@@ -1,6 +1,5 @@
-use Rattle.std.proofs.Common.{ap, ◌∙◌, length}
-use Rattle.mach_buffer.specs.Buffer.{bytes_of, place_of}
-use Rattle.mach_buffer.proofs.Laws.{placed_same, placed_other}
+use Rattle.std.proofs.Common.{ap, length, ◌∙◌}
+use Rattle.rv_asm.proofs.Words.{bytes_of, place_of, placed_other, placed_same}
 use Rattle.rv_asm.proofs.lines.put_bind.Goals as goal
 
 pub returns-clause-put : goal.returns-clause-put

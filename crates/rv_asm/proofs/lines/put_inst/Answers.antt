@@ -1,7 +1,6 @@
-use Rattle.std.proofs.Common.{◌≡◌, [], sym, ◌∙◌, subst}
+use Rattle.std.proofs.Common.{[], subst, sym, ◌∙◌, ◌≡◌}
 use Rattle.rv_emit.specs.Emission.{EmitsIn}
-use Rattle.rv_emit.specs.State.{setting_after, setting_beyond}
-use Rattle.rv_inst.specs.Context.{context_by}
+use Rattle.rv_asm.proofs.Words.{context_by, setting_after, setting_beyond}
 use Rattle.rv_asm.proofs.lines.put_inst.Goals as goal
 
 pub returns-clause-put : goal.returns-clause-put

@@ -1,6 +1,4 @@
-use Rattle.std.proofs.Common.{drop}
-use Rattle.std.specs.List.{AllByRecursion}
-use Rattle.rv_listing.specs.CodeRanges.{CallFits}
+use Rattle.rv_asm.proofs.Words.{AllByRecursion, CallFits, drop}
 use Rattle.rv_asm.proofs.ranges.call_sites_fit.Given as goal
 
 abbrev pub invariant-loop-call_site : goal.invariant-loop-call_site

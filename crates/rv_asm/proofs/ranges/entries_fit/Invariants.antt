@@ -1,6 +1,4 @@
-use Rattle.std.proofs.Common.{drop}
-use Rattle.std.specs.List.{AllByRecursion}
-use Rattle.rv_listing.specs.CodeRanges.{EntryFits}
+use Rattle.rv_asm.proofs.Words.{AllByRecursion, drop, EntryFits}
 use Rattle.rv_asm.proofs.ranges.entries_fit.Given as goal
 
 abbrev pub invariant-loop-entry : goal.invariant-loop-entry

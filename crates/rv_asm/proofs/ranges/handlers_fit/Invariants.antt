@@ -1,6 +1,4 @@
-use Rattle.std.proofs.Common.{drop}
-use Rattle.std.specs.List.{AllByRecursion}
-use Rattle.rv_listing.specs.CodeRanges.{HandlerFits}
+use Rattle.rv_asm.proofs.Words.{AllByRecursion, drop, HandlerFits}
 use Rattle.rv_asm.proofs.ranges.handlers_fit.Given as goal
 
 abbrev pub invariant-loop-handler : goal.invariant-loop-handler

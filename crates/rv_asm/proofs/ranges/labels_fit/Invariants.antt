@@ -1,6 +1,4 @@
-use Rattle.std.proofs.Common.{drop}
-use Rattle.std.specs.List.{AllByRecursion}
-use Rattle.rv_listing.specs.CodeRanges.{LabelFits}
+use Rattle.rv_asm.proofs.Words.{AllByRecursion, drop, LabelFits}
 use Rattle.rv_asm.proofs.ranges.labels_fit.Given as goal
 
 abbrev pub invariant-loop-label : goal.invariant-loop-label

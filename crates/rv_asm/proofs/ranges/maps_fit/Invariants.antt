@@ -1,6 +1,4 @@
-use Rattle.std.proofs.Common.{drop}
-use Rattle.std.specs.List.{AllByRecursion}
-use Rattle.rv_listing.specs.CodeRanges.{MapFits}
+use Rattle.rv_asm.proofs.Words.{AllByRecursion, drop, MapFits}
 use Rattle.rv_asm.proofs.ranges.maps_fit.Given as goal
 
 abbrev pub invariant-loop-map : goal.invariant-loop-map

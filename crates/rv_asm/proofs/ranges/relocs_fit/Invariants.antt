@@ -1,6 +1,4 @@
-use Rattle.std.proofs.Common.{drop}
-use Rattle.std.specs.List.{AllByRecursion}
-use Rattle.rv_listing.specs.CodeRanges.{RelocFits}
+use Rattle.rv_asm.proofs.Words.{AllByRecursion, drop, RelocFits}
 use Rattle.rv_asm.proofs.ranges.relocs_fit.Given as goal
 
 abbrev pub invariant-loop-reloc : goal.invariant-loop-reloc

@@ -1,6 +1,4 @@
-use Rattle.std.proofs.Common.{drop}
-use Rattle.std.specs.List.{AllByRecursion}
-use Rattle.rv_listing.specs.CodeRanges.{ReturnFits}
+use Rattle.rv_asm.proofs.Words.{AllByRecursion, drop, ReturnFits}
 use Rattle.rv_asm.proofs.ranges.returns_fit.Given as goal
 
 abbrev pub invariant-loop-place : goal.invariant-loop-place

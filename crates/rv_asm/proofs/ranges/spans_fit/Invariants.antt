@@ -1,6 +1,4 @@
-use Rattle.std.proofs.Common.{drop}
-use Rattle.std.specs.List.{AllByRecursion}
-use Rattle.rv_listing.specs.CodeRanges.{SpanFits}
+use Rattle.rv_asm.proofs.Words.{AllByRecursion, drop, SpanFits}
 use Rattle.rv_asm.proofs.ranges.spans_fit.Given as goal
 
 abbrev pub invariant-loop-span : goal.invariant-loop-span

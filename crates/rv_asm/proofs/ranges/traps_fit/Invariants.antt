@@ -1,6 +1,4 @@
-use Rattle.std.proofs.Common.{drop}
-use Rattle.std.specs.List.{AllByRecursion}
-use Rattle.rv_listing.specs.CodeRanges.{TrapFits}
+use Rattle.rv_asm.proofs.Words.{AllByRecursion, drop, TrapFits}
 use Rattle.rv_asm.proofs.ranges.traps_fit.Given as goal
 
 abbrev pub invariant-loop-trap : goal.invariant-loop-trap

@@ -1,6 +1,4 @@
-use Rattle.std.proofs.Common.{drop}
-use Rattle.std.specs.List.{AllByRecursion}
-use Rattle.rv_listing.specs.CodeRanges.{TryFits}
+use Rattle.rv_asm.proofs.Words.{AllByRecursion, drop, TryFits}
 use Rattle.rv_asm.proofs.ranges.tries_fit.Given as goal
 
 abbrev pub invariant-loop-site : goal.invariant-loop-site

@@ -1,7 +1,4 @@
-use Rattle.std.proofs.Common.{drop}
-use Rattle.std.specs.List.{AllByRecursion}
-use Rattle.rv_listing.specs.CodeRanges.{UnwindFits}
-use Rattle.rv_asm.specs.SavedRegisters.{SavesReal}
+use Rattle.rv_asm.proofs.Words.{AllByRecursion, drop, SavesReal, UnwindFits}
 use Rattle.rv_asm.proofs.ranges.unwinds_fit.Given as goal
 
 abbrev pub invariant-loop-unwind : goal.invariant-loop-unwind

@@ -1,7 +1,6 @@
-use Rattle.std.proofs.Common.{◌≡◌, ℕ, false, drop}
+use Rattle.std.proofs.Common.{drop, false, ℕ, ◌≡◌}
 use Rattle.std.specs.Prelude.{◌||◌}
-use Rattle.rv_asm.specs.BoundLabels.{is_in}
-use Rattle.rv_asm.specs.Refusal.{twice_from, is_bound}
+use Rattle.rv_asm.proofs.Words.{is_bound, is_in, twice_from}
 use Rattle.rv_asm.proofs.refusal.bind_labels.Given as goal
 
 abbrev pub invariant-loop-line : goal.invariant-loop-line

@@ -1,6 +1,5 @@
-use Rattle.std.proofs.Common.{◌≡◌, drop}
-use Rattle.rv_inst.specs.Context.{context_by}
-use Rattle.rv_asm.specs.Refusal.{broken_from}
+use Rattle.std.proofs.Common.{drop, ◌≡◌}
+use Rattle.rv_asm.proofs.Words.{broken_from, context_by}
 use Rattle.rv_asm.proofs.refusal.check_rules.Given as goal
 
 abbrev pub invariant-loop-index : goal.invariant-loop-index

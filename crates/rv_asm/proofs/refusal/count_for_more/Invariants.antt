@@ -1,8 +1,5 @@
-use Rattle.std.proofs.Common.{◌≡◌, ◌+◌, drop, List}
-use Rattle.rv_base.specs.declared.constant.Constant.{Constant}
-use Rattle.rv_base.specs.declared.flags.IsaFlags.{IsaFlags}
-use Rattle.rv_inst.specs.Context.{context_by}
-use Rattle.rv_asm.specs.Refusal.{lines_sum}
+use Rattle.std.proofs.Common.{drop, List, ◌+◌, ◌≡◌}
+use Rattle.rv_asm.proofs.Words.{Constant, context_by, IsaFlags, lines_sum}
 use Rattle.rv_asm.proofs.refusal.count_for_more.Given as goal
 
 abbrev pub invariant-loop-line : goal.invariant-loop-line

@@ -1,7 +1,5 @@
-use Rattle.std.proofs.Common.{◌≡◌, drop, map}
-use Rattle.rv_inst.specs.Operands.{handler_label}
-use Rattle.rv_asm.specs.BoundLabels.{is_in}
-use Rattle.rv_asm.specs.Refusal.{unbound_among}
+use Rattle.std.proofs.Common.{drop, map, ◌≡◌}
+use Rattle.rv_asm.proofs.Words.{handler_label, is_in, unbound_among}
 use Rattle.rv_asm.proofs.refusal.find_handlers.Given as goal
 
 abbrev pub invariant-loop-handler : goal.invariant-loop-handler

@@ -1,5 +1,5 @@
-use Rattle.std.proofs.Common.{◌≡◌, ◌+◌, drop}
-use Rattle.rv_asm.specs.Refusal.{size_limit, constants_sum}
+use Rattle.std.proofs.Common.{drop, ◌+◌, ◌≡◌}
+use Rattle.rv_asm.proofs.Words.{constants_sum, size_limit}
 use Rattle.rv_asm.proofs.refusal.left_by_constants.Given as goal
 
 abbrev pub invariant-loop-constant : goal.invariant-loop-constant

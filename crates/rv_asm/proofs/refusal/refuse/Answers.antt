@@ -1,5 +1,5 @@
-use Rattle.rv_asm.specs.Job.{job_of}
-use Rattle.rv_asm.proofs.SurveyedJobs.{finds_unbound}
+use Rattle.rv_asm.proofs.Words.{job_of}
+use Rattle.rv_asm.proofs.RefusalOrder.{finds_unbound}
 use Rattle.rv_asm.proofs.refusal.refuse.Goals as goal
 
 pub returns-in-Some : goal.returns-in-Some

@@ -1,6 +1,5 @@
-use Rattle.std.proofs.Common.{sym, subst}
-use Rattle.rv_asm.specs.Survey.{IsPlainLine}
-use Rattle.rv_asm.proofs.SurveyedJobs.{plain_line}
+use Rattle.rv_asm.proofs.Words.{IsPlainLine, subst, sym}
+use Rattle.rv_asm.proofs.RefusalOrder.{plain_line}
 use Rattle.rv_asm.proofs.survey.is_plain.Goals as goal
 
 pub returns-in-Inst : goal.returns-in-Inst

@@ -1,9 +1,6 @@
-use Rattle.std.proofs.Common.{◌≡◌, ℕ, ◌+◌, false, drop}
+use Rattle.std.proofs.Common.{drop, false, ℕ, ◌+◌, ◌≡◌}
 use Rattle.std.specs.Prelude.{◌||◌}
-use Rattle.std.specs.List.{list_any}
-use Rattle.rv_inst.specs.Context.{context_by}
-use Rattle.rv_asm.specs.BoundLabels.{is_in}
-use Rattle.rv_asm.specs.Refusal.{is_unfit, broken_from, twice_from, is_bound, lines_sum, size_sum, size_limit}
+use Rattle.rv_asm.proofs.Words.{broken_from, context_by, is_bound, is_in, is_unfit, lines_sum, list_any, size_limit, size_sum, twice_from}
 use Rattle.rv_asm.proofs.survey.survey.Given as goal
 
 abbrev pub invariant-loop-line : goal.invariant-loop-line

@@ -1,31 +1,22 @@
-use Rattle.std.proofs.Common.{ap, arith}
-use Rattle.std.proofs.lemmas.Result.{on_ok_weaker}
-use Rattle.std.specs.Prelude.{count_by}
-use Rattle.rv_inst.specs.Returns.{result_loads}
-use Rattle.rv_inst.specs.Rules.{is_stacked}
-use Rattle.rv_code.specs.InstParts.{call_slots}
+use Rattle.rv_emit.proofs.Terms.{ap, arith, rules, on_ok_weaker, count_by, is_stacked, call_slots, call_given}
 use Rattle.rv_emit.proofs.CallsPut.{call_begins, loading_put}
-use Rattle.rv_emit.specs.StackMaps.{call_given}
 use Rattle.rv_emit.proofs.calls.put_loading_call.Goals as goal
 
-pub put_results-requires-clause-reach : goal.put_results-requires-clause-reach
-put_results-requires-clause-reach c = (call_begins c.args.frame.now (call_given c.args.stack_map.now c.args.info.now) c.args.sink.now c.begin_call.new.sink c.requires.calm c.in_ok-begin_call.ensures.slots).reach
-
-pub put_results-requires-clause-few : goal.put_results-requires-clause-few
-put_results-requires-clause-few c = let same = (call_begins c.args.frame.now (call_given c.args.stack_map.now c.args.info.now) c.args.sink.now c.begin_call.new.sink c.requires.calm c.in_ok-begin_call.ensures.slots).allocated in let few = c.requires.few in omega arith
-
-pub put_results-requires-clause-room : goal.put_results-requires-clause-room
-put_results-requires-clause-room c =
-    let b = call_begins c.args.frame.now (call_given c.args.stack_map.now c.args.info.now) c.args.sink.now c.begin_call.new.sink c.requires.calm c.in_ok-begin_call.ensures.slots in
-    let few = b.few in let few_pending = b.few_pending in let reserve = b.reserve in
+pub put_results-requires : goal.put_results-requires
+put_results-requires c =
+    let b = call_begins c.args.frame.now (call_given c.args.stack_map.now c.args.info.now) _ _ c.requires.calm c.in_ok-begin_call.ensures.slots in
+    let few = c.requires.few in
     let room = c.requires.room in
     let same = ap (count_by is_stacked) c.as_slice.ensures in
-    omega arith
-
-pub put_results-requires-clause-sound : goal.put_results-requires-clause-sound
-put_results-requires-clause-sound c = (call_begins c.args.frame.now (call_given c.args.stack_map.now c.args.info.now) c.args.sink.now c.begin_call.new.sink c.requires.calm c.in_ok-begin_call.ensures.slots).sound
+    record {
+      results = search rules;
+      fine = search rules;
+      reach = b.reach;
+      few = omega arith;
+      room = omega arith;
+      sound = b.sound;
+    }
 
 pub returns-clause-parts : goal.returns-clause-parts
 returns-clause-parts c =
-    let info = call_given c.args.stack_map.now c.args.info.now in
-    on_ok_weaker c.put_results.result (loading_put (call_slots c.args.flags c.args.frame.now info) (result_loads info.defs) info.try_call_info c.args.sink.now c.begin_call.new.sink c.put_results.new.sink c.in_ok-begin_call.ensures.slots) (rw c.as_slice.ensures at c.put_results.ensures.parts)
+    on_ok_weaker c.put_results.result (loading_put (call_slots c.args.flags c.args.frame.now (call_given c.args.stack_map.now c.args.info.now)) _ _ _ _ _ c.in_ok-begin_call.ensures.slots) (rw c.as_slice.ensures at c.put_results.ensures.parts)

@@ -1,18 +1,7 @@
-use Rattle.std.proofs.Common.{true, false, ◌*◌, length, ap, sym, ◌∙◌, subst, arith}
-use Rattle.rv_inst.specs.Context.{context_by}
-use Rattle.rv_inst.specs.Operands.{tail_call_of}
-use Rattle.rv_inst.specs.Sizes.{table_space}
-use Rattle.mach_buffer.specs.Buffer.{registered_of}
-use Rattle.rv_code.specs.Usable.{AreListed}
+use Rattle.rv_emit.proofs.Terms.{rules, ◌*◌, length, ap, sym, ◌∙◌, subst, refl, arith, context_by, tail_call_of, table_space, registered_of, AreListed, call_asks, call_ind_asks, tail_kept, tail_sum, jump_sum, target_kept, is_some, with_map}
 use Rattle.rv_emit.proofs.ReachAfterInst.{reach_calm}
-use Rattle.rv_emit.proofs.TableCode.{table_kept, table_sum, island_room, island_few, island_sound, island_emits, table_emits}
-use Rattle.rv_code.proofs.CallRules.{call_asks, call_ind_asks}
+use Rattle.rv_emit.proofs.TableCode.{table_kept, table_sum, island_room, island_few, island_sound, table_emits}
 use Rattle.rv_emit.proofs.CallSlots.{loading_emits, loading_ind_emits, call_sum, call_ind_sum}
-use Rattle.rv_emit.proofs.Settings.{island_asked, table_asked, call_asked, call_ind_asked, tail_asked, jump_asked}
-use Rattle.rv_code.proofs.TailRules.{tail_kept, tail_sum, jump_sum, target_kept}
-use Rattle.rv_emit.proofs.TailEmits.{tail_emits, jump_emits}
-use Rattle.std.specs.Prelude.{is_some}
-use Rattle.rv_emit.specs.StackMaps.{with_map}
 use Rattle.rv_emit.proofs.StackMaps.{space_given}
 use Rattle.rv_emit.proofs.emit.put_asking.Goals as goal
 
@@ -23,51 +12,47 @@ pub emit_island_if_needed-requires-in-BrTable-clause-reach : goal.emit_island_if
 emit_island_if_needed-requires-in-BrTable-clause-reach c = reach_calm c.args.sink.now c.requires.calm
 
 pub table_space-space-requires-clause-some : goal.table_space-space-requires-clause-some
-table_space-space-requires-clause-some c = let k = (table_kept (context_by c.args.flags c.args.frame.now (registered_of c.args.sink.now)) c.args.inst.now c.in-BrTable.index c.in-BrTable.tmp1 c.in-BrTable.tmp2 c.in-BrTable.targets c.in-BrTable.is c.requires.rule).4 in let e = c.len.ensures ∙ ap length c.as_ref-targets.ensures in omega arith
+table_space-space-requires-clause-some c = omega (arith, (table_kept (context_by c.args.flags c.args.frame.now (registered_of c.args.sink.now)) _ _ _ _ _ c.in-BrTable.is c.requires.rule).4, c.len.ensures ∙ ap length c.as_ref-targets.ensures)
 
-pub put_table-requires-clause-index : goal.put_table-requires-clause-index
-put_table-requires-clause-index c = (table_kept (context_by c.args.flags c.args.frame.now (registered_of c.args.sink.now)) c.args.inst.now c.in-BrTable.index c.in-BrTable.tmp1 c.in-BrTable.tmp2 c.in-BrTable.targets c.in-BrTable.is c.requires.rule).0
-
-pub put_table-requires-clause-tmp1 : goal.put_table-requires-clause-tmp1
-put_table-requires-clause-tmp1 c = (table_kept (context_by c.args.flags c.args.frame.now (registered_of c.args.sink.now)) c.args.inst.now c.in-BrTable.index c.in-BrTable.tmp1 c.in-BrTable.tmp2 c.in-BrTable.targets c.in-BrTable.is c.requires.rule).1
-
-pub put_table-requires-clause-tmp2 : goal.put_table-requires-clause-tmp2
-put_table-requires-clause-tmp2 c = (table_kept (context_by c.args.flags c.args.frame.now (registered_of c.args.sink.now)) c.args.inst.now c.in-BrTable.index c.in-BrTable.tmp1 c.in-BrTable.tmp2 c.in-BrTable.targets c.in-BrTable.is c.requires.rule).2
-
-pub put_table-requires-clause-listed : goal.put_table-requires-clause-listed
-put_table-requires-clause-listed c = subst AreListed (sym (c.as_slice.ensures ∙ c.as_ref-targets.ensures)) (table_kept (context_by c.args.flags c.args.frame.now (registered_of c.args.sink.now)) c.args.inst.now c.in-BrTable.index c.in-BrTable.tmp1 c.in-BrTable.tmp2 c.in-BrTable.targets c.in-BrTable.is c.requires.rule).3
-
-pub put_table-requires-clause-some : goal.put_table-requires-clause-some
-put_table-requires-clause-some c = let k = (table_kept (context_by c.args.flags c.args.frame.now (registered_of c.args.sink.now)) c.args.inst.now c.in-BrTable.index c.in-BrTable.tmp1 c.in-BrTable.tmp2 c.in-BrTable.targets c.in-BrTable.is c.requires.rule).4 in let e = ap length (c.as_slice.ensures ∙ c.as_ref-targets.ensures) in omega arith
-
-pub put_table-requires-clause-room : goal.put_table-requires-clause-room
-put_table-requires-clause-room c =
-    let sum = table_sum (context_by c.args.flags c.args.frame.now (registered_of c.args.sink.now)) c.args.inst.now c.in-BrTable.index c.in-BrTable.tmp1 c.in-BrTable.tmp2 c.in-BrTable.targets c.in-BrTable.is in
+pub put_table-requires : goal.put_table-requires
+put_table-requires c =
+    let context = context_by c.args.flags c.args.frame.now (registered_of c.args.sink.now) in
+    let kept = table_kept context c.args.inst.now _ _ _ _ c.in-BrTable.is c.requires.rule in
+    let sum = table_sum context c.args.inst.now _ _ _ _ c.in-BrTable.is in
     let room = c.requires.room in
-    let e = ap length (c.as_slice.ensures ∙ c.as_ref-targets.ensures) in
-    let left = island_room c.table_space-space.result (8 * length c.in-BrTable.targets) c.args.sink.now c.emit_island_if_needed-in-BrTable.new.sink _ (omega arith) c.in_ok-emit_island_if_needed-in-BrTable.ensures.made in
-    omega arith
-
-pub put_table-requires-clause-allocated : goal.put_table-requires-clause-allocated
-put_table-requires-clause-allocated c = let few = c.requires.few in let more = island_few c.table_space-space.result c.args.sink.now c.emit_island_if_needed-in-BrTable.new.sink _ c.in_ok-emit_island_if_needed-in-BrTable.ensures.made in omega arith
-
-pub put_table-requires-clause-sound : goal.put_table-requires-clause-sound
-put_table-requires-clause-sound c = island_sound c.table_space-space.result c.args.sink.now c.emit_island_if_needed-in-BrTable.new.sink _ c.requires.sound c.in_ok-emit_island_if_needed-in-BrTable.ensures.made
+    let few = c.requires.few in
+    let same = c.as_slice.ensures ∙ c.as_ref-targets.ensures in
+    let long = ap length same in
+    let made = c.in_ok-emit_island_if_needed-in-BrTable.ensures.made in
+    let left = island_room _ (8 * length c.in-BrTable.targets) c.args.sink.now _ _ (omega arith) made in
+    let more = island_few _ c.args.sink.now _ _ made in
+    record {
+      index = kept.0;
+      tmp1 = kept.1;
+      tmp2 = kept.2;
+      listed = subst AreListed (sym same) kept.3;
+      some = let some = kept.4 in omega arith;
+      allocated = omega arith;
+      room = omega arith;
+      sound = island_sound _ c.args.sink.now _ _ c.requires.sound made;
+    }
 
 pub returns-in_ok-made-in-EmitIsland-clause-emitted : goal.returns-in_ok-made-in-EmitIsland-clause-emitted
-returns-in_ok-made-in-EmitIsland-clause-emitted c = λ asks. island_emits (context_by c.args.flags c.args.frame.now (registered_of c.args.sink.now)) (with_map c.args.stack_map.now c.args.inst.now) c.in-EmitIsland.needed_space c.args.sink.now c.emit_island_if_needed.new.sink _ (ap (with_map c.args.stack_map.now) c.in-EmitIsland.is) c.in_ok-made-in-EmitIsland.ensures.made
+returns-in_ok-made-in-EmitIsland-clause-emitted c = λ asks. rw c.in-EmitIsland.is (λ setting. (_, _, c.in_ok-made-in-EmitIsland.ensures.made, refl))
 
 pub returns-in_ok-made-in-EmitIsland-clause-setting : goal.returns-in_ok-made-in-EmitIsland-clause-setting
-returns-in_ok-made-in-EmitIsland-clause-setting c = λ asks setting. island_asked (context_by c.args.flags c.args.frame.now (registered_of c.args.sink.now)) c.args.inst.now c.in-EmitIsland.needed_space c.args.sink.now c.in_ok-made-in-EmitIsland.made setting c.in-EmitIsland.is c.in_ok-made-in-EmitIsland.ensures.made.asked
+returns-in_ok-made-in-EmitIsland-clause-setting c = λ asks setting. rw (c.in-EmitIsland.is, c.in_ok-made-in-EmitIsland.ensures.made.asked)
 
 pub returns-in_ok-put_table-in-BrTable-clause-emitted : goal.returns-in_ok-put_table-in-BrTable-clause-emitted
-returns-in_ok-put_table-in-BrTable-clause-emitted c = λ asks. table_emits (context_by c.args.flags c.args.frame.now (registered_of c.args.sink.now)) (with_map c.args.stack_map.now c.args.inst.now) c.in-BrTable.index c.in-BrTable.tmp1 c.in-BrTable.tmp2 c.in-BrTable.targets c.table_space-space.result c.args.sink.now c.emit_island_if_needed-in-BrTable.new.sink c.put_table.new.sink _ (ap (with_map c.args.stack_map.now) c.in-BrTable.is) (c.table_space-space.ensures ∙ ap table_space (c.len.ensures ∙ ap length c.as_ref-targets.ensures)) c.in_ok-emit_island_if_needed-in-BrTable.ensures.made c.as_slice.result.now (c.as_slice.ensures ∙ c.as_ref-targets.ensures) c.in_ok-put_table-in-BrTable.ensures.slots
+returns-in_ok-put_table-in-BrTable-clause-emitted c =
+    λ asks. table_emits (context_by c.args.flags c.args.frame.now (registered_of c.args.sink.now)) _ _ _ _ _ _ _ _ _ _ (ap (with_map c.args.stack_map.now) c.in-BrTable.is)
+    (c.table_space-space.ensures ∙ ap table_space (c.len.ensures ∙ ap length c.as_ref-targets.ensures)) c.in_ok-emit_island_if_needed-in-BrTable.ensures.made _ (c.as_slice.ensures ∙ c.as_ref-targets.ensures) c.in_ok-put_table-in-BrTable.ensures.slots
 
 pub returns-in_ok-put_table-in-BrTable-clause-setting : goal.returns-in_ok-put_table-in-BrTable-clause-setting
-returns-in_ok-put_table-in-BrTable-clause-setting c = λ asks setting. table_asked (context_by c.args.flags c.args.frame.now (registered_of c.args.sink.now)) c.args.inst.now c.in-BrTable.index c.in-BrTable.tmp1 c.in-BrTable.tmp2 c.in-BrTable.targets c.args.sink.now setting c.in-BrTable.is
+returns-in_ok-put_table-in-BrTable-clause-setting c = λ asks setting. rw c.in-BrTable.is
 
 pub put_tail_call-requires-clause-arguments : goal.put_tail_call-requires-clause-arguments
-put_tail_call-requires-clause-arguments c = rw c.as_ref-in-ReturnCall.ensures (tail_kept (context_by c.args.flags c.args.frame.now (registered_of c.args.sink.now)) c.args.inst.now (record { stack_arg_size = c.in-ReturnCall.info.new_stack_arg_size; by_register = false }) (ap tail_call_of c.in-ReturnCall.is) c.requires.rule)
+put_tail_call-requires-clause-arguments c = rw c.as_ref-in-ReturnCall.ensures (tail_kept (context_by c.args.flags c.args.frame.now (registered_of c.args.sink.now)) _ _ (ap tail_call_of c.in-ReturnCall.is) c.requires.rule)
 
 pub put_tail_call-requires-clause-reach : goal.put_tail_call-requires-clause-reach
 put_tail_call-requires-clause-reach c = reach_calm c.args.sink.now c.requires.calm
@@ -76,61 +61,62 @@ pub put_tail_call-requires-clause-room : goal.put_tail_call-requires-clause-room
 put_tail_call-requires-clause-room c = let sum = tail_sum (context_by c.args.flags c.args.frame.now (registered_of c.args.sink.now)) c.args.inst.now c.in-ReturnCall.info c.in-ReturnCall.is in let room = c.requires.room in omega arith
 
 pub returns-in_ok-put_tail_call-in-ReturnCall-clause-emitted : goal.returns-in_ok-put_tail_call-in-ReturnCall-clause-emitted
-returns-in_ok-put_tail_call-in-ReturnCall-clause-emitted c = λ asks. tail_emits (context_by c.args.flags c.args.frame.now (registered_of c.args.sink.now)) (with_map c.args.stack_map.now c.args.inst.now) c.in-ReturnCall.info c.args.sink.now c.put_tail_call.new.sink (ap (with_map c.args.stack_map.now) c.in-ReturnCall.is) (rw c.as_ref-in-ReturnCall.ensures at c.in_ok-put_tail_call-in-ReturnCall.ensures.parts)
+returns-in_ok-put_tail_call-in-ReturnCall-clause-emitted c = λ asks. rw (c.in-ReturnCall.is, ← c.as_ref-in-ReturnCall.ensures) (λ setting. c.in_ok-put_tail_call-in-ReturnCall.ensures.parts)
 
 pub returns-in_ok-put_tail_call-in-ReturnCall-clause-setting : goal.returns-in_ok-put_tail_call-in-ReturnCall-clause-setting
-returns-in_ok-put_tail_call-in-ReturnCall-clause-setting c = λ asks setting. tail_asked (context_by c.args.flags c.args.frame.now (registered_of c.args.sink.now)) c.args.inst.now c.in-ReturnCall.info c.args.sink.now setting c.in-ReturnCall.is
+returns-in_ok-put_tail_call-in-ReturnCall-clause-setting c = λ asks setting. rw c.in-ReturnCall.is
 
-pub put_tail_jump-requires-clause-arguments : goal.put_tail_jump-requires-clause-arguments
-put_tail_jump-requires-clause-arguments c = rw c.as_ref-in-ReturnCallInd.ensures (tail_kept (context_by c.args.flags c.args.frame.now (registered_of c.args.sink.now)) c.args.inst.now (record { stack_arg_size = c.in-ReturnCallInd.info.new_stack_arg_size; by_register = true }) (ap tail_call_of c.in-ReturnCallInd.is) c.requires.rule)
-
-pub put_tail_jump-requires-clause-reach : goal.put_tail_jump-requires-clause-reach
-put_tail_jump-requires-clause-reach c = reach_calm c.args.sink.now c.requires.calm
-
-pub put_tail_jump-requires-clause-room : goal.put_tail_jump-requires-clause-room
-put_tail_jump-requires-clause-room c = let sum = jump_sum (context_by c.args.flags c.args.frame.now (registered_of c.args.sink.now)) c.args.inst.now c.in-ReturnCallInd.info c.in-ReturnCallInd.is in let room = c.requires.room in omega arith
+pub put_tail_jump-requires : goal.put_tail_jump-requires
+put_tail_jump-requires c = record {
+  frame = search rules;
+  arguments = rw c.as_ref-in-ReturnCallInd.ensures (tail_kept (context_by c.args.flags c.args.frame.now (registered_of c.args.sink.now)) _ _ (ap tail_call_of c.in-ReturnCallInd.is) c.requires.rule);
+  target = rw c.as_ref-in-ReturnCallInd.ensures (target_kept (context_by c.args.flags c.args.frame.now (registered_of c.args.sink.now)) _ _ c.in-ReturnCallInd.is c.requires.rule).0;
+  fifth = rw c.as_ref-in-ReturnCallInd.ensures (target_kept (context_by c.args.flags c.args.frame.now (registered_of c.args.sink.now)) _ _ c.in-ReturnCallInd.is c.requires.rule).1;
+  reach = reach_calm c.args.sink.now c.requires.calm;
+  few = search rules;
+  room = let sum = jump_sum (context_by c.args.flags c.args.frame.now (registered_of c.args.sink.now)) c.args.inst.now c.in-ReturnCallInd.info c.in-ReturnCallInd.is in let room = c.requires.room in omega arith;
+  sound = search rules;
+}
 
 pub returns-in_ok-put_tail_jump-in-ReturnCallInd-clause-emitted : goal.returns-in_ok-put_tail_jump-in-ReturnCallInd-clause-emitted
-returns-in_ok-put_tail_jump-in-ReturnCallInd-clause-emitted c = λ asks. jump_emits (context_by c.args.flags c.args.frame.now (registered_of c.args.sink.now)) (with_map c.args.stack_map.now c.args.inst.now) c.in-ReturnCallInd.info c.args.sink.now c.put_tail_jump.new.sink (ap (with_map c.args.stack_map.now) c.in-ReturnCallInd.is) (rw c.as_ref-in-ReturnCallInd.ensures at c.in_ok-put_tail_jump-in-ReturnCallInd.ensures.parts)
+returns-in_ok-put_tail_jump-in-ReturnCallInd-clause-emitted c = λ asks. rw (c.in-ReturnCallInd.is, ← c.as_ref-in-ReturnCallInd.ensures) (λ setting. c.in_ok-put_tail_jump-in-ReturnCallInd.ensures.parts)
 
 pub returns-in_ok-put_tail_jump-in-ReturnCallInd-clause-setting : goal.returns-in_ok-put_tail_jump-in-ReturnCallInd-clause-setting
-returns-in_ok-put_tail_jump-in-ReturnCallInd-clause-setting c = λ asks setting. jump_asked (context_by c.args.flags c.args.frame.now (registered_of c.args.sink.now)) c.args.inst.now c.in-ReturnCallInd.info c.args.sink.now setting c.in-ReturnCallInd.is
-
-pub put_tail_jump-requires-clause-target : goal.put_tail_jump-requires-clause-target
-put_tail_jump-requires-clause-target c = rw c.as_ref-in-ReturnCallInd.ensures (target_kept (context_by c.args.flags c.args.frame.now (registered_of c.args.sink.now)) c.args.inst.now c.in-ReturnCallInd.info c.in-ReturnCallInd.is c.requires.rule).0
-
-pub put_tail_jump-requires-clause-fifth : goal.put_tail_jump-requires-clause-fifth
-put_tail_jump-requires-clause-fifth c = rw c.as_ref-in-ReturnCallInd.ensures (target_kept (context_by c.args.flags c.args.frame.now (registered_of c.args.sink.now)) c.args.inst.now c.in-ReturnCallInd.info c.in-ReturnCallInd.is c.requires.rule).1
+returns-in_ok-put_tail_jump-in-ReturnCallInd-clause-setting c = λ asks setting. rw c.in-ReturnCallInd.is
 
 pub put_loading_call-requires-clause-fine : goal.put_loading_call-requires-clause-fine
-put_loading_call-requires-clause-fine c = rw c.as_ref.ensures (call_asks (context_by c.args.flags c.args.frame.now (registered_of c.args.sink.now)) c.args.inst.now _ c.in-Call.is c.requires.rule).goes_on
+put_loading_call-requires-clause-fine c = rw c.as_ref.ensures (call_asks (context_by c.args.flags c.args.frame.now (registered_of c.args.sink.now)) _ _ c.in-Call.is c.requires.rule).goes_on
 
 pub put_loading_call-requires-clause-results : goal.put_loading_call-requires-clause-results
-put_loading_call-requires-clause-results c = rw c.as_ref.ensures (call_asks (context_by c.args.flags c.args.frame.now (registered_of c.args.sink.now)) c.args.inst.now _ c.in-Call.is c.requires.rule).results
+put_loading_call-requires-clause-results c = rw c.as_ref.ensures (call_asks (context_by c.args.flags c.args.frame.now (registered_of c.args.sink.now)) _ _ c.in-Call.is c.requires.rule).results
 
 pub put_loading_call-requires-clause-room : goal.put_loading_call-requires-clause-room
 put_loading_call-requires-clause-room c = rw c.as_ref.ensures (let sum = call_sum (context_by c.args.flags c.args.frame.now (registered_of c.args.sink.now)) c.args.inst.now _ c.in-Call.is in let room = c.requires.room in omega arith)
 
 pub returns-in_ok-put_loading_call-in-Call-clause-emitted : goal.returns-in_ok-put_loading_call-in-Call-clause-emitted
-returns-in_ok-put_loading_call-in-Call-clause-emitted c = λ asks. loading_emits (context_by c.args.flags c.args.frame.now (registered_of c.args.sink.now)) (with_map c.args.stack_map.now c.args.inst.now) _ c.args.sink.now c.put_loading_call.new.sink (ap (with_map c.args.stack_map.now) c.in-Call.is) (ap is_some (space_given c.args.stack_map.now (context_by c.args.flags c.args.frame.now (registered_of c.args.sink.now)) c.args.inst.now) ∙ asks) (rw c.as_ref.ensures at c.in_ok-put_loading_call-in-Call.ensures.parts)
+returns-in_ok-put_loading_call-in-Call-clause-emitted c =
+    λ asks. loading_emits (context_by c.args.flags c.args.frame.now (registered_of c.args.sink.now)) _ _ _ _ (ap (with_map c.args.stack_map.now) c.in-Call.is)
+    (ap is_some (space_given c.args.stack_map.now (context_by c.args.flags c.args.frame.now (registered_of c.args.sink.now)) c.args.inst.now) ∙ asks) (rw c.as_ref.ensures at c.in_ok-put_loading_call-in-Call.ensures.parts)
 
 pub returns-in_ok-put_loading_call-in-Call-clause-setting : goal.returns-in_ok-put_loading_call-in-Call-clause-setting
-returns-in_ok-put_loading_call-in-Call-clause-setting c = λ asks setting. call_asked (context_by c.args.flags c.args.frame.now (registered_of c.args.sink.now)) c.args.inst.now _ c.args.sink.now setting c.in-Call.is
+returns-in_ok-put_loading_call-in-Call-clause-setting c = λ asks setting. rw c.in-Call.is
 
 pub put_loading_call_ind-requires-clause-fine : goal.put_loading_call_ind-requires-clause-fine
-put_loading_call_ind-requires-clause-fine c = rw c.as_ref-in-CallInd.ensures (call_ind_asks (context_by c.args.flags c.args.frame.now (registered_of c.args.sink.now)) c.args.inst.now _ c.in-CallInd.is c.requires.rule).goes_on
+put_loading_call_ind-requires-clause-fine c = rw c.as_ref-in-CallInd.ensures (call_ind_asks (context_by c.args.flags c.args.frame.now (registered_of c.args.sink.now)) _ _ c.in-CallInd.is c.requires.rule).goes_on
 
 pub put_loading_call_ind-requires-clause-results : goal.put_loading_call_ind-requires-clause-results
-put_loading_call_ind-requires-clause-results c = rw c.as_ref-in-CallInd.ensures (call_ind_asks (context_by c.args.flags c.args.frame.now (registered_of c.args.sink.now)) c.args.inst.now _ c.in-CallInd.is c.requires.rule).results
+put_loading_call_ind-requires-clause-results c = rw c.as_ref-in-CallInd.ensures (call_ind_asks (context_by c.args.flags c.args.frame.now (registered_of c.args.sink.now)) _ _ c.in-CallInd.is c.requires.rule).results
 
 pub put_loading_call_ind-requires-clause-room : goal.put_loading_call_ind-requires-clause-room
 put_loading_call_ind-requires-clause-room c = rw c.as_ref-in-CallInd.ensures (let sum = call_ind_sum (context_by c.args.flags c.args.frame.now (registered_of c.args.sink.now)) c.args.inst.now _ c.in-CallInd.is in let room = c.requires.room in omega arith)
 
 pub returns-in_ok-put_loading_call_ind-in-CallInd-clause-emitted : goal.returns-in_ok-put_loading_call_ind-in-CallInd-clause-emitted
-returns-in_ok-put_loading_call_ind-in-CallInd-clause-emitted c = λ asks. loading_ind_emits (context_by c.args.flags c.args.frame.now (registered_of c.args.sink.now)) (with_map c.args.stack_map.now c.args.inst.now) _ c.args.sink.now c.put_loading_call_ind.new.sink (ap (with_map c.args.stack_map.now) c.in-CallInd.is) (ap is_some (space_given c.args.stack_map.now (context_by c.args.flags c.args.frame.now (registered_of c.args.sink.now)) c.args.inst.now) ∙ asks) (rw c.as_ref-in-CallInd.ensures at c.in_ok-put_loading_call_ind-in-CallInd.ensures.parts)
+returns-in_ok-put_loading_call_ind-in-CallInd-clause-emitted c =
+    λ asks. loading_ind_emits (context_by c.args.flags c.args.frame.now (registered_of c.args.sink.now)) _ _ _ _ (ap (with_map c.args.stack_map.now) c.in-CallInd.is)
+    (ap is_some (space_given c.args.stack_map.now (context_by c.args.flags c.args.frame.now (registered_of c.args.sink.now)) c.args.inst.now) ∙ asks) (rw c.as_ref-in-CallInd.ensures at c.in_ok-put_loading_call_ind-in-CallInd.ensures.parts)
 
 pub returns-in_ok-put_loading_call_ind-in-CallInd-clause-setting : goal.returns-in_ok-put_loading_call_ind-in-CallInd-clause-setting
-returns-in_ok-put_loading_call_ind-in-CallInd-clause-setting c = λ asks setting. call_ind_asked (context_by c.args.flags c.args.frame.now (registered_of c.args.sink.now)) c.args.inst.now _ c.args.sink.now setting c.in-CallInd.is
+returns-in_ok-put_loading_call_ind-in-CallInd-clause-setting c = λ asks setting. rw c.in-CallInd.is
 
 pub put_loading_call_ind-requires-clause-dest : goal.put_loading_call_ind-requires-clause-dest
-put_loading_call_ind-requires-clause-dest c = rw c.as_ref-in-CallInd.ensures (call_ind_asks (context_by c.args.flags c.args.frame.now (registered_of c.args.sink.now)) c.args.inst.now _ c.in-CallInd.is c.requires.rule).dest
+put_loading_call_ind-requires-clause-dest c = rw c.as_ref-in-CallInd.ensures (call_ind_asks (context_by c.args.flags c.args.frame.now (registered_of c.args.sink.now)) _ _ c.in-CallInd.is c.requires.rule).dest

@@ -1,7 +1,4 @@
-use Rattle.std.proofs.Common.{take}
-use Rattle.rv_inst.specs.Returns.{result_loads}
-use Rattle.rv_emit.specs.Emission.{PutsAlone}
-use Rattle.rv_code.specs.InstParts.{stack_load_slots}
+use Rattle.rv_emit.proofs.Terms.{take, result_loads, PutsAlone, stack_load_slots}
 use Rattle.rv_emit.proofs.results.put_loads.Given as goal
 
 abbrev pub invariant-loop-def : goal.invariant-loop-def

@@ -1,18 +1,9 @@
-use Rattle.std.proofs.Common.{FitsSigned, None, subst, rules, ◌∙◌}
-use Rattle.std.specs.Int.{w64}
-use Rattle.std.proofs.lemmas.Int.{to_z-of_z}
-use Rattle.std.proofs.lemmas.Result.{on_ok_weaker}
-use Rattle.rv_base.specs.Regs.{number_of}
-use Rattle.rv_inst.specs.Returns.{result_load}
-use Rattle.rv_inst.specs.Addresses.{Based}
-use Rattle.rv_emit.specs.Emission.{PutsAlone}
-use Rattle.rv_code.specs.InstParts.{load_line_slots}
-use Rattle.rv_emit.proofs.ResultsPut.{typed_is, typed_put}
+use Rattle.rv_emit.proofs.Terms.{FitsSigned, rules, ◌∙◌, w64, to_z-of_z, on_ok_weaker}
+use Rattle.rv_emit.proofs.CallsPut.{typed_is, typed_put}
 use Rattle.rv_emit.proofs.results.put_typed.Goals as goal
 
 pub returns-clause-slots : goal.returns-clause-slots
 returns-clause-slots c =
     let f : FitsSigned w64 c.from.result = search rules in
-    let register = number_of c.args.rd.reg in
-    on_ok_weaker c.put_stack_load.result (λ p. typed_put register c.args.offset c.from_type.result (result_load c.args.ty) c.args.sink.now c.put_stack_load.new.sink (typed_is c.args.ty c.requires.typed ∙ c.from_type.ensures) (subst (λ o. PutsAlone c.args.flags (load_line_slots c.args.flags register c.from_type.result None (Based 2 o)) c.args.sink.now c.put_stack_load.new.sink) c.from.ensures p))
+    on_ok_weaker c.put_stack_load.result (λ p. typed_put _ _ _ _ _ _ (typed_is _ c.requires.typed ∙ c.from_type.ensures) (rw c.from.ensures at p))
     (rw (to_z-of_z w64 c.from.result f) at c.put_stack_load.ensures.slots)

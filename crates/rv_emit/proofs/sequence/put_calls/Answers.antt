@@ -1,25 +1,23 @@
-use Rattle.std.proofs.Common.{ap, ◌∙◌}
-use Rattle.std.proofs.lemmas.Result.{on_ok_weaker}
-use Rattle.rv_inst.specs.Context.{context_by}
-use Rattle.rv_code.proofs.CallRules.{fine_try, fine_ind}
-use Rattle.rv_emit.specs.StackMaps.{with_map}
+use Rattle.rv_emit.proofs.Terms.{ap, ◌∙◌, on_ok_weaker, context_by, fine_try, fine_ind, with_map}
 use Rattle.rv_emit.proofs.StackMaps.{space_given}
 use Rattle.rv_emit.proofs.CallSlots.{call_emits, call_ind_emits}
 use Rattle.rv_emit.proofs.sequence.put_calls.Goals as goal
 
 pub returns-in-Call-clause-parts : goal.returns-in-Call-clause-parts
 returns-in-Call-clause-parts c =
-    λ family constants asks. on_ok_weaker c.put_call.result (call_emits (context_by c.args.flags c.args.frame.now constants) (with_map c.args.stack_map.now c.args.inst.now) _ c.args.sink.now c.put_call.new.sink (ap (with_map c.args.stack_map.now) c.in-Call.is) (space_given c.args.stack_map.now (context_by c.args.flags c.args.frame.now constants) c.args.inst.now ∙ asks)) (rw c.as_ref.ensures at c.put_call.ensures.slots)
+    λ family constants asks. on_ok_weaker c.put_call.result (call_emits (context_by c.args.flags c.args.frame.now constants) _ _ _ _ (ap (with_map c.args.stack_map.now) c.in-Call.is)
+    (space_given c.args.stack_map.now (context_by c.args.flags c.args.frame.now constants) c.args.inst.now ∙ asks)) (rw c.as_ref.ensures at c.put_call.ensures.slots)
 
 pub returns-in-CallInd-clause-parts : goal.returns-in-CallInd-clause-parts
 returns-in-CallInd-clause-parts c =
-    λ family constants asks. on_ok_weaker c.put_call_ind.result (call_ind_emits (context_by c.args.flags c.args.frame.now constants) (with_map c.args.stack_map.now c.args.inst.now) _ c.args.sink.now c.put_call_ind.new.sink (ap (with_map c.args.stack_map.now) c.in-CallInd.is) (space_given c.args.stack_map.now (context_by c.args.flags c.args.frame.now constants) c.args.inst.now ∙ asks)) (rw c.as_ref-in-CallInd.ensures at c.put_call_ind.ensures.slots)
+    λ family constants asks. on_ok_weaker c.put_call_ind.result (call_ind_emits (context_by c.args.flags c.args.frame.now constants) _ _ _ _ (ap (with_map c.args.stack_map.now) c.in-CallInd.is)
+    (space_given c.args.stack_map.now (context_by c.args.flags c.args.frame.now constants) c.args.inst.now ∙ asks)) (rw c.as_ref-in-CallInd.ensures at c.put_call_ind.ensures.slots)
 
 pub put_call-requires-clause-fine : goal.put_call-requires-clause-fine
-put_call-requires-clause-fine c = rw c.as_ref.ensures (fine_try _ c.args.inst.now _ c.in-Call.is c.requires.fine)
+put_call-requires-clause-fine c = rw c.as_ref.ensures (fine_try _ _ _ c.in-Call.is c.requires.fine)
 
 pub put_call_ind-requires-clause-fine : goal.put_call_ind-requires-clause-fine
-put_call_ind-requires-clause-fine c = rw c.as_ref-in-CallInd.ensures (fine_ind _ c.args.inst.now _ c.in-CallInd.is c.requires.fine).1
+put_call_ind-requires-clause-fine c = rw c.as_ref-in-CallInd.ensures (fine_ind _ _ _ c.in-CallInd.is c.requires.fine).1
 
 pub put_call_ind-requires-clause-dest : goal.put_call_ind-requires-clause-dest
-put_call_ind-requires-clause-dest c = rw c.as_ref-in-CallInd.ensures (fine_ind _ c.args.inst.now _ c.in-CallInd.is c.requires.fine).0
+put_call_ind-requires-clause-dest c = rw c.as_ref-in-CallInd.ensures (fine_ind _ _ _ c.in-CallInd.is c.requires.fine).0

@@ -1,5 +1,5 @@
-use Rattle.rv_emit.proofs.SymbolCode.{note_put}
+use Rattle.rv_emit.proofs.TableCode.{note_put}
 use Rattle.rv_emit.proofs.symbols.put_unwind.Goals as goal
 
 pub returns-clause-slots : goal.returns-clause-slots
-returns-clause-slots c = λ flags. note_put flags _ c.args.sink.now c.add_unwind.new.self tt c.in_ok-add_unwind.ensures.recorded.2 c.in_ok-add_unwind.ensures.sound
+returns-clause-slots c = λ flags. note_put _ _ _ _ tt c.in_ok-add_unwind.ensures.recorded.2 c.in_ok-add_unwind.ensures.sound

@@ -1,7 +1,4 @@
-use Rattle.std.proofs.Common.{map, take}
-use Rattle.rv_base.specs.Regs.{number_of}
-use Rattle.rv_emit.specs.Emission.{PutsAlone}
-use Rattle.rv_code.specs.Tables.{far_jump}
+use Rattle.rv_emit.proofs.Terms.{map, take, number_of, PutsAlone, far_jump}
 use Rattle.rv_emit.proofs.table.put_far_jumps.Given as goal
 
 abbrev pub invariant-loop-label : goal.invariant-loop-label

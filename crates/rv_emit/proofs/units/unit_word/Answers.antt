@@ -1,14 +1,8 @@
-use Rattle.std.proofs.Common.{sym, ap, subst, ◌∙◌}
-use Rattle.rv_inst.specs.UnitWords.{unit_word}
-use Rattle.rv_code.specs.Usable.{IsFine}
-use Rattle.rv_code.proofs.UnitRules.{operation_given}
+use Rattle.rv_emit.proofs.Terms.{sym, ap, subst, ◌∙◌, unit_word, IsFine, operation_given}
 use Rattle.rv_emit.proofs.units.unit_word.Goals as goal
 
 pub returns-in-Fli : goal.returns-in-Fli
-returns-in-Fli c =
-    let i = c.in-Fli in
-    let fine = subst (IsFine c.requires.fine.0) i.is c.requires.fine.1 in
-    λ w e flags. c.encode_fli.ensures.decodes flags fine.3 ∙ operation_given (sym (ap unit_word i.is) ∙ e)
+returns-in-Fli c = let i = c.in-Fli in λ w e flags. c.encode_fli.ensures.decodes flags (subst (IsFine c.requires.fine.0) i.is c.requires.fine.1).3 ∙ operation_given (sym (ap unit_word i.is) ∙ e)
 
 pub returns-in-FpuRR : goal.returns-in-FpuRR
 returns-in-FpuRR c =
@@ -25,15 +19,10 @@ returns-in-FpuRRR c =
 pub returns-in-FpuRRRR : goal.returns-in-FpuRRRR
 returns-in-FpuRRRR c =
     let i = c.in-FpuRRRR in
-    let fine = subst (IsFine c.requires.fine.0) i.is c.requires.fine.1 in
-    λ w e flags. c.encode_fp_rrrr.ensures.decodes flags fine.3 ∙ operation_given (sym (ap unit_word i.is) ∙ e)
+    λ w e flags. c.encode_fp_rrrr.ensures.decodes flags (subst (IsFine c.requires.fine.0) i.is c.requires.fine.1).3 ∙ operation_given (sym (ap unit_word i.is) ∙ e)
 
 pub returns-in-CsrReg : goal.returns-in-CsrReg
-returns-in-CsrReg c =
-    let i = c.in-CsrReg in
-    λ w e flags. c.encode_csr_reg.ensures.decodes flags ∙ operation_given (sym (ap unit_word i.is) ∙ e)
+returns-in-CsrReg c = λ w e flags. c.encode_csr_reg.ensures.decodes flags ∙ operation_given (sym (ap unit_word c.in-CsrReg.is) ∙ e)
 
 pub returns-in-CsrImm : goal.returns-in-CsrImm
-returns-in-CsrImm c =
-    let i = c.in-CsrImm in
-    λ w e flags. c.encode_csr_imm.ensures.decodes flags ∙ operation_given (sym (ap unit_word i.is) ∙ e)
+returns-in-CsrImm c = λ w e flags. c.encode_csr_imm.ensures.decodes flags ∙ operation_given (sym (ap unit_word c.in-CsrImm.is) ∙ e)

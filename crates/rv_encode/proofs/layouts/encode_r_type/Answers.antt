@@ -1,8 +1,13 @@
 use Rattle.rv_base.specs.Regs.{number_of}
-use Rattle.rv_encode.proofs.ByFields.{r_decodes}
+use Rattle.rv_encode.proofs.ByFields.{r_alike, r_decodes}
 use Rattle.rv_encode.proofs.layouts.encode_r_type.Goals as goal
 
 pub returns-clause-decodes : goal.returns-clause-decodes
 returns-clause-decodes c =
     λ flags op is. r_decodes flags op c.r_word.result c.args.opcode (number_of c.args.rd.reg) c.args.funct3 (number_of c.args.rs1) (number_of c.args.rs2) c.args.funct7 is
     (rw (c.reg_to_gpr_num.ensures.value, c.reg_to_gpr_num-2.ensures.value, c.reg_to_gpr_num-3.ensures.value) at c.r_word.ensures)
+
+pub returns-clause-alike : goal.returns-clause-alike
+returns-clause-alike c =
+    λ flags word few h. r_alike flags c.r_word.result word c.args.opcode (number_of c.args.rd.reg) c.args.funct3 (number_of c.args.rs1) (number_of c.args.rs2) c.args.funct7 c.r_word.type_inv few
+    (rw (c.reg_to_gpr_num.ensures.value, c.reg_to_gpr_num-2.ensures.value, c.reg_to_gpr_num-3.ensures.value) at c.r_word.ensures) h

@@ -1,0 +1,10 @@
+use Rattle.std.proofs.Common.{refl}
+use Rattle.rv_base.specs.Regs.{number_of}
+use Rattle.rv_ops.specs.declared.memory.LoadOP.TheVariants.{Lw}
+use Rattle.rv_compress.proofs.ChosenForms.{sp_load_is}
+use Rattle.rv_compress.proofs.compressed_memory.c_lwsp.Goals as goal
+
+pub returns-in-Some : goal.returns-in-Some
+returns-in-Some c =
+    let e = c.encode_ci_sp_load.ensures in
+    λ flags zca. sp_load_is _ _ (number_of c.args.rd.reg) _ Lw _ c.in-Some.ensures e.narrow (e.decodes flags Lw zca refl c.requires.written)

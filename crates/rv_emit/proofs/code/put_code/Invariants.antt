@@ -1,8 +1,0 @@
-use Rattle.std.proofs.Common.{◌≤◌, drop}
-use Rattle.mach_buffer.specs.Buffer.{shape_of}
-use Rattle.rv_emit.specs.Emitted.{IsSoundBuffer}
-use Rattle.rv_emit.proofs.CodePut.{Putting}
-use Rattle.rv_emit.proofs.code.put_code.Given as goal
-
-abbrev pub invariant-loop-piece : goal.invariant-loop-piece
-invariant-loop-piece l = Putting l.flags l.code (shape_of l.fn.sink) (drop l.piece-index l.code) l.own (shape_of l.sink) × IsSoundBuffer l.sink × (l.own.count ≤ l.piece-index)

@@ -1,8 +1,0 @@
-use Rattle.std.proofs.lemmas.Result.{on_ok_weaker}
-use Rattle.rv_base.specs.Regs.{number_of}
-use Rattle.rv_inst.specs.Forms.{short_lui}
-use Rattle.rv_emit.proofs.OwnForms.{other_own, lui_other}
-use Rattle.rv_emit.proofs.shortest.put_lui.Goals as goal
-
-pub returns-clause-slots : goal.returns-clause-slots
-returns-clause-slots c = on_ok_weaker c.put_encoded.result (λ puts. puts c.args.flags _ c.encoded_lui.ensures (other_own _ (short_lui c.args.flags (number_of c.args.rd.reg) c.args.imm.value) (lui_other c.args.flags (number_of c.args.rd.reg) c.args.imm.value))) c.put_encoded.ensures.slot

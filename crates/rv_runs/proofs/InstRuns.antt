@@ -1,0 +1,73 @@
+-- Every instruction of the integer core that breaks no rule runs as it means.
+use Rattle.std.proofs.Common.{◌≡◌, ℕ, true, false, [], ◌∷◌, None, subst, arith, lit<, nat_eq, pos, refl, not}
+use Rattle.rv_runs.proofs.Words.{AluRRImm12, AluRRR, Args, AtLabel, Auipc, BrTable, Brev8, Call, CallInd, Cltz, CondBr, DummyUse, EBreak, EmitIsland, EmitVState, Extend, FrameLayout, GapIn, Inst, Jal, Jalr, Keeps, Label, LabelAddress, Load, LoadAddr, LoadExtNameFar, LoadExtNameGot, LoadExtNameNear}
+use Rattle.rv_runs.proofs.Words.{LoadInlineConst, Lui, Mov, MovFromPReg, Nop0, Nop4, Op, Popcnt, RawData, Ret, Rets, ReturnCall, ReturnCallInd, RunsIn, Select, SequencePoint, Site, StackProbeLoop, State, Store, TrapIf, Udf, Unwind, Values, all_integers, and_parts, are_usable, call_usable, compares}
+use Rattle.rv_runs.proofs.Words.{constant_kept, count_of, decoded_addi, ebreak_breaks, ebreak_sized, extend_kept, goes_none, inst_rule, is_bad_frame_for, is_float_load, is_float_store, is_integer_in, is_probe, is_table, is_zero, jump_to, keeps, label_address_kept, load_addr_kept, load_kept}
+use Rattle.rv_runs.proofs.Words.{location_of, low_word, move_usable, not_true, number_of, or_left, preg_usable, reg, restores_float, short_ebreak, signed, store_kept, tail_call_of, target_fine, trap_if_usable, trap_slots, window_some}
+use Rattle.rv_runs.proofs.Exits.{RunsHere, starts_beside, starts_at, gap_out, break_out, comes_out, trap_out, trap_some}
+use Rattle.rv_inst.specs.Core.{is_integer}
+use Rattle.rv_code.proofs.Operands.{not_zero, is_count, is_reversal, reversal_of, zeros_count}
+use Rattle.rv_runs.proofs.MemoryRuns.{load_runs, store_runs, address_out, constant_runs}
+use Rattle.rv_runs.proofs.PlainRuns.{nothing_out, alu_rrr_runs, alu_rri_runs, lui_runs, auipc_runs, mov_runs, ret_runs, jalr_runs, move_out, next_out, cond_br_runs, jump_out, trap_if_out, got_runs, far_runs, near_out}
+use Rattle.rv_runs.proofs.CountRuns.{popcnt_out, zeros_out}
+use Rattle.rv_runs.proofs.SelectRuns.{extend_out, select_runs}
+use Rattle.rv_runs.proofs.ReverseRuns.{reverse_out}
+use Rattle.rv_runs.proofs.ProbeRuns.{probe_out}
+use Rattle.rv_runs.proofs.TableRuns.{table_out}
+use Rattle.rv_runs.proofs.CallRuns.{call_ind_out, call_out, return_call_runs, return_call_ind_runs}
+use Rattle.rv_inst.specs.Returns.{restores}
+use Rattle.rv_code.specs.Evaluation.{to}
+
+-- a tail call of the integer core restores no floating-point register
+none_restored : (frame : FrameLayout) (inst : Inst) → is_integer_in frame inst ≡ true → restores_float frame (tail_call_of inst) ≡ false
+none_restored frame inst core = not_true _ (and_parts (not (restores_float frame (tail_call_of inst))) (is_integer inst) core).0
+
+module _ (site : Site) (setting : EmitVState) (start after : ℕ) (s : State) (v : Values) where
+  -- by its family's proof, which gets what the rules say of its operands
+  kept_out : (inst : Inst) → is_integer_in site.context.frame inst ≡ true → Keeps inst → is_bad_frame_for site.context.frame (tail_call_of inst) ≡ false → RunsHere site setting inst start after s v
+  kept_out Nop0 core k r e clear = nothing_out e.stands e
+  kept_out Nop4 core k r e clear = next_out (decoded_addi 0 0 (pos 0)) 0 0 e (lit< tt) refl (lit< tt) (lit< tt)
+  kept_out EBreak core k r e clear = break_out (short_ebreak site.context.flags) (ebreak_breaks site.context.flags) (starts_at (Op (short_ebreak site.context.flags) ∷ []) e) (let some = (ebreak_sized site.context.flags).some in omega arith) e.stands.1.0 (starts_beside [] e)
+  kept_out SequencePoint core k r e clear = nothing_out e.stands e
+  kept_out (Args args) core k r e clear = nothing_out e.stands e
+  kept_out (Rets rets) core k r e clear = nothing_out e.stands e
+  kept_out (DummyUse reg) core k r e clear = nothing_out e.stands e
+  kept_out (EmitIsland needed_space) core k r e clear = gap_out start (subst (GapIn site start) e.stands.2 e.stands.1) e.pc (starts_beside [] e)
+  kept_out (RawData bytes) core k r e clear = comes_out s (goes_none site.context.flags s) e.pc (starts_beside [] e)
+  kept_out (Lui rd imm) core k r e clear = lui_runs site setting start after s v rd imm (are_usable (rd.reg ∷ []) k.real k.placed k.free).0 e clear
+  kept_out (Auipc rd imm) core k r e clear = auipc_runs site setting start after s v rd imm (are_usable (rd.reg ∷ []) k.real k.placed k.free).0 e clear
+  kept_out (LoadInlineConst rd type imm) core k r e clear = let c = constant_kept rd type imm k in constant_runs site setting start after s v rd type imm c.usable c.counted c.typed e clear
+  kept_out (AluRRR op rd rs1 rs2) core k r e clear = let all = are_usable (rd.reg ∷ rs1 ∷ rs2 ∷ []) k.real k.placed k.free in alu_rrr_runs site setting start after s v op rd rs1 rs2 all.0 all.1.0 all.1.1.0 e clear
+  kept_out (AluRRImm12 op rd rs imm) core k r e clear = let all = are_usable (rd.reg ∷ rs ∷ []) k.real k.placed k.free in alu_rri_runs site setting start after s v op rd rs imm all.0 all.1.0 k.ranged e clear
+  kept_out (Mov rd rm type) core k r e clear = let both = move_usable rd rm type core k in mov_runs site setting start after s v rd rm type both.0 both.1 e clear
+  kept_out (MovFromPReg rd rm) core k r e clear = let both = preg_usable rd rm k in move_out (nat_eq (number_of rd.reg) rm.number) (number_of rd.reg) rm.number refl both.0.1 both.1.1 e
+  kept_out (Extend rd rn signed from_bits to_bits) core k r e clear = let h = extend_kept rd rn signed from_bits to_bits k in extend_out (number_of rd.reg) (number_of rn) from_bits signed h.0.1 h.1.1 h.2 h.3 e
+  kept_out (Select info) core k r e clear = select_runs site setting start after s v info (all_integers info core k) k e clear
+  kept_out (Load rd op flags from) core k r e clear = let integer = not_true (is_float_load op) core in let a = load_kept site.context.frame rd op flags from integer k in load_runs site setting start after s v rd op flags from integer a.usable a.based a.real e clear
+  kept_out (Store src op flags to) core k r e clear = let integer = not_true (is_float_store op) core in let a = store_kept site.context.frame to op flags src integer k in store_runs site setting start after s v to op flags src integer a.0 a.1 e clear
+  kept_out (LoadAddr rd mem) core k r e clear = let a = load_addr_kept site.context.frame rd mem k in address_out (number_of rd.reg) (location_of site.context.frame mem) a.usable.1 a.real a.based a.apart e
+  kept_out (LabelAddress dst label) core k r e clear = let a = label_address_kept dst label k in address_out (number_of dst.reg) (AtLabel label) a.0.1 a.1 tt tt e
+  kept_out Ret core k r e clear = ret_runs site setting start after s v e clear
+  kept_out (TrapIf cmp code) core k r e clear = let both = trap_if_usable cmp code k in trap_if_out cmp code (compares cmp v) refl both.0 both.1 e
+  kept_out (Jal label) core k r e clear = jump_out label (starts_at (jump_to site.context.flags (Label label) ∷ []) e) (let some = window_some site.context.flags in omega arith) e.stands.1.0 (starts_beside [] e)
+  kept_out (CondBr t f kind) core k r e clear = let all = are_usable (kind.rs1 ∷ kind.rs2 ∷ []) k.real k.placed k.free in cond_br_runs site setting start after s v kind t f all.0 all.1.0 k.aimed e clear
+  kept_out (BrTable index tmp1 tmp2 (default ∷ labels)) core k r e clear = table_out _ (number_of index) (number_of tmp1.reg) (number_of tmp2.reg) default labels (is_table index tmp1 tmp2 (default ∷ labels) k) e
+  kept_out (Udf code) core k r e clear = let some = trap_some site.context.flags in trap_out code (starts_at (trap_slots site.context.flags code) e) (omega arith) e.stands.1.0 (e.stands.1.1.0 s.values.mem e.placed) (omega arith) (let ends = e.stands.2 in omega arith) (starts_beside [] e)
+  kept_out (Jalr rd base offset) core k r e clear = let all = are_usable (rd.reg ∷ base ∷ []) k.real k.placed k.free in jalr_runs site setting start after s v rd base offset all.0 all.1.0 e clear
+  kept_out (Popcnt info) core k r e clear = popcnt_out (count_of info.sum info.tmp info.step info.rs info.ty) (is_count info.sum info.tmp info.step info.rs info.ty (are_usable (info.sum.reg ∷ info.tmp.reg ∷ info.step.reg ∷ info.rs ∷ []) k.real k.placed k.free) k.counted k.apart k.typed) e
+  kept_out (Cltz leading info) core k r e clear = zeros_out leading (count_of info.sum info.tmp info.step info.rs info.ty) (zeros_count info.sum info.tmp info.step info.rs leading info.ty k) e
+  kept_out (Brev8 info) core k r e clear = reverse_out (reversal_of info.rs info.ty info.step info.tmp info.tmp2 info.rd) (is_reversal info.rs info.ty info.step info.tmp info.tmp2 info.rd k) e
+  kept_out (StackProbeLoop guard_size probe_count tmp) core k r e clear = probe_out (number_of tmp.reg) (low_word guard_size) (low_word probe_count) (is_probe guard_size probe_count tmp k) (omega arith) (omega arith) e clear
+  kept_out (LoadExtNameGot rd name) core k r e clear = let h = (are_usable (rd.reg ∷ []) k.real k.placed k.free).0 in got_runs site setting start after s v rd name h (not_zero rd.reg h (or_left (is_zero rd.reg) false k.counted)) e clear
+  kept_out (LoadExtNameNear rd name offset) core k r e clear = let h = (are_usable (rd.reg ∷ []) k.real k.placed k.free).0 in near_out (number_of rd.reg) name offset h.1 (not_zero rd.reg h (or_left (is_zero rd.reg) false k.counted)) e
+  kept_out (LoadExtNameFar rd name offset) core k r e clear = let h = (are_usable (rd.reg ∷ []) k.real k.placed k.free).0 in far_runs site setting start after s v rd name offset h (not_zero rd.reg h (or_left (is_zero rd.reg) false k.counted)) e clear
+  kept_out (Call info) core k r e clear = call_out info e
+  kept_out (CallInd info) core k r e clear = call_ind_out info (call_usable info k).1 e
+  kept_out (ReturnCall info) core k r e clear = return_call_runs site setting start after s v info (none_restored site.context.frame (ReturnCall info) core) r e clear
+  kept_out (ReturnCallInd info) core k r e clear = return_call_ind_runs site setting start after s v info (target_fine info k).1 (none_restored site.context.frame (ReturnCallInd info) core) r e clear
+  kept_out (Unwind inst) core k r e clear = nothing_out (let ends = e.stands.2 in omega arith) e
+  kept_out inst core k r e clear = absurd (cc)
+
+-- where a frame that it takes away can be restored
+pub inst_runs : (site : Site) (setting : EmitVState) (inst : Inst) → is_integer_in site.context.frame inst ≡ true → inst_rule site.context inst ≡ None → is_bad_frame_for site.context.frame (tail_call_of inst) ≡ false → RunsIn site setting inst
+inst_runs site setting inst core rule restores = record { run = λ start after s v e clear. kept_out site setting start after s v inst core (keeps site.context inst rule) restores e clear }

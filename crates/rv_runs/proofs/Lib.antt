@@ -1,0 +1,17 @@
+pub mod CallRuns
+pub mod CountRuns
+pub mod Exits
+pub mod FloatMemory
+pub mod FullCallRuns
+pub mod FullChoices
+pub mod FullInstRuns
+pub mod InstRuns
+pub mod MemoryRuns
+pub mod OneOperations
+pub mod PlainRuns
+pub mod ProbeRuns
+pub mod ReverseRuns
+pub mod SelectRuns
+pub mod TableRuns
+pub mod UnitRuns
+pub mod Words

@@ -1,0 +1,277 @@
+-- Plain instructions: those of no operation or of one, jumps and branches, traps, and the addresses of symbols.
+use Rattle.std.proofs.Common.{◌≡◌, ℕ, ◌+◌, ◌*◌, ◌/◌, ◌^◌, ◌<◌, ◌≤◌, pos, Bool, true, false, [], ◌∷◌, List, Some, arith, refl, sym, ap, subst, ◌∙◌, lit<, lit≤, eqb-true, nat_eq, if◌then◌else◌, not, nat_lt, ℤ, ◌-ℤ◌}
+use Rattle.rv_runs.proofs.Words.{AVirtual, Addi, AddressOf, AimsFrom, AluOPRRI, AluRRImm12, AluRRR, Arrives, Auipc, B12, Base, Bind, ComesOut, CondBr, Decoded, Do, EmitVState, Enters, Exit, ExternalName, FillsFrom, Int, IntCC, IntegerCompare, IrType, IsAt, IsBeside, IsIntRegister, IsState, IsUsable}
+use Rattle.rv_runs.proofs.Words.{IsaFlags, Jalr, Label, Ld, Leave, LoadExtNameFar, LoadExtNameGot, Lui, MachLabel, Mov, Next, NotEqual, Op, Part, Real, Reg, Ret, Rri, Same, Sets, SignedGreaterThanOrEqual, SignedLessThanOrEqual, Site, Slot, SlotOf, StandsIn, State, Symbol, To, TrapCode}
+use Rattle.rv_runs.proofs.Words.{UnsignedGreaterThanOrEqual, UnsignedLessThanOrEqual, Values, Writable, act, aims_at, alu_result_fits, alu_rri, alu_rrr, and_then, at, at_next, between, branch_acts, branch_to, class_of, compares, complement_of, decoded, decoded_addi, decoded_branch, decoded_load}
+use Rattle.rv_runs.proofs.Words.{eight_there, evaluate, goes_at_least, goes_none, got_slots, holds, is_fallthrough, is_out_of_range, jalr_acts, jalr_sized, jump_acts, jump_kind, jump_size, jump_to, least_steps, load_fits, load_op, load_result, load_same, low64, low64_small, lower_of_distance}
+use Rattle.rv_runs.proofs.Words.{lui_acts, lui_sized, move_pieces, near_slots, number_of, over_goes, parts_sum, plus_none, point, reads_back, reg, rri_acts, rri_op, rri_sized, rrr_acts, rrr_fits, rrr_sized, set_at, set_own, set_reg, sets_both, sets_one, short_jalr, short_jump, short_lui, short_rri}
+use Rattle.rv_runs.proofs.Words.{short_rrr, shorter, signed_below, size_of, slots_alone, slots_of, step_at, symbol_address, target_exit, to_le_bytes, upper_of_distance, window_some, wrap}
+use Rattle.rv_runs.proofs.Exits.{SlotsOut, RunsHere, writes_beside, same_but, starts_beside, starts_at, comes_out, goes_out, label_out, pieces_out, pieces_trap}
+use Rattle.rv_inst.specs.Meaning.{Trap}
+use Rattle.rv_imms.specs.declared.imm12.Imm12.{Imm12}
+use Rattle.rv_imms.specs.declared.imm20.Imm20.{Imm20}
+use Rattle.rv_ops.specs.declared.alu.AluOPRRR.{AluOPRRR}
+use Rattle.rv_code.specs.Slots.{Target}
+use Rattle.rv_code.specs.InstParts.{far_slots}
+use Rattle.rv_inst.specs.declared.inst.CondBrTarget.{CondBrTarget}
+use Rattle.rv_inst.specs.declared.inst.CondBrTarget.TheVariants.{Label as ToLabel, Fallthrough}
+use Rattle.rv_inst.specs.LabelUse.{has_veneer_of}
+use Rattle.rv_code.specs.Chains.{Goes}
+use Rattle.rv_code.specs.Traps.{trap_if_pieces}
+use Rattle.std.specs.Int.{w64}
+use Rattle.rv_runs.proofs.MemoryRuns.{sets_out}
+use Rattle.rv_code.proofs.LineSlots.{far_long}
+use Rattle.rv_machine.specs.declared.ops.BaseOp.TheVariants as base
+use Rattle.rv_code.specs.Pieces as piece
+
+-- The instructions of no operation, and those of one that writes a register.
+
+-- ---- in general
+
+-- nothing is done, and nothing stands there
+pub nothing_out : {site : Site} {start after : ℕ} {parts : List Part} {s : State} {v : Values} → start ≡ after → Enters site start after parts s v → ComesOut site start after Next [] v s
+nothing_out {site} {start} {after} {parts} {s} same e = comes_out s (goes_none site.context.flags s) (e.pc ∙ ap (λ n. wrap (site.base + n)) same) (starts_beside [] e)
+
+-- one operation writes a register, where x0 drops what is written, and the machine goes to an address
+pub writes_out : {site : Site} {start after : ℕ} {s : State} {v : Values} (exit : Exit) (d : Decoded) (pc n x : ℕ) → Enters site start after (slots_alone (Op d ∷ [])) s v → 0 < d.len → least_steps exit ≤ 1 → act d s ≡ Some (at pc (set_reg s.values n x)) → Arrives site start after exit (at pc (set_reg s.values n x)) → pc < 2 ^ 64 → n < 30 → x < 2 ^ 64 → ComesOut site start after exit [] (set_reg v n x) s
+writes_out {s = s} exit d pc n x e some one acts arrives pc_fits usable fits =
+    let t = at pc (set_reg s.values n x) in
+    comes_out t (goes_at_least one (step_at d [] t (starts_at (Op d ∷ []) e) (omega arith) e.stands.1.0 acts)) arrives (writes_beside pc n x pc_fits (omega arith) fits e)
+
+-- and goes on
+pub next_out : {site : Site} {start after : ℕ} {s : State} {v : Values} (d : Decoded) (n x : ℕ) → Enters site start after (slots_alone (Op d ∷ [])) s v → 0 < d.len → act d s ≡ Some (at (wrap (s.pc + d.len)) (set_reg s.values n x)) → n < 30 → x < 2 ^ 64 →
+    ComesOut site start after Next [] (set_reg v n x) s
+next_out {site} {start} {after} {s} d n x e some acts usable fits =
+    writes_out Next d (wrap (s.pc + d.len)) n x e some (lit≤ tt) acts (let pc = e.pc in let ends = e.stands.2 in omega arith) (omega arith) usable fits
+
+-- ---- operations of registers and immediates
+
+pub alu_rrr_runs : (site : Site) (setting : EmitVState) (start after : ℕ) (s : State) (v : Values) (op : AluOPRRR) (rd : Writable Reg) (rs1 rs2 : Reg) → IsUsable rd.reg → IsUsable rs1 → IsUsable rs2 → RunsHere site setting (AluRRR op rd rs1 rs2) start after s v
+alu_rrr_runs site setting start after s v op rd rs1 rs2 h h1 h2 e clear =
+    let n = number_of rd.reg in let x = number_of rs1 in let y = number_of rs2 in
+    let d = short_rrr site.context.flags op n x y in
+    next_out d n (alu_rrr op (reg v x) (reg v y)) e (rrr_sized site.context.flags op n x y).some
+    (rrr_acts site.context.flags op n x y s e.is_state ∙ (λ i. Some (at (wrap (s.pc + d.len)) (set_reg s.values n (alu_rrr op (sym (e.same.regs x h1.1) i) (sym (e.same.regs y h2.1) i))))))
+    h.1 (rrr_fits op (reg v x) (reg v y) (e.are_values.fits x) (e.are_values.fits y))
+
+pub alu_rri_runs : (site : Site) (setting : EmitVState) (start after : ℕ) (s : State) (v : Values) (op : AluOPRRI) (rd : Writable Reg) (rs : Reg) (imm : Imm12) → IsUsable rd.reg → IsUsable rs → is_out_of_range (AluRRImm12 op rd rs imm) ≡ false →
+    RunsHere site setting (AluRRImm12 op rd rs imm) start after s v
+alu_rri_runs site setting start after s v op rd rs imm h h1 range e clear =
+    let n = number_of rd.reg in let x = number_of rs in
+    let d = short_rri site.context.flags op n x imm.value in
+    next_out d n (alu_rri op (reg v x) imm.value) e (rri_sized site.context.flags op n x imm.value).some
+    (rri_acts site.context.flags op n x imm.value s range e.is_state ∙ (λ i. Some (at (wrap (s.pc + d.len)) (set_reg s.values n (alu_rri op (sym (e.same.regs x h1.1) i) imm.value)))))
+    h.1 (alu_result_fits (rri_op op) (reg v x) 0 (low64 imm.value) (e.are_values.fits x) (lit< tt) (low64_small imm.value imm.low imm.high))
+
+-- ---- upper immediates, moves, and what is dropped
+
+pub lui_runs : (site : Site) (setting : EmitVState) (start after : ℕ) (s : State) (v : Values) (rd : Writable Reg) (imm : Imm20) → IsUsable rd.reg → RunsHere site setting (Lui rd imm) start after s v
+lui_runs site setting start after s v rd imm h e clear =
+    let n = number_of rd.reg in
+    next_out (short_lui site.context.flags n imm.value) n (wrap (low64 imm.value * 2 ^ 12)) e (lui_sized site.context.flags n imm.value).some (lui_acts site.context.flags n imm.value s e.is_state) h.1 (omega arith)
+
+pub auipc_runs : (site : Site) (setting : EmitVState) (start after : ℕ) (s : State) (v : Values) (rd : Writable Reg) (imm : Imm20) → IsUsable rd.reg → RunsHere site setting (Auipc rd imm) start after s v
+auipc_runs site setting start after s v rd imm h e clear =
+    let n = number_of rd.reg in
+    next_out (decoded (Base base.Auipc) n 0 0 imm.value) n (wrap (wrap (site.base + start) + low64 imm.value * 2 ^ 12)) e (lit< tt)
+    (λ i. Some (at (wrap (s.pc + 4)) (set_reg s.values n (wrap (e.pc i + low64 imm.value * 2 ^ 12)))))
+    h.1 (omega arith)
+
+pub int_class : (r : Reg) → IsIntRegister r → class_of r ≡ Int
+int_class (Real p) h = h
+int_class (AVirtual class index) h = absurd h
+
+-- a move, by whether it is one to itself
+pub move_out : {site : Site} {start after : ℕ} {s : State} {v : Values} (own : Bool) (rd rs : ℕ) → nat_eq rd rs ≡ own → rd < 30 → rs < 30 → SlotsOut site start after (slots_of site.context.flags (if own then [] else Do (Rri Addi rd rs (pos 0)) ∷ [])) s v [] (set_reg v rd (reg v rs))
+move_out {site} {start} {after} {s} {v} true rd rs test h h1 e =
+    subst (λ (w : Values). ComesOut site start after Next [] w s) (sym (ap (λ n. set_reg v rd (reg v n)) (sym (eqb-true rd rs test)) ∙ set_own v rd)) (nothing_out (let ends = e.stands.2 in omega arith) e)
+move_out {site} {start} {after} {s} {v} false rd rs test h h1 e =
+    let d = short_rri site.context.flags Addi rd rs (pos 0) in
+    next_out d rd (reg v rs) e (rri_sized site.context.flags Addi rd rs (pos 0)).some
+    (rri_acts site.context.flags Addi rd rs (pos 0) s refl e.is_state ∙ (λ i. Some (at (wrap (s.pc + d.len)) (set_reg s.values rd ((plus_none (reg s.values rs) (e.is_state.values.fits rs) ∙ sym (e.same.regs rs h1)) i)))))
+    h (e.are_values.fits rs)
+
+pub mov_runs : (site : Site) (setting : EmitVState) (start after : ℕ) (s : State) (v : Values) (rd : Writable Reg) (rm : Reg) (type : IrType) → IsUsable rd.reg → IsUsable rm → RunsHere site setting (Mov rd rm type) start after s v
+mov_runs site setting start after s v rd rm type h h1 e clear =
+    let n = number_of rd.reg in let x = number_of rm in
+    move_out (nat_eq n x) n x refl h.1 h1.1 (subst (λ c. Enters site start after (slots_alone (slots_of site.context.flags (move_pieces c type n x))) s v) (int_class rd.reg h.0) e)
+
+-- ---- jumps to a register
+
+pub ret_runs : (site : Site) (setting : EmitVState) (start after : ℕ) (s : State) (v : Values) → RunsHere site setting Ret start after s v
+ret_runs site setting start after s v e clear =
+    writes_out (Leave (reg v 1 / 2 * 2)) (short_jalr site.context.flags 0 1 (pos 0)) (wrap (reg s.values 1 + 0) / 2 * 2) 0 0 e (jalr_sized site.context.flags 0 1 (pos 0)).some (lit≤ tt) (jalr_acts site.context.flags 0 1 (pos 0) s e.is_state) (omega arith) (omega arith) (lit< tt) (lit< tt)
+
+-- it links, and reads the register before
+pub jalr_runs : (site : Site) (setting : EmitVState) (start after : ℕ) (s : State) (v : Values) (rd : Writable Reg) (base : Reg) (offset : Imm12) → IsUsable rd.reg → IsUsable base → RunsHere site setting (Jalr rd base offset) start after s v
+jalr_runs site setting start after s v rd base offset h h1 e clear =
+    let n = number_of rd.reg in let x = number_of base in
+    let d = short_jalr site.context.flags n x offset.value in
+    let next : wrap (s.pc + d.len) ≡ wrap (site.base + after) = (let pc = e.pc in let ends = e.stands.2 in omega arith) in
+    let target = wrap (reg s.values x + low64 offset.value) / 2 * 2 in
+    writes_out (Leave (wrap (reg v x + low64 offset.value) / 2 * 2)) d target n (wrap (site.base + after)) e (jalr_sized site.context.flags n x offset.value).some (lit≤ tt)
+    (jalr_acts site.context.flags n x offset.value s e.is_state ∙ (λ i. Some (at target (set_reg s.values n (next i)))))
+    (λ i. wrap (sym (e.same.regs x h1.1) i + low64 offset.value) / 2 * 2)
+    (omega arith) h.1 (omega arith)
+
+-- The instructions that lead to a label.
+
+-- ---- jumps
+
+-- the machine elsewhere, with the same values
+pub moved_beside : {site : Site} {free : List ℕ} {v : Values} {s : State} (pc : ℕ) → pc < 2 ^ 64 → IsBeside site free v s → IsBeside site free v (at pc s.values)
+moved_beside pc fits b = record { same = b.same; is_state = record { pc = fits; values = b.is_state.values }; are_values = b.are_values; placed = b.placed }
+
+-- a jump leads to its label, from wherever in an instruction's code it stands
+pub jump_out : {site : Site} {start after offset size allocated : ℕ} {free : List ℕ} {v : Values} {s : State} (label : MachLabel) → IsAt site offset size s → 0 < size → AimsFrom site allocated offset (jump_kind site.context.flags) (Label label) (λ d. short_jump site.context.flags d ∷ []) → IsBeside site free v s → ComesOut site start after (To label.number) free v s
+jump_out {site} {offset = offset} {s = s} label h some a b =
+    let d = between offset a.to in
+    let pc = wrap (s.pc + low64 d) in
+    let t = at pc s.values in
+    label_out (has_veneer_of (jump_kind site.context.flags)) label a.to t a.reaches (step_at (short_jump site.context.flags d) [] t h some a.has (jump_acts site.context.flags d s)) (aims_at a.to h some) (moved_beside pc (omega arith) b)
+
+-- ---- branches
+
+pub compares_same : (kind : IntegerCompare) (v w : Values) → IsUsable kind.rs1 → IsUsable kind.rs2 → Same v w → compares kind v ≡ compares kind w
+compares_same kind v w h1 h2 same = λ i. holds kind.kind (same.regs (number_of kind.rs1) h1.1 i) (same.regs (number_of kind.rs2) h2.1 i)
+
+-- a branch by a distance, by whether its comparison holds
+pub branch_goes : {site : Site} {offset size allocated : ℕ} {s : State} (target : Target) (kind : IntegerCompare) (c : Bool) → compares kind s.values ≡ c → IsAt site offset size s → 0 < size → (a : AimsFrom site allocated offset B12 target (λ d. decoded_branch kind d ∷ [])) → Goes site.context.flags 1 s (at (if c then wrap (s.pc + low64 (between offset a.to)) else wrap (s.pc + 4)) s.values)
+branch_goes {offset = offset} {s = s} target kind c test h some a =
+    let d = between offset a.to in
+    step_at (decoded_branch kind d) [] (at (if c then wrap (s.pc + low64 d) else wrap (s.pc + 4)) s.values) h some a.has
+    (branch_acts kind d s ∙ (λ i. Some (at (if test i then wrap (s.pc + low64 d) else wrap (s.pc + 4)) s.values)))
+
+-- what stands after a branch
+abbrev otherwise : IsaFlags → CondBrTarget → List Slot
+otherwise flags (ToLabel f) = jump_to flags (Label f) ∷ []
+otherwise flags Fallthrough = []
+
+otherwise_out : {site : Site} {start after offset : ℕ} {v : Values} {s : State} (allocated : ℕ) (f : CondBrTarget) → IsAt site offset (size_of (otherwise site.context.flags f)) s → StandsIn site allocated offset (otherwise site.context.flags f) → offset + size_of (otherwise site.context.flags f) ≡ after → IsBeside site [] v s → ComesOut site start after (target_exit f) [] v s
+otherwise_out {site} allocated (ToLabel f) h stands ends b = jump_out f h (let some = window_some site.context.flags in omega arith) stands.0 b
+otherwise_out {site} {s = s} allocated Fallthrough h stands ends b = comes_out s (goes_none site.context.flags s) (let pc = h.pc in omega arith) b
+
+branch_out : {site : Site} {start after : ℕ} {s : State} {v : Values} (kind : IntegerCompare) (t : MachLabel) (f : CondBrTarget) (c : Bool) → compares kind v ≡ c → IsUsable kind.rs1 → IsUsable kind.rs2 → Enters site start after (slots_alone (branch_to kind (Label t) ∷ otherwise site.context.flags f)) s v → ComesOut site start after (if c then To t.number else target_exit f) [] v s
+branch_out {site} {start} {after} {s} {v} kind t f true test h1 h2 e =
+    let h = starts_at (branch_to kind (Label t) ∷ otherwise site.context.flags f) e in
+    let a = e.stands.1.0 in
+    let pc = wrap (s.pc + low64 (between start a.to)) in
+    let held = sym (compares_same kind v s.values h1 h2 e.same) ∙ test in
+    label_out true t a.to (at pc s.values) a.reaches (branch_goes (Label t) kind true held h (omega arith) a) (aims_at a.to h (omega arith)) (moved_beside pc (omega arith) (starts_beside [] e))
+branch_out {site} {start} {after} {s} {v} kind t f false test h1 h2 e =
+    let h = starts_at (branch_to kind (Label t) ∷ otherwise site.context.flags f) e in
+    let pc = wrap (s.pc + 4) in
+    goes_out (branch_goes (Label t) kind false (sym (compares_same kind v s.values h1 h2 e.same) ∙ test) h (omega arith) e.stands.1.0)
+    (otherwise_out e.stands.0 f (at_next 4 (at pc s.values) h refl refl e.placed) e.stands.1.1 (let ends = e.stands.2 in omega arith) (moved_beside pc (omega arith) (starts_beside [] e)))
+
+-- a branch whose taken side is a label
+pub cond_br_runs : (site : Site) (setting : EmitVState) (start after : ℕ) (s : State) (v : Values) (kind : IntegerCompare) (t f : CondBrTarget) → IsUsable kind.rs1 → IsUsable kind.rs2 → is_fallthrough t ≡ false → RunsHere site setting (CondBr t f kind) start after s v
+cond_br_runs site setting start after s v kind Fallthrough f h1 h2 aimed e clear = absurd (cc)
+cond_br_runs site setting start after s v kind (ToLabel t) Fallthrough h1 h2 aimed e clear = branch_out kind t Fallthrough (compares kind v) refl h1 h2 e
+cond_br_runs site setting start after s v kind (ToLabel t) (ToLabel f) h1 h2 aimed e clear = branch_out kind t (ToLabel f) (compares kind v) refl h1 h2 e
+
+-- The instructions that trap, and data, which is never entered.
+
+-- ---- a trap where a comparison holds
+
+not_not : (b : Bool) → not (not b) ≡ b
+not_not true = refl
+not_not false = refl
+
+pub complement_holds : (k : IntCC) (x y : ℕ) → holds (complement_of k) x y ≡ not (holds k x y)
+complement_holds NotEqual x y = sym (not_not (nat_eq x y))
+complement_holds SignedGreaterThanOrEqual x y = sym (not_not (signed_below x y))
+complement_holds SignedLessThanOrEqual x y = sym (not_not (signed_below y x))
+complement_holds UnsignedGreaterThanOrEqual x y = sym (not_not (nat_lt x y))
+complement_holds UnsignedLessThanOrEqual x y = sym (not_not (nat_lt y x))
+complement_holds k x y = refl
+
+-- the branch over the trap, by whether the comparison holds
+skips : (cmp : IntegerCompare) (c : Bool) (v w : Values) → compares cmp v ≡ c → IsUsable cmp.rs1 → IsUsable cmp.rs2 → Same v w → holds (complement_of cmp.kind) (reg w (number_of cmp.rs1)) (reg w (number_of cmp.rs2)) ≡ not c
+skips cmp c v w test h1 h2 same = complement_holds cmp.kind (reg w (number_of cmp.rs1)) (reg w (number_of cmp.rs2)) ∙ ap not (sym (compares_same cmp v w h1 h2 same) ∙ test)
+
+pub trap_if_out : {site : Site} {start after : ℕ} {s : State} {v : Values} (cmp : IntegerCompare) (code : TrapCode) (c : Bool) → compares cmp v ≡ c → IsUsable cmp.rs1 → IsUsable cmp.rs2 → Enters site start after (slots_alone (slots_of site.context.flags (trap_if_pieces cmp code))) s v →
+    ComesOut site start after (if c then Trap code else Next) [] v s
+trap_if_out {s = s} {v} cmp code true test h1 h2 e = pieces_trap (trap_if_pieces cmp code) (Bind 0 ∷ []) code [] v tt e
+    (record { count = 2; values = s.values; ran = ap (λ b. and_then (if b then Some (point [] s.values) else Some (point (piece.Trap code ∷ Bind 0 ∷ []) s.values)) (evaluate 0 (trap_if_pieces cmp code))) (skips cmp true v s.values test h1 h2 e.same); such = same_but [] e.same })
+    (λ fits. e.are_values)
+trap_if_out {s = s} {v} cmp code false test h1 h2 e = pieces_out (trap_if_pieces cmp code) [] v tt e
+    (record { count = 2; values = s.values; ran = ap (λ b. and_then (if b then Some (point [] s.values) else Some (point (piece.Trap code ∷ Bind 0 ∷ []) s.values)) (evaluate 0 (trap_if_pieces cmp code))) (skips cmp false v s.values test h1 h2 e.same); such = same_but [] e.same })
+    (λ fits. e.are_values)
+
+-- Symbols' addresses come into registers, and steps in the making of a frame do nothing.
+
+-- ---- by the distance to a symbol
+
+-- the upper part of a distance, added to an address
+abbrev upper_sum : ℕ → ℤ → ℕ
+upper_sum pc d = wrap (pc + low64 (upper_of_distance d) * 2 ^ 12)
+
+-- two words that hold the distance to a symbol, the first of which is auipc
+abbrev HoldsSymbol : Site → ℕ → ℕ → Symbol → (ℤ → List Decoded) → Type 0
+HoldsSymbol site offset rd symbol lower = FillsFrom site offset symbol (λ d. decoded (Base base.Auipc) rd 0 0 (upper_of_distance d) ∷ []) lower
+
+-- the first of them is done
+first_goes : {site : Site} {offset size : ℕ} {s : State} (rd : ℕ) (symbol : Symbol) (lower : ℤ → List Decoded) → IsAt site offset size s → 0 < size → (f : HoldsSymbol site offset rd symbol lower) → Sets site.context.flags 4 s rd (upper_sum s.pc f.distance)
+first_goes {s = s} rd symbol lower h some f = sets_one (decoded (Base base.Auipc) rd 0 0 (upper_of_distance f.distance)) rd (upper_sum s.pc f.distance) h some f.has_upper refl
+
+-- the lower part, which the second one has, makes it the symbol's address
+second_sums : {site : Site} {offset size : ℕ} {s : State} (rd : ℕ) (symbol : Symbol) (lower : ℤ → List Decoded) → 0 < rd → rd < 32 → IsState s → IsAt site offset size s → (f : HoldsSymbol site offset rd symbol lower) →
+    wrap (reg (set_reg s.values rd (upper_sum s.pc f.distance)) rd + low64 (lower_of_distance (f.distance -ℤ pos 4))) ≡ symbol_address site symbol
+second_sums {site} {offset} {s = s} rd symbol lower some lt is_state h f =
+    let over : wrap (wrap (site.base + offset) + low64 f.distance) ≡ wrap (site.base + offset + low64 f.distance) = omega arith in
+    (λ i. wrap (reads_back s.values rd (upper_sum s.pc f.distance) is_state.values some lt i + low64 (lower_of_distance (f.distance -ℤ pos 4))))
+    ∙ parts_sum s.pc f.distance f.near
+    ∙ (λ i. wrap (h.pc i + low64 f.distance))
+    ∙ over
+    ∙ f.leads
+
+pub near_out : {site : Site} {start after : ℕ} {s : State} {v : Values} (rd : ℕ) (name : ExternalName) (offset : ℤ) → rd < 30 → 0 < rd → SlotsOut site start after (near_slots rd name offset) s v [] (set_reg v rd (symbol_address site (AddressOf name offset)))
+near_out {site} {start} {s = s} rd name offset usable some e =
+    let slots = near_slots rd name offset in
+    let lower = λ (d : ℤ). decoded_addi rd rd (lower_of_distance d) ∷ [] in
+    let symbol = AddressOf name offset in
+    let f = e.stands.1.0 in
+    let h = starts_at slots e in
+    let x = upper_sum s.pc f.distance in
+    let s1 = at (wrap (s.pc + 4)) (set_reg s.values rd x) in
+    let h1 : IsAt site (start + 4) 4 s1 = set_at 4 rd x (shorter 8 h (omega arith)) refl in
+    let sum = second_sums rd symbol lower some (omega arith) e.is_state h f in
+    sets_out slots 8 rd (symbol_address site symbol) usable (omega arith) e refl
+    (sets_both 4 4 rd x (symbol_address site symbol) (first_goes rd symbol lower h (omega arith) f)
+    (sets_one (decoded_addi rd rd (lower_of_distance (f.distance -ℤ pos 4))) rd (symbol_address site symbol) h1 (omega arith) f.has_lower (λ i. Some (at (wrap (s1.pc + 4)) (set_reg s1.values rd (sum i))))))
+
+-- what stands in the symbol's slot is loaded
+got_out : {site : Site} {start after : ℕ} {s : State} {v : Values} (rd : ℕ) (name : ExternalName) → rd < 30 → 0 < rd → SlotsOut site start after (got_slots rd name) s v [] (set_reg v rd (load_result (load_op Ld) s.values.mem (site.slot name.number)))
+got_out {site} {start} {s = s} rd name usable some e =
+    let slots = got_slots rd name in
+    let lower = λ (d : ℤ). decoded_load Ld rd rd (lower_of_distance d) ∷ [] in
+    let symbol = SlotOf name in
+    let f = e.stands.1.0 in
+    let h = starts_at slots e in
+    let y = upper_sum s.pc f.distance in
+    let w = set_reg s.values rd y in
+    let x = load_result (load_op Ld) s.values.mem (site.slot name.number) in
+    let h1 : IsAt site (start + 4) 4 (at (wrap (s.pc + 4)) w) = set_at 4 rd y (shorter 8 h (omega arith)) refl in
+    let sum = second_sums rd symbol lower some (omega arith) e.is_state h f in
+    sets_out slots 8 rd x usable (load_fits (load_op Ld) s.values.mem (site.slot name.number) e.is_state.values.bytes) e refl
+    (sets_both 4 4 rd y x (first_goes rd symbol lower h (omega arith) f)
+    (sets_one (decoded_load Ld rd rd (lower_of_distance (f.distance -ℤ pos 4))) rd x h1 (omega arith) f.has_lower (λ i. Some (at (wrap (wrap (s.pc + 4) + 4)) (set_reg w rd (load_result (load_op Ld) s.values.mem (sum i)))))))
+
+pub got_runs : (site : Site) (setting : EmitVState) (start after : ℕ) (s : State) (v : Values) (rd : Writable Reg) (name : ExternalName) → IsUsable rd.reg → 0 < number_of rd.reg → RunsHere site setting (LoadExtNameGot rd name) start after s v
+got_runs site setting start after s v rd name h some e clear =
+    subst (λ x. ComesOut site start after Next [] (set_reg v (number_of rd.reg) x) s) (sym (load_same (load_op Ld) v.mem s.values.mem (site.slot name.number) e.same.mem)) (got_out (number_of rd.reg) name h.1 some e)
+
+-- ---- from among the code
+
+pub far_runs : (site : Site) (setting : EmitVState) (start after : ℕ) (s : State) (v : Values) (rd : Writable Reg) (name : ExternalName) (offset : ℤ) → IsUsable rd.reg → 0 < number_of rd.reg → RunsHere site setting (LoadExtNameFar rd name offset) start after s v
+far_runs site setting start after s v rd name offset h some e clear =
+    let n = number_of rd.reg in
+    let slots = far_slots site.context.flags n name offset in
+    let x = symbol_address site (AddressOf name offset) in
+    let long = far_long site.context.flags n name offset in
+    let stands = e.stands.1 in
+    let whole : wrap x ≡ x = omega arith in
+    sets_out slots (8 + jump_size site.context.flags + 8) n x h.1 (omega arith) e (omega arith)
+    (over_goes e.stands.0 n 8 x Ld (to_le_bytes w64 x) refl some (omega arith) (lit< tt) refl (λ mem a there. eight_there mem a x there ∙ whole) (lit< tt) e.is_state
+    (shorter (8 + jump_size site.context.flags + 8) (starts_at slots e) (omega arith)) (stands.0, (stands.1.0, (stands.1.1.0, tt))) (stands.1.1.1.0 s.values.mem e.placed))

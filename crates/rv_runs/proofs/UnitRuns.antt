@@ -1,0 +1,253 @@
+-- What the machine with all units does at an operation of a unit, and which instructions are one.
+use Rattle.std.proofs.Common.{◌≡◌, ◌≢◌, ◌⊎◌, inl, inr, ℕ, ◌+◌, ◌%◌, ◌^◌, ◌<◌, Bool, true, false, List, [], ◌∷◌, length, Some, None, arith, refl, sym, ap, subst, ◌∙◌, ⊎_elim, FitsSigned, T, leb, w16, w32, w64, lt_of_le_of_lt, ◌-◌, nat_eq, if◌then◌else◌, slice_index, slice_set, unwrap_or, Option}
+use Rattle.rv_runs.proofs.Words.{Absent, Agree, AllByRecursion, Answer, AnswerFits, Answered, AreUnits, AreUsableIn, AreValues, Asks, CodeHas, Context, CsrImm, CsrReg, Decoded, EmitVState, Fli, FloatFormat, FpuRR, FpuRRR, FpuRRRR, FullState, FullValues, H, Halts, Inst, IsAt, IsUsableCsr, IsUsableIn}
+use Rattle.rv_runs.proofs.Words.{IsUsableShape, IsUsableSource, IsUsableTarget, IsaFlags, Nop0, OneNumber, Row, RowAsks, RowGoes, RowsAgree, S, SameFull, Sign, Site, State, Takes, ToFloat, ToInteger, UnitWord, Units, Width, act, and_le_l, are_values_set, bits_of, boxed, cases_eq, cast_signed}
+use Rattle.rv_runs.proofs.Words.{decoded_csr_imm, decoded_csr_reg, decodes_at, entry_of, fits, float_shape, format_of, freg, full_at, inputs_of, ints, is_move, low64, low_part, next_by, noted, number_of, number_row, or_lt, parts_of, put_f, put_number, put_units, row_next, same_set, same_step}
+use Rattle.rv_runs.proofs.Words.{set_freg, set_frm, shape_row, step_on, stepped, unit_on, unit_parts, unit_row, unit_word, values_of, wrap, x_of}
+use mir.Val.{hbits}
+use Rattle.std.proofs.Math.Facts.{sfits_widen, Fits-of_z, Fits-lt-pow}
+use Rattle.std.proofs.Math.Seq.{get_or-set_other}
+use Rattle.std.proofs.Math.ListN.{length-set}
+use Rattle.std.proofs.lemmas.Grind.{get_or-set_at}
+use Rattle.rv_machine.specs.declared.ops.FloatFormat.TheVariants.{D}
+use Rattle.rv_machine.specs.declared.ops.CsrOp.{CsrOp}
+use Rattle.rv_machine.specs.declared.ops.CsrOp.TheVariants.{Csrrw, Csrrs, Csrrc, Csrrwi, Csrrsi, Csrrci}
+use Rattle.rv_full.specs.declared.answer.Answer.TheVariants.{Bits}
+use Rattle.rv_full.specs.declared.answer.Entry.{Entry}
+use Rattle.rv_full.specs.declared.shapes.Sources.{Sources}
+use Rattle.rv_full.specs.declared.shapes.Target.{Target}
+use Rattle.rv_full.specs.declared.shapes.FloatShape.{FloatShape}
+use Rattle.rv_full.specs.Atomics.{csr_result, csr_row}
+use Rattle.rv_full.specs.Floats.{extended}
+use Rattle.rv_full.specs.Rows.{Does}
+use Rattle.rv_full.specs.Steps.{Goes, fiter, fnext}
+use Rattle.rv_ops.specs.declared.csr.CsrImmOP.{CsrImmOP}
+use Rattle.rv_ops.specs.declared.csr.CsrImmOP.TheVariants.{CsrRWI}
+use Rattle.rv_ops.specs.declared.csr.CsrRegOP.{CsrRegOP}
+use Rattle.rv_ops.specs.declared.csr.CsrRegOP.TheVariants.{CsrRW}
+use Rattle.rv_ops.specs.declared.fpu.FpuOPRRR.{FpuOPRRR}
+use Rattle.rv_ops.specs.declared.fpu.FpuOPRRRR.{FpuOPRRRR}
+use Rattle.rv_ops.specs.declared.fpu_rr.FpuOPRR.{FpuOPRR}
+use Rattle.rv_ops.specs.Csr.{csr_imm_op, csr_reg_op}
+use Rattle.rv_ops.specs.Fpu.{fpu_rr_files, fpu_rr_op, fpu_rrr_op, fpu_rrr_result, fpu_rrrr_op}
+use Rattle.rv_inst.specs.declared.units.PlacedReg.{PlacedReg}
+use Rattle.rv_full.specs.declared.shapes.Sources.TheVariants as sources
+use Rattle.rv_full.specs.declared.shapes.Target.TheVariants as target
+use Rattle.rv_ops.specs.declared.fpu.FpuOPRRR.TheVariants as rrr
+use Rattle.rv_ops.specs.declared.fpu.FpuOPRRRR.TheVariants as rrrr
+use Rattle.rv_ops.specs.declared.fpu_rr.FpuOPRR.TheVariants as rr
+use Rattle.rv_machine.specs.declared.ops.FloatOp.TheVariants as float
+
+-- At a unit's operation the machine with all units does its row; and float operations, and those on frm, do the same with values that
+-- are the same. That is proved by what an operation reads and writes, and not for each.
+
+-- ---- a step
+
+pub unit_next_at : {site : Site} {offset size : ℕ} (b : FullState) (d : Decoded) (ds : List Decoded) → act d b.state ≡ None → IsAt site offset size b.state → 0 < size → CodeHas site offset (d ∷ ds) → fnext site.context.flags b ≡ row_next (wrap (b.state.pc + d.len)) (unit_row d (values_of b)) b.answers
+unfolding fnext
+unit_next_at {site} {offset} {size} b d ds unit h some has =
+    let even_pc : b.state.pc % 2 ≡ 0 = omega arith in
+    let there = decodes_at d ds h some has in
+    ap (λ o. next_by site.context.flags o b) (same_step site.context.flags b.state ∙ (λ i. if nat_eq (even_pc i) 0 then step_on (there i) b.state else None) ∙ unit) ∙ (λ i. if nat_eq (even_pc i) 0 then unit_on (there i) b else Halts)
+
+-- one step of the machine with all units
+pub fiter_one : (flags : IsaFlags) (b c : FullState) → fnext flags b ≡ Goes c → fiter flags 1 b ≡ Some c
+unfolding fiter
+fiter_one flags b c next = ap stepped next
+
+-- ---- what comes of a row
+
+pub row_comes : (pc : ℕ) (w : FullValues) (x y : Row) (answers : List Answer) → RowsAgree w x y → AllByRecursion AnswerFits answers → RowGoes pc w x y answers ⊎ RowAsks pc x y answers
+row_comes pc w (Does x) (Does y) answers r fit = inl (record { took = []; left = answers; made = x; after = y; parted = refl; takes = refl; next = refl; agree = r; fit = fit })
+row_comes pc w (Takes k f) (Takes l g) [] r fit = inr (record { kind = k; gives = f; takes = refl; lacks = refl; asks = refl })
+row_comes pc w (Takes k f) (Takes l g) (a ∷ more) r fit = on (fits k a) refl
+  where
+    next : (c : Bool) → fits k a ≡ c → row_next pc (Takes l g) (a ∷ more) ≡ (if c then Goes (full_at pc (g a) more) else Asks)
+    next c e = (λ i. if fits (sym r.0 i) a then Goes (full_at pc (g a) more) else Asks) ∙ ap (λ t. if t then Goes (full_at pc (g a) more) else Asks) e
+
+    on : (c : Bool) → fits k a ≡ c → RowGoes pc w (Takes k f) (Takes l g) (a ∷ more) ⊎ RowAsks pc (Takes k f) (Takes l g) (a ∷ more)
+    on true e = inl (record { took = a ∷ []; left = more; made = f a; after = g a; parted = refl; takes = ap (λ t. if t then Some (f a, []) else None) e; next = next true e; agree = r.1 a e fit.0; fit = fit.1 })
+    on false e = inr (record { kind = k; gives = f; takes = refl; lacks = ap (λ t. if t then Some (f a, more) else None) e; asks = next false e })
+row_comes pc w Absent Absent answers r fit = absurd r
+row_comes pc w x y answers r fit = absurd r
+
+-- ---- registers
+
+float_set_fits : (xs : List ℕ) (n m x : ℕ) → length xs ≡ 32 → n < 32 → x < 2 ^ 64 → slice_index xs m < 2 ^ 64 → slice_index (slice_set xs n x) m < 2 ^ 64
+float_set_fits xs n m x long lt small h =
+    ⊎_elim
+    (λ (here : m ≡ n). let e = get_or-set_at xs n m x 0 here (omega arith) in omega arith)
+    (λ (other : m ≢ n). let e = get_or-set_other xs n m x 0 other in omega arith)
+    (cases_eq m n)
+
+units_noted : (e : Entry) (u : Units) → AreUnits u → AreUnits (noted e u)
+units_noted e u h = record { float_count = h.float_count; float_fits = h.float_fits; vector_count = h.vector_count; vector_fits = h.vector_fits; frm_fits = h.frm_fits; reserved_fits = h.reserved_fits; avl_fits = h.avl_fits; vtype_fits = h.vtype_fits }
+
+pub float_set : (u : Units) (n x : ℕ) → AreUnits u → n < 32 → x < 2 ^ 64 → AreUnits (set_freg u n x)
+float_set u n x h lt small = record { float_count = length-set u.floats n x ∙ h.float_count; float_fits = λ m. float_set_fits u.floats n m x h.float_count lt small (h.float_fits m); vector_count = h.vector_count; vector_fits = h.vector_fits; frm_fits = h.frm_fits; reserved_fits = h.reserved_fits; avl_fits = h.avl_fits; vtype_fits = h.vtype_fits }
+
+-- an answer of its kind has 64 bits
+number_fits : (a : Answer) → fits OneNumber a ≡ true → AnswerFits a → unwrap_or (bits_of a) 0 < 2 ^ 64
+number_fits (Bits x) fit h = h
+number_fits _ fit h = absurd (cc)
+
+-- bits that are moved between the two files
+pub extended_fits : (width : Width) (n : ℕ) → T (leb (hbits width) (hbits w64)) → low64 (cast_signed width n) < 2 ^ 64
+extended_fits width n narrow = Fits-lt-pow {w = w64} (Fits-of_z (sfits_widen narrow (let e : FitsSigned width (cast_signed width n) = omega (arith, ints) in e)))
+
+pub extended_small : (format : FloatFormat) (n : ℕ) → n < 2 ^ 64 → extended format n < 2 ^ 64
+extended_small H n lt = extended_fits w16 (n % 2 ^ 16) tt
+extended_small S n lt = extended_fits w32 (n % 2 ^ 32) tt
+extended_small D n lt = lt
+
+boxed_small : (format : FloatFormat) (n : ℕ) → n < 2 ^ 64 → boxed format (low_part format n) < 2 ^ 64
+boxed_small D n lt = lt
+boxed_small format n lt = omega arith
+
+-- what goes to frm has three bits
+csr_small : (op : CsrOp) (old x imm : ℕ) → old < 8 → csr_result op old x imm < 8
+csr_small Csrrw old x imm lt = omega arith
+csr_small Csrrs old x imm lt = or_lt 3 old (x % 8) lt (omega arith)
+csr_small Csrrc old x imm lt = lt_of_le_of_lt (and_le_l old (7 - x % 8)) lt
+csr_small Csrrwi old x imm lt = omega arith
+csr_small Csrrsi old x imm lt = or_lt 3 old (imm % 8) lt (omega arith)
+csr_small Csrrci old x imm lt = lt_of_le_of_lt (and_le_l old (7 - imm % 8)) lt
+
+frm_set : (u : Units) (x : ℕ) → AreUnits u → x < 8 → AreUnits (set_frm u x)
+frm_set u x h lt = record { float_count = h.float_count; float_fits = h.float_fits; vector_count = h.vector_count; vector_fits = h.vector_fits; frm_fits = lt; reserved_fits = h.reserved_fits; avl_fits = h.avl_fits; vtype_fits = h.vtype_fits }
+
+-- ---- rows of float operations, and of those on frm
+
+module _ (d : Decoded) (v w : FullValues) (same : SameFull v w) (are_values : AreValues v.ints) (is_values : AreValues w.ints) (are_units : AreUnits w.units) where
+  inputs_same : (from : Sources) → IsUsableSource from d → inputs_of from d v ≡ inputs_of from d w
+  inputs_same sources.Constant low = refl
+  inputs_same sources.Integer low = ap (λ x. x ∷ []) (same.ints.regs d.rs1 low)
+  inputs_same sources.One low = ap (λ u. freg u d.rs1 ∷ []) same.units
+  inputs_same sources.Two low = ap (λ u. freg u d.rs1 ∷ freg u d.rs2 ∷ []) same.units
+  inputs_same sources.Three low = ap (λ u. freg u d.rs1 ∷ freg u d.rs2 ∷ freg u d.rs3 ∷ []) same.units
+
+  -- a number is put into rd, beside units that are equal
+  put_same : (to : Target) (x : ℕ) (t u : Units) → IsUsableTarget to d → x < 2 ^ 64 → t ≡ u → AreUnits u → u.setting ≡ w.units.setting → Agree w (put_number to d x (put_units t v)) (put_number to d x (put_units u w))
+  put_same target.Integer x t u low small equal h setting = record {
+    same = record { ints = same_set v.ints w.ints d.rd x are_values is_values (omega arith) same.ints; units = equal };
+    mem = refl;
+    setting = setting;
+    are_values = are_values_set v.ints d.rd x are_values (omega arith) small;
+    is_values = are_values_set w.ints d.rd x is_values (omega arith) small;
+    units = h;
+  }
+  put_same target.Float x t u low small equal h setting = record {
+    same = record { ints = same.ints; units = ap (λ y. set_freg y d.rd x) equal };
+    mem = refl;
+    setting = setting;
+    are_values = are_values;
+    is_values = is_values;
+    units = float_set u d.rd x h low small;
+  }
+
+  put_agree : (to : Target) (x y : ℕ) (t u : Units) → IsUsableTarget to d → x ≡ y → y < 2 ^ 64 → t ≡ u → AreUnits u → u.setting ≡ w.units.setting → Agree w (put_number to d x (put_units t v)) (put_number to d y (put_units u w))
+  put_agree to x y t u low is small equal h setting = subst (λ z. Agree w (put_number to d z (put_units t v)) (put_number to d y (put_units u w))) (sym is) (put_same to y t u low small equal h setting)
+
+  -- one answer is taken, noted with what it may depend on, and put
+  pub number_agrees : (to : Target) (from : Sources) → IsUsableSource from d → IsUsableTarget to d → RowsAgree w (number_row to (inputs_of from d v) d v) (number_row to (inputs_of from d w) d w)
+  number_agrees to from source low = (
+    refl,
+    λ a fit answer.
+        put_same to (unwrap_or (bits_of a) 0) (noted (entry_of d v.units (inputs_of from d v) [] a) v.units) (noted (entry_of d w.units (inputs_of from d w) [] a) w.units) low (number_fits a fit answer)
+        (λ i. noted (entry_of d (same.units i) (inputs_same from source i) [] a) (same.units i))
+        (units_noted (entry_of d w.units (inputs_of from d w) [] a) w.units are_units) refl,
+  )
+
+  -- a sign's operation is a copy where both sources are one register
+  pub sign_agrees : (format : FloatFormat) → d.rd < 32 → RowsAgree w (shape_row Sign format d v) (shape_row Sign format d w)
+  sign_agrees format low = on (is_move format d)
+    where
+      on : (c : Bool) → RowsAgree w (if c then Does (put_f d (freg v.units d.rs1) v) else number_row target.Float (inputs_of sources.Two d v) d v) (if c then Does (put_f d (freg w.units d.rs1) w) else number_row target.Float (inputs_of sources.Two d w) d w)
+      on true = put_agree target.Float (freg v.units d.rs1) (freg w.units d.rs1) v.units w.units low (ap (λ u. freg u d.rs1) same.units) (are_units.float_fits d.rs1) same.units are_units refl
+      on false = number_agrees target.Float sources.Two tt low
+
+  -- frm gets the same of what is the same, and its old value goes to an integer register
+  frm_agrees : (op : CsrOp) → d.rd < 30 → csr_result op v.units.frm (x_of d v) d.rs1 ≡ csr_result op w.units.frm (x_of d w) d.rs1 → RowsAgree w (csr_row op d v) (csr_row op d w)
+  frm_agrees op low equal = put_agree target.Integer v.units.frm w.units.frm (set_frm v.units (csr_result op v.units.frm (x_of d v) d.rs1)) (set_frm w.units (csr_result op w.units.frm (x_of d w) d.rs1)) low (ap (λ u. u.frm) same.units) (let f = are_units.frm_fits in omega arith)
+      (λ i. set_frm (same.units i) (equal i)) (frm_set w.units _ are_units (csr_small op w.units.frm (x_of d w) d.rs1 are_units.frm_fits)) refl
+
+  pub csr_agrees : (op : CsrOp) → IsUsableCsr op d → RowsAgree w (csr_row op d v) (csr_row op d w)
+  csr_agrees Csrrw usable = frm_agrees Csrrw usable.0 (λ i. csr_result Csrrw (same.units i).frm (same.ints.regs d.rs1 usable.1 i) d.rs1)
+  csr_agrees Csrrs usable = frm_agrees Csrrs usable.0 (λ i. csr_result Csrrs (same.units i).frm (same.ints.regs d.rs1 usable.1 i) d.rs1)
+  csr_agrees Csrrc usable = frm_agrees Csrrc usable.0 (λ i. csr_result Csrrc (same.units i).frm (same.ints.regs d.rs1 usable.1 i) d.rs1)
+  csr_agrees op usable = frm_agrees op usable.0 (λ i. csr_result op (same.units i).frm 0 d.rs1)
+
+  pub shape_agrees : (shape : FloatShape) (format : FloatFormat) → IsUsableShape shape d → RowsAgree w (shape_row shape format d v) (shape_row shape format d w)
+  shape_agrees (Answered from to) format usable = number_agrees to from usable.0 usable.1
+  shape_agrees ToInteger format usable = put_agree target.Integer _ (extended format (freg w.units d.rs1)) v.units w.units usable (ap (λ u. extended format (freg u d.rs1)) same.units) (extended_small format (freg w.units d.rs1) (are_units.float_fits d.rs1)) same.units are_units refl
+  shape_agrees ToFloat format usable = put_agree target.Float _ (boxed format (low_part format (x_of d w))) v.units w.units usable.1 (λ i. boxed format (low_part format (same.ints.regs d.rs1 usable.0 i))) (boxed_small format (x_of d w) (is_values.fits d.rs1)) same.units are_units refl
+  shape_agrees Sign format usable = sign_agrees format usable
+
+-- Each kind of instruction that is a word of a unit: its operation is none of integers, and does the same with values that are the same,
+-- by its shape; and what such an instruction becomes.
+
+-- An operation of a unit, of these registers, has four bytes and no step on integers; where they are usable its row does the same with
+-- values that are the same.
+pub record IsUnitOperation (places : List PlacedReg) (d : Decoded) : Type 0 where
+  pub long : d.len ≡ 4
+  pub none : (s : State) → act d s ≡ None
+  pub agrees : (v w : FullValues) → SameFull v w → AreValues v.ints → AreValues w.ints → AreUnits w.units → AreUsableIn places → RowsAgree w (unit_row d v) (unit_row d w)
+
+rr_usable : (op : FpuOPRR) (d : Decoded) → IsUsableIn (fpu_rr_files op).result d.rd → IsUsableIn (fpu_rr_files op).source d.rs1 → IsUsableShape (float_shape (fpu_rr_op op)) d
+rr_usable rr.FcvtFmtW d to from = (from, to)
+rr_usable rr.FcvtFmtWu d to from = (from, to)
+rr_usable rr.FcvtFmtL d to from = (from, to)
+rr_usable rr.FcvtFmtLu d to from = (from, to)
+rr_usable rr.FmvXFmt d to from = to
+rr_usable rr.FmvFmtX d to from = (from, to)
+rr_usable op d to from = (tt, to)
+
+rrr_usable : (op : FpuOPRRR) (d : Decoded) → IsUsableIn (fpu_rrr_result op) d.rd → IsUsableShape (float_shape (fpu_rrr_op op)) d
+rrr_usable rrr.Fsgnj d usable = usable
+rrr_usable op d usable = (tt, usable)
+
+rrrr_usable : (op : FpuOPRRRR) (d : Decoded) → d.rd < 32 → IsUsableShape (float_shape (fpu_rrrr_op op)) d
+rrrr_usable rrrr.Fmadd d usable = (tt, usable)
+rrrr_usable op d usable = (tt, usable)
+
+reg_usable : (op : CsrRegOP) (d : Decoded) → d.rd < 30 → d.rs1 < 30 → IsUsableCsr (csr_reg_op op) d
+reg_usable CsrRW d to from = (to, from)
+reg_usable op d to from = (to, from)
+
+imm_usable : (op : CsrImmOP) (d : Decoded) → d.rd < 30 → IsUsableCsr (csr_imm_op op) d
+imm_usable CsrRWI d to = (to, tt)
+imm_usable op d to = (to, tt)
+
+-- where an instruction is a word of a unit, that word is one of these
+abbrev pub IsOneOf : Option UnitWord → Type 0
+IsOneOf None = Unit {0}
+IsOneOf (Some w) = IsUnitOperation w.places w.operation
+
+of_shape : (places : List PlacedReg) (d : Decoded) (shape : FloatShape) (format : FloatFormat) → d.len ≡ 4 → ((s : State) → act d s ≡ None) → ((v : FullValues) → unit_row d v ≡ shape_row shape format d v) → (AreUsableIn places → IsUsableShape shape d) → IsUnitOperation places d
+of_shape places d shape format long none row usable = record {
+  long = long;
+  none = none;
+  agrees = λ v w same are_values is_values are_units low. subst (λ (f : FullValues → Row). RowsAgree w (f v) (f w)) (sym (λ i u. row u i))
+      (shape_agrees d v w same are_values is_values are_units shape format (usable low));
+}
+
+kinds : (inst : Inst) → IsOneOf (unit_word inst)
+kinds (Fli width imm rd) = of_shape _ _ (float_shape float.Fli) (format_of width) refl (λ s. refl) (λ v. refl) (λ usable. (tt, usable.0))
+kinds (FpuRR op width frm rd rs) = of_shape _ _ (float_shape (fpu_rr_op op)) (format_of width) refl (λ s. refl) (λ v. refl) (λ usable. rr_usable op _ usable.0 usable.1.0)
+kinds (FpuRRR op width frm rd rs1 rs2) = of_shape _ _ (float_shape (fpu_rrr_op op)) (format_of width) refl (λ s. refl) (λ v. refl) (λ usable. rrr_usable op _ usable.0)
+kinds (FpuRRRR op width frm rd rs1 rs2 rs3) = of_shape _ _ (float_shape (fpu_rrrr_op op)) (format_of width) refl (λ s. refl) (λ v. refl) (λ usable. rrrr_usable op _ usable.0)
+kinds (CsrReg op rd rs csr) =
+    let d = decoded_csr_reg op (number_of rd.reg) (number_of rs) in
+    record { long = refl; none = λ s. refl; agrees = λ v w same are_values is_values are_units usable. csr_agrees d v w same are_values is_values are_units (csr_reg_op op) (reg_usable op d usable.0 usable.1.0) }
+kinds (CsrImm op rd csr imm) =
+    let d = decoded_csr_imm op (number_of rd.reg) imm.value in
+    record { long = refl; none = λ s. refl; agrees = λ v w same are_values is_values are_units usable. csr_agrees d v w same are_values is_values are_units (csr_imm_op op) (imm_usable op d usable.0) }
+kinds _ = tt
+
+pub unit_operation : (inst : Inst) (w : UnitWord) → unit_word inst ≡ Some w → IsUnitOperation w.places w.operation
+unit_operation inst w e = subst IsOneOf e (kinds inst)
+
+-- what it becomes
+pub parts_are : (context : Context) (setting : EmitVState) (inst : Inst) (w : UnitWord) → unit_word inst ≡ Some w → parts_of context setting inst ≡ unit_parts w
+parts_are context setting Nop0 w e = absurd (cc)
+parts_are context setting inst w e = cc

@@ -1,0 +1,15 @@
+use Rattle.rv_sequences.proofs.Terms.{arith, number_of, Lh, location_at, real_number}
+use Rattle.rv_sequences.proofs.AddressCode.{longer, load_is_short}
+use Rattle.rv_sequences.proofs.SlotsPut.{both_alone, alone_sound}
+use Rattle.rv_sequences.proofs.halves.put_half_load.Goals as goal
+
+pub put_boxing-requires-clause-room : goal.put_boxing-requires-clause-room
+put_boxing-requires-clause-room c = omega (arith, longer _ _ _ (load_is_short c.args.flags (number_of c.writable_spilltmp_reg-half.result.reg) Lh c.args.trap (location_at c.args.place)) c.in_ok-put_load.ensures.slots, c.requires.room)
+
+pub put_boxing-requires-clause-sound : goal.put_boxing-requires-clause-sound
+put_boxing-requires-clause-sound c = alone_sound _ _ _ c.in_ok-put_load.ensures.slots
+
+pub returns-clause-slots : goal.returns-clause-slots
+returns-clause-slots c =
+    let at = location_at c.args.place in
+    both_alone _ _ _ _ _ (load_is_short c.args.flags 31 Lh _ at).plain (rw (real_number _ _ _ c.writable_spilltmp_reg-half.ensures) at c.in_ok-put_load.ensures.slots) c.in_ok-put_boxing.ensures.slots

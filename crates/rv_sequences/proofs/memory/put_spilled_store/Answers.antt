@@ -1,0 +1,12 @@
+use Rattle.rv_sequences.proofs.Terms.{refl, arith, no_flags, access_short, real_number}
+use Rattle.rv_sequences.proofs.AddressCode.{longer}
+use Rattle.rv_sequences.proofs.SlotsPut.{both_alone, alone_sound}
+use Rattle.rv_sequences.proofs.memory.put_spilled_store.Goals as goal
+
+pub put_word-requires : goal.put_word-requires
+put_word-requires c = record { room = omega (arith, longer _ _ _ (access_short c.args.trap) (c.in_ok-put_access.ensures.slots no_flags), c.requires.room); sound = alone_sound _ _ _ (c.in_ok-put_access.ensures.slots no_flags) }
+
+pub returns-clause-slots : goal.returns-clause-slots
+returns-clause-slots c = λ flags has.
+    both_alone _ _ _ _ _ (access_short c.args.trap).plain (c.in_ok-put_access.ensures.slots flags)
+    (rw (real_number _ _ _ c.spilltmp_reg.ensures) at (c.in_ok-put_word.ensures.slot flags _ refl (c.encode_store.ensures flags has)))

@@ -1,0 +1,6 @@
+use Rattle.rv_sequences.proofs.Terms.{on_ok_weaker}
+use Rattle.rv_sequences.proofs.OwnForms.{other_own, rrr_other}
+use Rattle.rv_sequences.proofs.shortest.put_rrr.Goals as goal
+
+pub returns-clause-slots : goal.returns-clause-slots
+returns-clause-slots c = on_ok_weaker c.put_encoded.result (λ puts. puts c.args.flags _ c.encoded_rrr.ensures (other_own _ _ (rrr_other c.args.flags c.args.op _ _ _))) c.put_encoded.ensures.slot

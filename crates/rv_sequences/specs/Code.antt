@@ -1,0 +1,90 @@
+-- The code of an instruction as a value: the pieces that it is, and what these ask of the buffer into which they are put.
+use Rattle.std.specs.Prelude.{◌≡◌, ℕ, ◌+◌, ◌<◌, false, List, [], ◌∷◌, ◌++◌, None}
+use Rattle.rv_base.specs.Regs.{class_of, number_of}
+use Rattle.mach_labels.specs.Table.{first_inner}
+use Rattle.rv_encode.specs.Registers.{IsIntRegister}
+use Rattle.rv_inst.specs.Generators.{canonical_type}
+use Rattle.rv_inst.specs.SameValues.{is_among}
+use Rattle.rv_inst.specs.declared.label_use.LabelUse.{LabelUse}
+use Rattle.mach_buffer.specs.Shape.{Shape, IsKnown}
+use Rattle.rv_sequences.specs.declared.code.CodePiece.{CodePiece}
+use Rattle.rv_sequences.specs.declared.code.OwnLabels.{OwnLabels}
+use Rattle.rv_sequences.specs.declared.code.CodePiece.TheVariants as code
+use Rattle.rv_code.specs.Choices.{move_pieces}
+use Rattle.rv_code.specs.Usable.{IsMove}
+use Rattle.rv_code.specs.Pieces.{Piece, Rrr, Rri, Do, Branch, Jump, New, Bind, Trap}
+
+-- the pieces that it is: one, but of a move of a register to itself none
+abbrev pub shown : CodePiece → List Piece
+shown (code.Rrr op rd rs1 rs2) = Do (Rrr op (number_of rd.reg) (number_of rs1) (number_of rs2)) ∷ []
+shown (code.Rri op rd rs imm) = Do (Rri op (number_of rd.reg) (number_of rs) imm.value) ∷ []
+shown (code.Move rd rs) = move_pieces (class_of rd.reg) (canonical_type (class_of rd.reg)) (number_of rd.reg) (number_of rs)
+shown (code.Branch kind label) = Branch kind.kind (number_of kind.rs1) (number_of kind.rs2) label ∷ []
+shown (code.Jump label) = Jump label ∷ []
+shown code.New = New ∷ []
+shown (code.Bind label) = Bind label ∷ []
+shown (code.Trap code) = Trap code ∷ []
+
+abbrev pub pieces_of : List CodePiece → List Piece
+pieces_of [] = []
+pieces_of (p ∷ ps) = shown p ++ pieces_of ps
+
+-- integer registers, and two of one class in a move
+abbrev pub IsSound : CodePiece → Type 0
+IsSound (code.Rrr op rd rs1 rs2) = IsIntRegister rd.reg × IsIntRegister rs1 × IsIntRegister rs2
+IsSound (code.Rri op rd rs imm) = IsIntRegister rd.reg × IsIntRegister rs
+IsSound (code.Move rd rs) = IsMove rd.reg rs (canonical_type (class_of rd.reg))
+IsSound (code.Branch kind label) = IsIntRegister kind.rs1 × IsIntRegister kind.rs2
+IsSound (code.Jump label) = Unit {0}
+IsSound code.New = Unit {0}
+IsSound (code.Bind label) = Unit {0}
+IsSound (code.Trap code) = Unit {0}
+
+-- an own label is used and bound after it was allocated, and bound once: so many were allocated before, and these are bound
+abbrev pub IsLabelled : ℕ → List ℕ → List CodePiece → Type 0
+IsLabelled news bound [] = Unit {0}
+IsLabelled news bound (code.Rrr op rd rs1 rs2 ∷ ps) = IsLabelled news bound ps
+IsLabelled news bound (code.Rri op rd rs imm ∷ ps) = IsLabelled news bound ps
+IsLabelled news bound (code.Move rd rs ∷ ps) = IsLabelled news bound ps
+IsLabelled news bound (code.Branch kind label ∷ ps) = (label < news) × IsLabelled news bound ps
+IsLabelled news bound (code.Jump label ∷ ps) = (label < news) × IsLabelled news bound ps
+IsLabelled news bound (code.New ∷ ps) = IsLabelled (1 + news) bound ps
+IsLabelled news bound (code.Trap code ∷ ps) = IsLabelled news bound ps
+IsLabelled news bound (code.Bind label ∷ ps) = (label < news) × (is_among bound label ≡ false) × IsLabelled news (label ∷ bound) ps
+
+abbrev pub AreSound : List CodePiece → Type 0
+AreSound [] = Unit {0}
+AreSound (p ∷ ps) = IsSound p × AreSound ps
+
+-- what a piece asks where the sequence's first own label has that number: its label is known, and one that it binds isn't bound
+abbrev pub IsUsableAt : ℕ → CodePiece → Shape LabelUse → Type 0
+IsUsableAt base (code.Rrr op rd rs1 rs2) s = Unit {0}
+IsUsableAt base (code.Rri op rd rs imm) s = Unit {0}
+IsUsableAt base (code.Move rd rs) s = Unit {0}
+IsUsableAt base (code.Branch kind label) s = IsKnown (base + label) s.allocated
+IsUsableAt base (code.Jump label) s = IsKnown (base + label) s.allocated
+IsUsableAt base code.New s = Unit {0}
+IsUsableAt base (code.Bind label) s = IsKnown (base + label) s.allocated × (s.place (base + label) ≡ None)
+IsUsableAt base (code.Trap code) s = Unit {0}
+
+-- whether it needs to know that number
+abbrev pub IsBaseFor : ℕ → ℕ → CodePiece → Type 0
+IsBaseFor base allocated (code.Rrr op rd rs1 rs2) = Unit {0}
+IsBaseFor base allocated (code.Rri op rd rs imm) = Unit {0}
+IsBaseFor base allocated (code.Move rd rs) = Unit {0}
+IsBaseFor base allocated (code.Branch kind label) = base ≡ first_inner + allocated
+IsBaseFor base allocated (code.Jump label) = base ≡ first_inner + allocated
+IsBaseFor base allocated code.New = Unit {0}
+IsBaseFor base allocated (code.Bind label) = base ≡ first_inner + allocated
+IsBaseFor base allocated (code.Trap code) = Unit {0}
+
+-- the own labels after a piece: one more after one that is allocated, which isn't bound; else the same
+abbrev pub IsNext : OwnLabels → OwnLabels → CodePiece → Shape LabelUse → Shape LabelUse → Type 0
+IsNext own next (code.Rrr op rd rs1 rs2) s t = next ≡ own
+IsNext own next (code.Rri op rd rs imm) s t = next ≡ own
+IsNext own next (code.Move rd rs) s t = next ≡ own
+IsNext own next (code.Branch kind label) s t = next ≡ own
+IsNext own next (code.Jump label) s t = next ≡ own
+IsNext own next code.New s t = (next.count ≡ 1 + own.count) × (next.base + own.count ≡ first_inner + s.allocated) × (t.place (first_inner + s.allocated) ≡ None)
+IsNext own next (code.Bind label) s t = next ≡ own
+IsNext own next (code.Trap code) s t = next ≡ own

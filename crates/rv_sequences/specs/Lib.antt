@@ -1,0 +1,8 @@
+pub mod Code
+pub mod Emitted
+pub mod Images
+pub mod NewConstants
+pub mod Places
+pub mod ProbeTurns
+pub mod Puts
+pub mod Parts

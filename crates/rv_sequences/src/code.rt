@@ -1,0 +1,321 @@
+//! The code of an instruction as a value, and the one function that puts it into a buffer.
+
+ghost use Rattle.std.specs.Prelude.{◌≡◌, ℕ, [], ◌∷◌, ◌+◌, ◌<◌, ◌≤◌, ◌^◌, length, None, IfOk, OnOk, OnErr, true};
+ghost use Rattle.rv_base.specs.declared.flags.IsaFlags.{IsaFlags};
+ghost use Rattle.rv_base.specs.LabelUse.{code_limit};
+ghost use Rattle.rv_base.specs.Regs.{class_of, number_of};
+ghost use Rattle.rv_encode.specs.Registers.{IsIntRegister};
+ghost use Rattle.mach_labels.specs.Table.{first_inner};
+ghost use Rattle.mach_uses.specs.Labels.{inner_count};
+ghost use Rattle.mach_buffer.specs.Buffer.{shape_of, bytes_of, allocated_of, spoiled_of};
+ghost use Rattle.mach_buffer.specs.Shape.{IsKnown, with_allocated, with_label};
+ghost use Rattle.rv_sequences.specs.Code.{shown, pieces_of, IsSound, AreSound, IsLabelled, IsUsableAt, IsBaseFor, IsNext};
+ghost use Rattle.rv_sequences.specs.Emitted.{IsSoundBuffer};
+ghost use Rattle.rv_sequences.specs.Parts.{PutsAlone, PutsSlots};
+ghost use Rattle.rv_inst.specs.Generators.{canonical_type};
+ghost use Rattle.rv_code.specs.Choices.{move_pieces};
+ghost use Rattle.rv_code.specs.Usable.{IsMove};
+ghost use Rattle.rv_code.specs.InstParts.{jump_to};
+ghost use Rattle.rv_code.specs.Pieces.{slots_of, pieces_most};
+ghost use Rattle.rv_sequences.specs.Puts.{Puts};
+ghost use Rattle.rv_code.specs.Slots.{Label};
+ghost use Rattle.rv_sequences.specs.declared.code.CodePiece.TheVariants as code;
+
+use crate::expansions::put_trap;
+use crate::moves::put_move;
+use crate::shortest::{put_rri, put_rrr};
+use crate::words::{put_compare, put_wide_jump};
+use mach_buffer::MachBuffer;
+use rv_base::{IsaFlags, MachLabel, OutOfMemory, Reg, TrapCode, WritableReg};
+use rv_encode::encode_cj_type;
+use rv_imms::Imm12;
+use rv_inst::{Inst, LabelUse};
+use rv_ops::{AluOPRRI, AluOPRRR, CjOp, IntegerCompare};
+
+/// A piece of an instruction's code. A label is one of the sequence's own, by its number among those.
+#[derive(Clone, Copy)]
+pub(crate) enum CodePiece {
+    Rrr {
+        op: AluOPRRR,
+        rd: WritableReg,
+        rs1: Reg,
+        rs2: Reg,
+    },
+    Rri {
+        op: AluOPRRI,
+        rd: WritableReg,
+        rs: Reg,
+        imm: Imm12,
+    },
+    /// Of a whole register to another of its class; none to the same one.
+    Move {
+        rd: WritableReg,
+        rs: Reg,
+    },
+    Branch {
+        kind: IntegerCompare,
+        label: u8,
+    },
+    Jump {
+        label: u8,
+    },
+    New,
+    Bind {
+        label: u8,
+    },
+    Trap {
+        code: TrapCode,
+    },
+}
+
+/// Puts a sequence's code.
+pub(crate) fn put_code(
+    sink: &mut MachBuffer<LabelUse>,
+    flags: IsaFlags,
+    code: &[CodePiece],
+) -> Result<(), OutOfMemory>
+    requires registers { AreSound code.now }
+    requires labels { IsLabelled 0 [] code.now }
+    requires few { allocated_of sink.old + length code.now < inner_count }
+    requires room { length (bytes_of sink.old) + pieces_most (pieces_of code.now) + 4 < code_limit }
+    requires sound { IsSoundBuffer sink.old }
+    ensures slots { OnOk result (PutsAlone flags (slots_of flags (pieces_of code.now)) sink.old sink.new) }
+    ensures refused { OnErr result (spoiled_of sink.new ≡ true) }
+{
+    let mut own = OwnLabels { base: 0, count: 0 };
+    for piece in code {
+        own = put_next(sink, flags, own, *piece)?;
+    }
+    Ok(())
+}
+
+/// The labels that a sequence has allocated so far: the number of the first, if there is one, and how many.
+#[derive(Clone, Copy)]
+struct OwnLabels {
+    base: u32,
+    count: u32,
+}
+
+/// Puts a piece.
+fn put_next(
+    sink: &mut MachBuffer<LabelUse>,
+    flags: IsaFlags,
+    own: OwnLabels,
+    piece: CodePiece,
+) -> Result<OwnLabels, OutOfMemory>
+    requires piece { IsSound piece }
+    requires usable { IsUsableAt own.base piece (shape_of sink.old) }
+    requires base { own.base < 2 ^ 31 }
+    requires count { own.count ≤ allocated_of sink.old }
+    requires few { allocated_of sink.old < inner_count }
+    requires room { length (bytes_of sink.old) + 4 < code_limit }
+    requires sound { IsSoundBuffer sink.old }
+    ensures slot { OnOk result ((allocated : ℕ) → IsBaseFor own.base allocated piece → Puts flags allocated (slots_of flags (shown piece)) (shape_of sink.old) (shape_of sink.new)) }
+    ensures next { IfOk result (λ next. IsNext own next piece (shape_of sink.old) (shape_of sink.new)) }
+    ensures sound { OnOk result (IsSoundBuffer sink.new) }
+    ensures refused { OnErr result (spoiled_of sink.new ≡ true) }
+{
+    match piece {
+        CodePiece::New => put_new(sink, own),
+        _ => {
+            put_piece(sink, flags, own.base, piece)?;
+            Ok(own)
+        }
+    }
+}
+
+/// Allocates a label of the sequence's own.
+fn put_new(sink: &mut MachBuffer<LabelUse>, own: OwnLabels) -> Result<OwnLabels, OutOfMemory>
+    requires count { own.count ≤ allocated_of sink.old }
+    requires few { allocated_of sink.old < inner_count }
+    requires sound { IsSoundBuffer sink.old }
+    ensures slot { OnOk result (shape_of sink.new ≡ with_allocated (shape_of sink.old)) }
+    ensures next { IfOk result (λ next. IsNext own next code.New (shape_of sink.old) (shape_of sink.new)) }
+    ensures sound { OnOk result (IsSoundBuffer sink.new) }
+    ensures refused { OnErr result (spoiled_of sink.new ≡ true) }
+{
+    let label = sink.get_label()?;
+    Ok(OwnLabels {
+        base: label.as_u32() - own.count,
+        count: own.count + 1,
+    })
+}
+
+/// Puts a piece that allocates no label, where the sequence's first own label has that number.
+fn put_piece(
+    sink: &mut MachBuffer<LabelUse>,
+    flags: IsaFlags,
+    base: u32,
+    piece: CodePiece,
+) -> Result<(), OutOfMemory>
+    requires piece { IsSound piece }
+    requires usable { IsUsableAt base piece (shape_of sink.old) }
+    requires base { base < 2 ^ 31 }
+    requires few { allocated_of sink.old < inner_count }
+    requires room { length (bytes_of sink.old) + 4 < code_limit }
+    requires sound { IsSoundBuffer sink.old }
+    ensures slot { OnOk result ((allocated : ℕ) → IsBaseFor base allocated piece → Puts flags allocated (slots_of flags (shown piece)) (shape_of sink.old) (shape_of sink.new)) }
+    ensures sound { OnOk result (IsSoundBuffer sink.new) }
+    ensures refused { OnErr result (spoiled_of sink.new ≡ true) }
+{
+    match piece {
+        CodePiece::Rrr { op, rd, rs1, rs2 } => put_rrr(sink, flags, op, rd, rs1, rs2),
+        CodePiece::Rri { op, rd, rs, imm } => put_rri(sink, flags, op, rd, rs, imm),
+        CodePiece::Move { rd, rs } => put_whole_move(sink, flags, rd, rs),
+        CodePiece::Branch { kind, label } => put_compare(sink, kind, own_label(base, label)),
+        CodePiece::Jump { label } => put_own_jump(sink, flags, own_label(base, label)),
+        CodePiece::New => put_unused(sink),
+        CodePiece::Bind { label } => put_bind(sink, own_label(base, label)),
+        CodePiece::Trap { code } => put_trap(sink, flags, code),
+    }
+}
+
+/// A move of a whole register.
+fn put_whole_move(
+    sink: &mut MachBuffer<LabelUse>,
+    flags: IsaFlags,
+    rd: WritableReg,
+    rs: Reg,
+) -> Result<(), OutOfMemory>
+    requires fine { IsMove rd.reg rs (canonical_type (class_of rd.reg)) }
+    requires room { length (bytes_of sink.old) + 4 < code_limit }
+    requires sound { IsSoundBuffer sink.old }
+    ensures slots { OnOk result (PutsAlone flags (slots_of flags (move_pieces (class_of rd.reg) (canonical_type (class_of rd.reg)) (number_of rd.reg) (number_of rs))) sink.old sink.new) }
+    ensures refused { OnErr result (spoiled_of sink.new ≡ true) }
+{
+    let ty = Inst::canonical_type_for_rc(rd.reg.class());
+    put_move(sink, flags, rd, rs, ty)
+}
+
+/// A label of the sequence's own.
+fn own_label(base: u32, label: u8) -> MachLabel
+    requires { base < 2 ^ 31 }
+    ensures { result.number ≡ base + label }
+{
+    MachLabel::from_u32(base + u32::from(label))
+}
+
+/// A jump to a label, in the shortest form.
+fn put_own_jump(
+    sink: &mut MachBuffer<LabelUse>,
+    flags: IsaFlags,
+    label: MachLabel,
+) -> Result<(), OutOfMemory>
+    requires known { IsKnown label.number (allocated_of sink.old) }
+    requires room { length (bytes_of sink.old) + 4 < code_limit }
+    requires sound { IsSoundBuffer sink.old }
+    ensures slot { OnOk result (PutsSlots flags (jump_to flags (Label label) ∷ []) sink.old sink.new) }
+    ensures sound { OnOk result (IsSoundBuffer sink.new) }
+    ensures refused { OnErr result (spoiled_of sink.new ≡ true) }
+{
+    if flags.has_zca {
+        return put_own_half(sink, flags, label);
+    }
+    put_wide_jump(sink, label)?;
+    Ok(())
+}
+
+/// In a halfword.
+fn put_own_half(
+    sink: &mut MachBuffer<LabelUse>,
+    flags: IsaFlags,
+    label: MachLabel,
+) -> Result<(), OutOfMemory>
+    requires half { flags.has_zca ≡ true }
+    requires known { IsKnown label.number (allocated_of sink.old) }
+    requires room { length (bytes_of sink.old) + 4 < code_limit }
+    requires sound { IsSoundBuffer sink.old }
+    ensures slot { OnOk result (PutsSlots flags (jump_to flags (Label label) ∷ []) sink.old sink.new) }
+    ensures sound { OnOk result (IsSoundBuffer sink.new) }
+    ensures refused { OnErr result (spoiled_of sink.new ≡ true) }
+{
+    let here = sink.cur_offset();
+    sink.use_label_at_offset(here, label, LabelUse::RVCJump)?;
+    sink.put2(half_word())?;
+    Ok(())
+}
+
+/// A `c.j` whose distance is still to come.
+fn half_word() -> u16
+    ensures { result ≡ 0xa001 }
+{
+    encode_cj_type(CjOp::CJ, Imm12::ZERO)
+}
+
+/// Binds a label here.
+fn put_bind(sink: &mut MachBuffer<LabelUse>, label: MachLabel) -> Result<(), OutOfMemory>
+    requires known { IsKnown label.number (allocated_of sink.old) }
+    requires unbound { (shape_of sink.old).place label.number ≡ None }
+    requires sound { IsSoundBuffer sink.old }
+    ensures slot { OnOk result (shape_of sink.new ≡ with_label label (shape_of sink.old)) }
+    ensures sound { OnOk result (IsSoundBuffer sink.new) }
+    ensures refused { OnErr result (spoiled_of sink.new ≡ true) }
+{
+    sink.bind_label(label)?;
+    Ok(())
+}
+
+/// Allocates a label.
+fn put_unused(sink: &mut MachBuffer<LabelUse>) -> Result<(), OutOfMemory>
+    requires few { allocated_of sink.old < inner_count }
+    requires sound { IsSoundBuffer sink.old }
+    ensures slot { OnOk result (shape_of sink.new ≡ with_allocated (shape_of sink.old)) }
+    ensures sound { OnOk result (IsSoundBuffer sink.new) }
+    ensures refused { OnErr result (spoiled_of sink.new ≡ true) }
+{
+    sink.get_label()?;
+    Ok(())
+}
+
+// ---- pieces
+
+pub(crate) fn rri(op: AluOPRRI, rd: WritableReg, rs: Reg, imm: Imm12) -> CodePiece
+    requires rd { IsIntRegister rd.reg }
+    requires rs { IsIntRegister rs }
+    ensures is { result ≡ code.Rri op rd rs imm }
+    ensures sound { IsSound result }
+{
+    CodePiece::Rri { op, rd, rs, imm }
+}
+
+pub(crate) fn rrr(op: AluOPRRR, rd: WritableReg, rs1: Reg, rs2: Reg) -> CodePiece
+    requires rd { IsIntRegister rd.reg }
+    requires rs1 { IsIntRegister rs1 }
+    requires rs2 { IsIntRegister rs2 }
+    ensures is { result ≡ code.Rrr op rd rs1 rs2 }
+    ensures sound { IsSound result }
+{
+    CodePiece::Rrr { op, rd, rs1, rs2 }
+}
+
+/// A move of one whole register to another of its class; none to itself.
+pub(crate) fn copy(rd: WritableReg, rs: Reg) -> CodePiece
+    requires fine { IsMove rd.reg rs (canonical_type (class_of rd.reg)) }
+    ensures is { result ≡ code.Move rd rs }
+    ensures sound { IsSound result }
+{
+    CodePiece::Move { rd, rs }
+}
+
+pub(crate) fn branch(kind: IntegerCompare, label: u8) -> CodePiece
+    requires rs1 { IsIntRegister kind.rs1 }
+    requires rs2 { IsIntRegister kind.rs2 }
+    ensures is { result ≡ code.Branch kind label }
+    ensures sound { IsSound result }
+{
+    CodePiece::Branch { kind, label }
+}
+
+pub(crate) fn jump(label: u8) -> CodePiece
+    ensures is { result ≡ code.Jump label }
+    ensures sound { IsSound result }
+{
+    CodePiece::Jump { label }
+}
+
+pub(crate) fn bind(label: u8) -> CodePiece
+    ensures is { result ≡ code.Bind label }
+    ensures sound { IsSound result }
+{
+    CodePiece::Bind { label }
+}

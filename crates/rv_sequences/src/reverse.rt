@@ -1,0 +1,152 @@
+//! The code that reverses the bits of a register's bytes. Label 0 is the loop's, 1 the end's, 2 stands past the operation that sets a
+//! bit, 3 where the next bit goes on in its byte, and 4 where a turn ends.
+
+ghost use Rattle.std.specs.Prelude.{◌≡◌, [], ◌+◌, ◌-◌, ◌<◌, ◌^◌, length, pos, OnOk, OnErr, true};
+ghost use Rattle.rv_base.specs.IrType.{bits_of};
+ghost use Rattle.rv_base.specs.LabelUse.{code_limit};
+ghost use Rattle.rv_base.specs.Regs.{number_of};
+ghost use Rattle.rv_base.specs.declared.condcodes.IntCC.TheVariants.{NotEqual};
+ghost use Rattle.rv_encode.specs.Registers.{IsIntRegister};
+ghost use Rattle.rv_inst.specs.Rules.{is_int_type};
+ghost use Rattle.mach_buffer.specs.Buffer.{bytes_of, allocated_of, spoiled_of};
+ghost use Rattle.rv_code.specs.Pieces.{slots_of};
+ghost use Rattle.rv_code.specs.Reversals.{reverse_pieces};
+ghost use Rattle.rv_sequences.specs.Code.{pieces_of, AreSound, IsLabelled};
+ghost use Rattle.rv_sequences.specs.Emitted.{IsSoundBuffer};
+ghost use Rattle.rv_sequences.specs.Parts.{PutsAlone};
+
+use crate::code::{CodePiece, bind, branch, jump, put_code, rri, rrr};
+use crate::counts::{bits, highest, is_zero_bit, less, none_left, width};
+use mach_buffer::MachBuffer;
+use rv_base::{
+    IntCC, IrType, IsaFlags, OutOfMemory, Reg, WritableReg, spilltmp_reg2, writable_spilltmp_reg2,
+    zero_reg,
+};
+use rv_imms::Imm12;
+use rv_inst::LabelUse;
+use rv_ops::{AluOPRRI, AluOPRRR, IntegerCompare};
+
+/// Sets the bits of a register's low bytes in reverse order, as many as the type has, from the highest bit on: `step` counts the
+/// bits that are left, `tmp` holds the next one, and `tmp2` the one to which it goes.
+pub fn put_reverse(
+    sink: &mut MachBuffer<LabelUse>,
+    flags: IsaFlags,
+    rd: WritableReg,
+    tmp: WritableReg,
+    tmp2: WritableReg,
+    step: WritableReg,
+    rs: Reg,
+    ty: IrType,
+) -> Result<(), OutOfMemory>
+    requires rd { IsIntRegister rd.reg }
+    requires tmp { IsIntRegister tmp.reg }
+    requires tmp2 { IsIntRegister tmp2.reg }
+    requires step { IsIntRegister step.reg }
+    requires rs { IsIntRegister rs }
+    requires ty { is_int_type ty ≡ true }
+    requires few { allocated_of sink.old < 2 ^ 29 }
+    requires room { length (bytes_of sink.old) + 80 < code_limit }
+    requires sound { IsSoundBuffer sink.old }
+    ensures slots { OnOk result (PutsAlone flags (slots_of flags (reverse_pieces (number_of rd.reg) (number_of tmp.reg) (number_of tmp2.reg) (number_of step.reg) (number_of rs) (bits_of ty))) sink.old sink.new) }
+    ensures refused { OnErr result (spoiled_of sink.new ≡ true) }
+{
+    put_code(sink, flags, &reverse_code(rd, tmp, tmp2, step, rs, ty))
+}
+
+fn reverse_code(
+    rd: WritableReg,
+    tmp: WritableReg,
+    tmp2: WritableReg,
+    step: WritableReg,
+    rs: Reg,
+    ty: IrType,
+) -> [CodePiece; 29]
+    requires rd { IsIntRegister rd.reg }
+    requires tmp { IsIntRegister tmp.reg }
+    requires tmp2 { IsIntRegister tmp2.reg }
+    requires step { IsIntRegister step.reg }
+    requires rs { IsIntRegister rs }
+    requires ty { is_int_type ty ≡ true }
+    ensures pieces { pieces_of result ≡ reverse_pieces (number_of rd.reg) (number_of tmp.reg) (number_of tmp2.reg) (number_of step.reg) (number_of rs) (bits_of ty) }
+    ensures registers { AreSound result }
+    ensures labels { IsLabelled 0 [] result }
+{
+    [
+        CodePiece::New,
+        CodePiece::New,
+        CodePiece::New,
+        CodePiece::New,
+        CodePiece::New,
+        rri(AluOPRRI::Addi, rd, zero_reg(), Imm12::ZERO),
+        rri(AluOPRRI::Addi, step, zero_reg(), width(ty)),
+        rri(AluOPRRI::Addi, tmp, zero_reg(), Imm12::ONE),
+        rri(AluOPRRI::Slli, tmp, tmp.reg, highest(ty)),
+        rri(AluOPRRI::Addi, tmp2, zero_reg(), Imm12::ONE),
+        rri(AluOPRRI::Slli, tmp2, tmp2.reg, top_byte(ty)),
+        bind(0),
+        branch(none_left(step.reg), 1),
+        rrr(AluOPRRR::And, writable_spilltmp_reg2(), tmp.reg, rs),
+        branch(is_zero_bit(), 2),
+        rrr(AluOPRRR::Or, rd, rd.reg, tmp2.reg),
+        bind(2),
+        rri(AluOPRRI::Addi, step, step.reg, less()),
+        rri(AluOPRRI::Srli, tmp, tmp.reg, Imm12::ONE),
+        rri(
+            AluOPRRI::Addi,
+            writable_spilltmp_reg2(),
+            zero_reg(),
+            eight(),
+        ),
+        rrr(
+            AluOPRRR::Rem,
+            writable_spilltmp_reg2(),
+            step.reg,
+            spilltmp_reg2(),
+        ),
+        branch(is_within(), 3),
+        rri(AluOPRRI::Srli, tmp2, tmp2.reg, fifteen()),
+        jump(4),
+        bind(3),
+        rri(AluOPRRI::Slli, tmp2, tmp2.reg, Imm12::ONE),
+        bind(4),
+        jump(0),
+        bind(1),
+    ]
+}
+
+/// The index of the lowest bit of the highest byte.
+fn top_byte(ty: IrType) -> Imm12
+    requires ty { is_int_type ty ≡ true }
+    ensures { result.value ≡ pos (bits_of ty - 8) }
+{
+    Imm12::from_i16(bits(ty) - 8)
+}
+
+/// How many bits a byte has.
+fn eight() -> Imm12
+    ensures { result.value ≡ pos 8 }
+{
+    Imm12::from_i16(8)
+}
+
+/// How far the lowest bit of the byte below is from the highest of a byte.
+fn fifteen() -> Imm12
+    ensures { result.value ≡ pos 15 }
+{
+    Imm12::from_i16(15)
+}
+
+/// Bits are left of the next one's byte: how many is in x30.
+fn is_within() -> IntegerCompare
+    ensures kind { result.kind ≡ NotEqual }
+    ensures spare { number_of result.rs1 ≡ 30 }
+    ensures zero { number_of result.rs2 ≡ 0 }
+    ensures rs1 { IsIntRegister result.rs1 }
+    ensures rs2 { IsIntRegister result.rs2 }
+{
+    IntegerCompare {
+        kind: IntCC::NotEqual,
+        rs1: spilltmp_reg2(),
+        rs2: zero_reg(),
+    }
+}
