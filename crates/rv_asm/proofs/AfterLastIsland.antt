@@ -1,15 +1,15 @@
 -- What is pending since the last island, by the lines and their spans, where islands end, and that none is early or too long.
-use Rattle.std.proofs.Common.{[], ap, arith, Bool, cond, drop, false, inl, inr, length, List, map, None, not, Option, refl, Some, subst, suc, sym, take, true, ℕ, ⊎_elim, ◌&&◌, ◌++◌, ◌+◌, ◌-◌, ◌<◌, ◌∙◌, ◌∷◌, ◌≡◌, ◌≤◌, ◌⊎◌}
-use Rattle.std.proofs.lemmas.Bool.{eq-eqb, cases_Bool, cond_both}
+use Rattle.std.proofs.Common.{[], ap, arith, Bool, cond, drop, false, inl, inr, length, List, map, None, Option, refl, Some, subst, suc, sym, take, true, ℕ, ⊎_elim, ◌++◌, ◌+◌, ◌-◌, ◌<◌, ◌∙◌, ◌∷◌, ◌≡◌, ◌≤◌, ◌⊎◌}
+use Rattle.std.proofs.lemmas.Bool.{cases_Bool}
 use Rattle.std.proofs.lemmas.List.{append-nil}
-use Rattle.std.specs.Prelude.{is_none, slice_get}
+use Rattle.std.specs.Prelude.{slice_get}
 use Rattle.rv_inst.specs.Operands.{labels_of}
+use Rattle.std.proofs.lemmas.Bool.Decides.{nat_tests}
 use Rattle.rv_asm.proofs.Words.{After, AfterLastIsland, aligned, append_each, Appends, AppendsBy, AppendsInst, AppendsIsland, AppendsSequence, Around, before_or_last, Bind, BindPut, both_lists, bound_by, bound_kept, bound_pending, broken_rule, Buffer, bytes_of, bytes_put, cases_eq, or_left}
 use Rattle.rv_asm.proofs.Words.{cases_lt, constants_end, constants_named, constants_of, constants_taken, constants_waiting, Context, deadline, deadlines, deadlines_as, direct_never_pending, Each, each_none, emitted_keeps, end_before, end_of, EndsIn, Extent, extent_of, or_right, false_from_ne_true}
-use Rattle.rv_asm.proofs.Words.{first_after_island, first_inner, forward_of, has_veneer_of, Inst, inst_rule, is_buffer_label, is_island, is_island_of, is_needed, is_pending, is_reached, IsDue, IsDueOf, Island, island_after, island_end, IslandDue, IslandIfNeeded, Jal20, keeps, label_kinds, LabelUse}
-use Rattle.rv_asm.proofs.Words.{Lacks, lacks, le-ltb, length-append, length-drop, length-take-le, Line, line_space, LineSpan, LinesStand, lt-ltb, MachLabel, named_of, ne_eqb, no_own, none_pending, NotEarly, or_place, passing, pending, pending_at, pending_still, place_of, Put, registered_of}
-use Rattle.rv_asm.proofs.Words.{room_keeps, shape_of, slice_get_within, start_of, take-append-le, take_all, targets_of, true≢false, try_call_of, try_labels, unplaced_of, Use, uses_after_island, uses_from, uses_in, uses_of, VCodeConstant, waiting, Words, words_in, words_long, words_pending}
-use Rattle.rv_asm.proofs.Words.{leb-false, both_ways}
+use Rattle.rv_asm.proofs.Words.{first_after_island, first_inner, forward_of, has_veneer_of, Inst, inst_rule, is_buffer_label, is_island, is_island_of, is_pending, IsDue, IsDueOf, Island, island_after, island_end, IslandDue, IslandIfNeeded, Jal20, keeps, label_kinds, LabelUse, Lacks, lacks, le-ltb}
+use Rattle.rv_asm.proofs.Words.{length-append, length-drop, length-take-le, Line, line_space, LineSpan, LinesStand, lt-ltb, MachLabel, named_of, no_own, none_pending, NotEarly, or_place, passing, pending, pending_at, pending_still, place_of, Put, registered_of, room_keeps, shape_of}
+use Rattle.rv_asm.proofs.Words.{slice_get_within, start_of, take-append-le, take_all, targets_of, true≢false, try_call_of, try_labels, unplaced_of, Use, uses_after_island, uses_from, uses_in, uses_of, VCodeConstant, waiting, Words, words_in, words_long, words_pending, leb-false, both_ways}
 use Rattle.rv_asm.proofs.LinesInBuffer.{InstAppends, LineAppends}
 use Rattle.rv_asm.proofs.Spans.{bound_by_append, bound_by_more, end_last, end_more, ends_more, get_drop, open_low, open_more, open_on, open_own, OpenAfter, own_uses, start_last, start_more, uses_more, of_cond}
 use Rattle.rv_asm.proofs.RefusalOrder.{all_at, all_both, none_any}
@@ -53,10 +53,7 @@ low_from context spans first (Bind label ∷ lines) ruled = low_from context spa
 
 -- so whether it is pending is known from where lines bind labels
 same_test : (place other : ℕ → Option ℕ) (u : Use LabelUse) → (has_veneer_of u.kind ≡ true → place u.label.number ≡ other u.label.number) → is_pending label_kinds place u ≡ is_pending label_kinds other u
-same_test place other u same = ⊎_elim
-    (λ e. ap (λ at. has_veneer_of u.kind && (is_none u.veneer && not (is_reached label_kinds at u))) (same e))
-    (λ e. (λ i. e i && (is_none u.veneer && not (is_reached label_kinds (place u.label.number) u))) ∙ sym (λ i. e i && (is_none u.veneer && not (is_reached label_kinds (other u.label.number) u))))
-    (cases_Bool (has_veneer_of u.kind))
+same_test place other u same = grind (arith, same, cases_Bool (has_veneer_of u.kind))
 
 -- ---- what waits in a buffer
 
@@ -110,11 +107,10 @@ module _ (context : Context) (lines : List Line) (spans more : List LineSpan) (l
 -- lines and spans more change nothing before them
 pub due_more : (context : Context) (lines more : List Line) (spans more_spans : List LineSpan) (i from to distance : ℕ) → length spans ≡ length lines → i ≤ length lines → IsDue context lines spans i from to distance → IsDue context (lines ++ more) (spans ++ more_spans) i from to distance
 due_more context lines more spans more_spans i from to distance count le d =
-    let front : take i (lines ++ more) ≡ take i lines = take-append-le i lines more le in
     let long : length (take i lines) ≤ length spans = omega (arith, count, length-take-le i lines le, le) in
     record {
-      needed = (λ j. is_needed from distance (waiting context (front j) (spans ++ more_spans))) ∙ ap (is_needed from distance) (waiting_same context (take i lines) spans more_spans long) ∙ d.needed;
-      ends = d.ends ∙ sym (ap (λ ls. island_after context ls (spans ++ more_spans) from) front ∙ ends_same context (take i lines) spans more_spans long from);
+      needed = grind (arith, take-append-le i lines more le, waiting_same context (take i lines) spans more_spans long, d.needed);
+      ends = grind (arith, take-append-le i lines more le, ends_same context (take i lines) spans more_spans long from, d.ends);
     }
 
 -- ==== What is pending since the last island, as lines are put.
@@ -135,10 +131,7 @@ passing_none test (u ∷ uses) none = (λ i. cond (none 0 u refl i) (u ∷ passi
 passing_less : (test less : Use LabelUse → Bool) → ((u : Use LabelUse) → test u ≡ false → less u ≡ false) → (uses : List (Use LabelUse)) → passing less (passing test uses) ≡ passing less uses
 passing_less test less weaker [] = refl
 passing_less test less weaker (u ∷ uses) =
-    let rest = passing_less test less weaker uses in
-    cond_both (test u) (u ∷ passing test uses) (passing test uses) (λ us. passing less us ≡ cond (less u) (u ∷ passing less uses) (passing less uses))
-    (λ holds. ap (λ us. cond (less u) (u ∷ us) us) rest)
-    (λ fails. rest ∙ sym (λ i. cond (weaker u fails i) (u ∷ passing less uses) (passing less uses)))
+    grind (arith, weaker u, passing_less test less weaker uses)
 
 -- after an island nothing is pending, and all constants that were named stand
 ends_island : (old new : Buffer) → AppendsIsland old new → EndsIn [] (length (named_of old)) new
@@ -153,8 +146,7 @@ ends_code code own uses old new p e =
     let before = pending_at (place_of old) in
     let after = pending_at (place_of new) in
     let weaker : (u : Use LabelUse) → before u ≡ false → after u ≡ false = pending_still (place_of old) (place_of new) (bound_kept p) in
-    let still : passing after (uses_of old) ≡ passing after uses = sym (passing_less before after weaker (uses_of old)) ∙ ap (passing after) e.same ∙ passing_less before after weaker uses in
-    record { same = ap (passing after) p.uses ∙ passing_both after (uses_of old) own ∙ ap (λ us. us ++ passing after own) still ∙ sym (passing_both after uses own); stand = ap length p.constants ∙ e.stand }
+    record { same = grind (arith, p.uses, ap (passing after) e.same, passing_less before after weaker (uses_of old), passing_less before after weaker uses, passing_both); stand = ap length p.constants ∙ e.stand }
 
 -- an instruction adds its own, of which those of a table's and of its own labels are never pending
 ends_inst : (context : Context) (inst : Inst) (old new : Buffer) (uses : List (Use LabelUse)) {stand : ℕ} → AppendsInst context inst old new → EndsIn uses stand old → EndsIn (uses ++ uses_in context (length (bytes_of old)) (length (bytes_of new)) inst) stand new
@@ -162,9 +154,8 @@ ends_inst context inst old new uses p e =
     let own = uses_in context (length (bytes_of old)) (length (bytes_of new)) inst in
     let test = pending_at (place_of new) in
     let none : passing test p.direct ≡ [] = passing_none test p.direct (direct_never_pending context inst old new p) in
-    let rest : passing test (own ++ p.direct) ≡ passing test own = passing_both test own p.direct ∙ ap (λ us. passing test own ++ us) none ∙ append-nil (passing test own) in
     let all = ends_code p.code (own ++ p.direct) uses old new p.adds e in
-    record { same = all.same ∙ passing_both test uses (own ++ p.direct) ∙ ap (λ us. passing test uses ++ us) rest ∙ sym (passing_both test uses own); stand = all.stand }
+    record { same = grind (arith, all.same, passing_both, append-nil, none); stand = all.stand }
 
 -- what was not pending is not pending once a label more is bound
 ends_bind : (label : MachLabel) (old new : Buffer) (span : LineSpan) (uses : List (Use LabelUse)) {stand : ℕ} → BindPut label old new span → EndsIn uses stand old → EndsIn uses stand new
@@ -227,22 +218,15 @@ or_none (Some at) = refl
 
 bound_next : (lines : List Line) (spans : List LineSpan) (line : Line) (span : LineSpan) (label : ℕ) → length spans ≡ length lines → bound_by (spans ++ span ∷ []) 0 (lines ++ line ∷ []) label ≡ or_place (bound_by spans 0 lines label) (bound_by (spans ++ span ∷ []) (length spans) (line ∷ []) label)
 bound_next lines spans line span label count =
-    let at : 0 + length lines ≡ length spans = omega arith in
-    bound_by_append (spans ++ span ∷ []) 0 lines (line ∷ []) label ∙ (λ j. or_place (bound_by_more spans (span ∷ []) 0 lines label (omega arith) j) (bound_by (spans ++ span ∷ []) (at j) (line ∷ []) label))
+    grind (arith, bound_by_append (spans ++ span ∷ []) 0 lines (line ∷ []) label, bound_by_more spans (span ∷ []) 0 lines label (omega arith))
 
 bound_put : (lines : List Line) (spans : List LineSpan) (inst : Inst) (span : LineSpan) (label : ℕ) → length spans ≡ length lines → bound_by (spans ++ span ∷ []) 0 (lines ++ Put inst ∷ []) label ≡ bound_by spans 0 lines label
 bound_put lines spans inst span label count = bound_next lines spans (Put inst) span label count ∙ or_none _
 
 bound_bind : (lines : List Line) (spans : List LineSpan) (l : MachLabel) (span : LineSpan) (old new : Buffer) (label : ℕ) → length spans ≡ length lines → BindPut l old new span → place_of old label ≡ bound_by spans 0 lines label → place_of new label ≡ bound_by (spans ++ span ∷ []) 0 (lines ++ Bind l ∷ []) label
-bound_bind lines spans l span old new label count p places = ⊎_elim
-    (λ e.
-    ap (place_of new) e ∙ p.bound ∙ sym (λ j. or_place ((sym places ∙ ap (place_of old) e ∙ p.unbound) j) (cond (eq-eqb l.number label (sym e) j) (Some ((start_last spans span ∙ p.start) j)) None)) ∙ sym whole)
-    (λ differ.
-    p.kept label differ ∙ places ∙ sym (or_none _) ∙ sym (λ j. or_place (bound_by spans 0 lines label) (cond (ne_eqb l.number label (λ e. differ (sym e)) j) (Some (start_of (spans ++ span ∷ []) (length spans))) None)) ∙ sym whole)
-    (cases_eq label l.number)
-  where
-    whole : bound_by (spans ++ span ∷ []) 0 (lines ++ Bind l ∷ []) label ≡ or_place (bound_by spans 0 lines label) (bound_by (spans ++ span ∷ []) (length spans) (Bind l ∷ []) label)
-    whole = bound_next lines spans (Bind l) span label count
+bound_bind lines spans l span old new label count p places =
+    let whole = bound_next lines spans (Bind l) span label count in
+    ⊎_elim (λ e. grind (arith, nat_tests, start_last, p.start, p.bound, p.unbound)) (λ differ. grind (arith, nat_tests, p.kept label differ, or_none)) (cases_eq label l.number)
 
 -- ---- the loop's invariant
 
@@ -290,35 +274,31 @@ module _ (context : Context) (lines : List Line) (spans : List LineSpan) (line :
       })
       m.put
 
-  inst_ends : (inst : Inst) → line ≡ Put inst → (new : Buffer) → InstAppends context inst old new span → EndsAfter new
-  inst_ends inst is new p =
-      let r = room_ends p.mid p.made p.room p.start in
-      let island : (x : Line) → line ≡ x → is_island context x span.start span.end ≡ is_island context line span.start span.end = λ x e. ap (λ l. is_island context l span.start span.end) (sym e) in
-      let own : own_uses context line span.start span.end ≡ uses_in context span.start span.end inst = ap (λ l. own_uses context l span.start span.end) is in
-      ⊎_elim
-      (λ among. ends_by _ (constants_named lines) new (open_own context lines spans line span built.count (or_left _ _ (sym (island (Put inst) is) ∙ among.0)))
-      (subst (λ us. EndsIn us (length (constants_named lines)) new) (sym own) (subst (λ names. EndsIn (uses_in context span.start span.end inst) (length names) new) r.names among.1)))
-      (λ block. ends_by _ r.taken new (r.adds (sym (island (Put inst) is) ∙ block.0)) (subst (λ us. EndsIn (r.uses ++ us) (length r.taken) new) (sym own) block.1))
-      (emitted_ends context inst p.mid new span.start span.end r.uses (length r.taken) p.start p.end p.emitted r.ends)
+inst_ends : (context : Context) (lines : List Line) (spans : List LineSpan) (inst : Inst) (span : LineSpan) (old new : Buffer) (b : LinesStand context lines spans old) (s : EndsIn (uses_after_island context lines spans) (length (constants_taken context lines spans)) old) →
+    InstAppends context inst old new span → EndsAfter context lines spans (Put inst) span old b s new
+inst_ends context lines spans inst span old new b s p =
+    let r = room_ends context lines spans (Put inst) span old b s p.mid p.made p.room p.start in
+    ⊎_elim
+    (λ among. ends_by context lines spans (Put inst) span old b s _ (constants_named lines) new (open_own context lines spans (Put inst) span b.count (or_left _ _ among.0)) (subst (λ names. EndsIn (uses_in context span.start span.end inst) (length names) new) r.names among.1))
+    (λ block. ends_by context lines spans (Put inst) span old b s _ r.taken new (r.adds block.0) block.1)
+    (emitted_ends context inst p.mid new span.start span.end r.uses (length r.taken) p.start p.end p.emitted r.ends)
 
-  bind_ends : (label : MachLabel) → line ≡ Bind label → (new : Buffer) → BindPut label old new span → EndsAfter new
-  bind_ends label is new p =
-      let taken = constants_taken context lines spans in
-      ends_by _ taken new (open_on context lines spans line span built.count (ap (λ l. is_island context l span.start span.end) is) (le-ltb (end_before spans (length lines)) span.start (omega (arith, (sym built.ends ∙ sym p.start)))))
-      (subst (λ us. EndsIn (uses_after_island context lines spans ++ us) (length taken) new) (sym (ap (λ l. own_uses context l span.start span.end) is))
-      (subst (λ us. EndsIn us (length taken) new) (sym (append-nil (uses_after_island context lines spans)))
-      (ends_bind label old new span (uses_after_island context lines spans) p since)))
+bind_ends : (context : Context) (lines : List Line) (spans : List LineSpan) (label : MachLabel) (span : LineSpan) (old new : Buffer) (b : LinesStand context lines spans old) (s : EndsIn (uses_after_island context lines spans) (length (constants_taken context lines spans)) old) →
+    BindPut label old new span → EndsAfter context lines spans (Bind label) span old b s new
+bind_ends context lines spans label span old new b s p =
+    ends_by context lines spans (Bind label) span old b s _ (constants_taken context lines spans) new (open_on context lines spans (Bind label) span b.count refl (le-ltb (end_before spans (length lines)) span.start (omega (arith, (sym b.ends ∙ sym p.start)))))
+    (rw (append-nil (uses_after_island context lines spans)) (ends_bind label old new span (uses_after_island context lines spans) p s))
 
 pub since_next : (context : Context) (lines : List Line) (spans : List LineSpan) (line : Line) (span : LineSpan) (old new : Buffer) → LinesStand context lines spans old → AfterLastIsland context lines spans old → broken_rule context line ≡ None → LineAppends context line old new span → AfterLastIsland context (lines ++ line ∷ []) (spans ++ span ∷ []) new
 since_next context lines spans (Put inst) span old new b s rule p =
     let next = emitted_keeps context inst p.mid new p.emitted in
     record {
-      ends = inst_ends context lines spans (Put inst) span old b s.ends inst refl new p;
+      ends = inst_ends context lines spans inst span old new b s.ends p;
       places = λ label low. next.1 label low ∙ (room_keeps line_space old p.mid p.made p.room).1 label low ∙ s.places label low ∙ sym (bound_put lines spans inst span label b.count);
       ruled = append_each (λ line. broken_rule context line ≡ None) lines (Put inst) rule s.ruled;
     }
 since_next context lines spans (Bind label) span old new b s rule p = record {
-  ends = bind_ends context lines spans (Bind label) span old b s.ends label refl new p;
+  ends = bind_ends context lines spans label span old new b s.ends p;
   places = λ other low. bound_bind lines spans label span old new other b.count p (s.places other low);
   ruled = append_each (λ line. broken_rule context line ≡ None) lines (Bind label) rule s.ruled;
 }
@@ -329,9 +309,7 @@ since_next context lines spans (Bind label) span old new b s rule p = record {
 due_kept : {context : Context} {lines : List Line} {spans : List LineSpan} {i from to start end distance : ℕ} (more : List Line) (more_spans : List LineSpan) → length spans ≡ length lines → i ≤ length lines → from ≡ start → to ≡ end → IsDue context lines spans i from to distance →
     IsDue context (lines ++ more) (spans ++ more_spans) i start end distance
 due_kept {context} {lines} {spans} {i} {from} {to} {start} {end} {distance} more more_spans count le starts ends d =
-    subst (λ n. IsDue context (lines ++ more) (spans ++ more_spans) i n end distance) starts
-    (subst (λ n. IsDue context (lines ++ more) (spans ++ more_spans) i from n distance) ends
-    (due_more context lines more spans more_spans i from to distance count le d))
+    rw (sym starts, sym ends) (due_more context lines more spans more_spans i from to distance count le d)
 
 -- ---- no island is early
 
@@ -341,10 +319,9 @@ room_due : (context : Context) (lines : List Line) (spans : List LineSpan) (dist
 room_due context lines spans distance old mid new made b s same m longer = ⊎_elim
     (λ none. let level : length (bytes_of new) ≡ length (bytes_of mid) = ap (λ (b : Buffer). length (bytes_of b)) none.1 in absurd (omega (arith, level, longer)))
     (λ put.
-    let whole : take (length lines) lines ≡ lines = take_all (length lines) lines (omega arith) in
     record {
-      needed = ap (is_needed (length (bytes_of mid)) distance) (sym (same.waits ∙ sym (uses_waiting context lines spans old b s) ∙ (λ j. waiting context (sym whole j) spans))) ∙ sym m.asked ∙ put.0;
-      ends = island_ends context lines spans old b s mid new same put.1 ∙ (λ j. island_after context (sym whole j) spans (length (bytes_of mid)));
+      needed = grind (arith, same.waits, uses_waiting context lines spans old b s, take_all, m.asked, put.0);
+      ends = grind (arith, island_ends context lines spans old b s mid new same put.1, take_all);
     })
     m.put
 
@@ -357,10 +334,7 @@ in_line context lines spans space old mid next last made second b s before keeps
     before.put
   where
     no_second : pending mid ≡ [] → ⊥
-    no_second settled = ⊎_elim
-        (λ same. let level : length (bytes_of last) ≡ length (bytes_of next) = ap (λ (b : Buffer). length (bytes_of b)) same.1 in absurd (omega (arith, level, longer)))
-        (λ put. true≢false (sym put.0 ∙ within.asked ∙ ap (is_needed (length (bytes_of next)) space) (keeps.waits ∙ settled)))
-        within.put
+    no_second settled = grind (arith, within.put, within.asked, keeps.waits, settled, longer)
 
 within_line : (context : Context) (lines : List Line) (spans : List LineSpan) (line : Line) (span : LineSpan) (old new : Buffer) → LinesStand context lines spans old → AfterLastIsland context lines spans old → LineAppends context line old new span → IslandDue context (lines ++ line ∷ []) (spans ++ span ∷ []) (length lines) line
 within_line context lines spans (Put inst) span old new b s p = by (extent_of context inst) refl p.emitted

@@ -54,23 +54,18 @@ passed test (v ∷ uses) u h =
 line_uses_in : (context : Context) (spans : List LineSpan) (first : ℕ) (lines : List Line) (i : ℕ) (inst : Inst) (k : ℕ) (u : Use LabelUse) → slice_get lines i ≡ Some (Put inst) → slice_get (uses_in context (start_of spans (first + i)) (end_of spans (first + i)) inst) k ≡ Some u → IsIn (uses_from context spans first lines) u
 line_uses_in context spans first [] i inst k u there own = absurd (cc)
 line_uses_in context spans first (Put x ∷ lines) zero inst k u there own =
-    let here : first + 0 ≡ first = omega arith in
-    let same : inst ≡ x = cc in
-    in_first _ (uses_from context spans (suc first) lines) u (record { index = k; there = (λ j. slice_get (uses_in context (start_of spans (sym here j)) (end_of spans (sym here j)) (sym same j)) k) ∙ own })
+    in_first _ (uses_from context spans (suc first) lines) u (record { index = k; there = grind (arith, own, there) })
 line_uses_in context spans first (Bind l ∷ lines) zero inst k u there own = absurd (cc)
 line_uses_in context spans first (Put x ∷ lines) (suc i) inst k u there own =
-    let next : first + suc i ≡ suc first + i = omega arith in
-    in_second (uses_in context (start_of spans first) (end_of spans first) x) _ u (line_uses_in context spans (suc first) lines i inst k u there (subst (λ n. slice_get (uses_in context (start_of spans n) (end_of spans n) inst) k ≡ Some u) next own))
+    in_second (uses_in context (start_of spans first) (end_of spans first) x) _ u (line_uses_in context spans (suc first) lines i inst k u there (grind (arith, own)))
 line_uses_in context spans first (Bind l ∷ lines) (suc i) inst k u there own =
-    let next : first + suc i ≡ suc first + i = omega arith in
-    line_uses_in context spans (suc first) lines i inst k u there (subst (λ n. slice_get (uses_in context (start_of spans n) (end_of spans n) inst) k ≡ Some u) next own)
+    line_uses_in context spans (suc first) lines i inst k u there (grind (arith, own))
 
 -- a use of a line after which no island stands
 open_use : (context : Context) (lines : List Line) (spans : List LineSpan) (i : ℕ) (inst : Inst) (k : ℕ) (u : Use LabelUse) → first_after_island context lines spans (length lines) ≤ i → slice_get lines i ≡ Some (Put inst) → slice_get (uses_in context (start_of spans i) (end_of spans i) inst) k ≡ Some u → IsIn (uses_after_island context lines spans) u
 open_use context lines spans i inst k u le there own =
     let n = first_after_island context lines spans (length lines) in
-    let same : i ≡ n + (i - n) = omega arith in
-    line_uses_in context spans n (drop n lines) (i - n) inst k u (get_drop lines n (i - n) ∙ ap (slice_get lines) (sym same) ∙ there) (subst (λ m. slice_get (uses_in context (start_of spans m) (end_of spans m) inst) k ≡ Some u) same own)
+    line_uses_in context spans n (drop n lines) (i - n) inst k u (grind (arith, get_drop lines n (i - n), there)) (grind (arith, own))
 
 -- while its label isn't bound, it is in the buffer
 still_there : (context : Context) (lines : List Line) (spans : List LineSpan) (b : Buffer) (i : ℕ) (inst : Inst) (k : ℕ) (u : Use LabelUse) → AfterLastIsland context lines spans b → first_after_island context lines spans (length lines) ≤ i → slice_get lines i ≡ Some (Put inst) → slice_get (uses_in context (start_of spans i) (end_of spans i) inst) k ≡ Some u → has_veneer_of u.kind ≡ true → place_of b u.label.number ≡ None → IsIn (uses_of b) u
@@ -136,9 +131,8 @@ module _ (context : Context) (lines : List Line) (spans : List LineSpan) (line :
   each : (i : ℕ) (inst : Inst) (k : ℕ) (u : Use LabelUse) (m : ℕ) (l : MachLabel) → (slice_get lines i ≡ Some (Put inst)) ⊎ ((i ≡ length lines) × (line ≡ Put inst)) → slice_get (uses_in context (start_of all i) (end_of all i) inst) k ≡ Some u → has_veneer_of u.kind ≡ true → (slice_get lines m ≡ Some (Bind l)) ⊎ ((m ≡ length lines) × (line ≡ Bind l)) → l.number ≡ u.label.number → is_reached label_kinds (Some (start_of all m)) u ≡ true → first_after_island context (lines ++ line ∷ []) all m ≤ i → IsIn (uses_of new) u
   each i inst k u m l (inl hi) own served (inl hm) is reached le =
       let m_lt = below lines m (Bind l) hm in
-      let start = start_more spans (span ∷ []) m (omega (arith, count, m_lt)) in
       let opens = open_more context lines (line ∷ []) spans (span ∷ []) m (omega (arith, count)) (omega (arith, m_lt)) in
-      both_old i inst k u m l hi (old_use i inst k u (below lines i (Put inst) hi) own) served hm is (ap (λ n. is_reached label_kinds (Some n) u) (sym start) ∙ reached) (omega (arith, opens, le))
+      both_old i inst k u m l hi (old_use i inst k u (below lines i (Put inst) hi) own) served hm is (grind (arith, start_more spans (span ∷ []) m (omega (arith, count, m_lt)), reached)) (omega (arith, opens, le))
   each i inst k u m l (inl hi) own served (inr (e, binds)) is reached le =
       let p = label_put l binds in
       let opens = open_more context lines (line ∷ []) spans (span ∷ []) (length lines) (omega (arith, count)) (omega arith) in
@@ -146,8 +140,7 @@ module _ (context : Context) (lines : List Line) (spans : List LineSpan) (line :
       subst (λ us. IsIn us u) (sym p.uses)
       (still_there context lines spans old i inst k u since (omega (arith, opens, here)) hi (old_use i inst k u (below lines i (Put inst) hi) own) served (ap (place_of old) (sym is) ∙ p.unbound))
   each i inst k u m l (inr (e, puts)) own served (inl hm) is reached le =
-      let at : i ≡ length spans = e ∙ sym count in
-      use_put inst k u puts ((λ j. slice_get (uses_in context (sym (ap (start_of all) at ∙ start_last spans span) j) (sym (ap (end_of all) at ∙ end_last spans span) j) inst) k) ∙ own)
+      use_put inst k u puts (grind (arith, start_last, end_last, own, e, count))
   each i inst k u m l (inr (e, puts)) own served (inr (g, binds)) is reached le = absurd (cc)
 
   pub straight_next : GoStraight context (lines ++ line ∷ []) all new
@@ -254,10 +247,7 @@ within_line context setting lines n spans old new line span e s h put = returns_
 -- and is added to those of the lines before
 pub returns_so_far : (context : Context) (flags : IsaFlags) (lines : List Line) (n : ℕ) (spans new_spans : List LineSpan) (b : Buffer) (returns new_returns : List CallReturn) (line : Line) (span : LineSpan) → SoFar context lines n spans b → slice_get lines n ≡ Some line → span.index ≡ n → new_spans ≡ spans ++ span ∷ [] → returns ≡ returns_from flags spans 0 (take n lines) → new_returns ≡ returns ++ line_returns flags span.index span.start line → new_returns ≡ returns_from flags new_spans 0 (take (n + 1) lines)
 returns_so_far context flags lines n spans new_spans b returns new_returns line span s h index pushed before added =
-    added
-    ∙ (λ i. before i ++ line_returns flags ((index ∙ sym (s.built.count ∙ take_count lines n line h)) i) span.start line)
-    ∙ sym (returns_next flags (take n lines) spans line span s.built.count)
-    ∙ (λ i. returns_from flags (sym pushed i) 0 (sym (take_next lines n line h) i))
+    grind (arith, returns_next flags (take n lines) spans line span s.built.count, take_next lines n line h, take_count lines n line h, s.built.count)
 
 -- after the last
 at_end : (context : Context) (lines : List Line) (n : ℕ) (spans : List LineSpan) (b : Buffer) → length lines ≤ n → SoFar context lines n spans b → Built context lines spans b

@@ -203,8 +203,7 @@ same_index bytes uses before more u grown windows h =
   where
     overlap : (v : Use LabelUse) → core v ≡ core u → IsApart u.offset (length (marks_of u.kind)) v.offset (length (marks_of v.kind)) → ⊥
     overlap v is apart =
-        let some = some_marks u.kind in
-        ⊎_elim (λ before. absurd (omega (arith, some, before))) (λ after. absurd (omega (arith, some, after))) (subst (λ (w : Use LabelUse). IsApart u.offset (length (marks_of u.kind)) w.offset (length (marks_of w.kind))) is apart)
+        grind (arith, some_marks u.kind, is, apart)
 
 -- ---- one use
 
@@ -302,15 +301,13 @@ module _ {L : Type 0} where
   stood : (kinds : Kinds L) (s : Shape L) (bytes : List ℕ) (f : Finishes kinds s bytes) (j : ℕ) (c : ConstPlace) → slice_get s.constants j ≡ Some c → slice_get f.put.constants j ≡ Some c
   stood kinds s bytes f j c h =
       let before = put_all kinds f.order (padded_for (length f.order) s) in
-      let same : before.constants ≡ s.constants = veneers_leave kinds f.order (padded_for (length f.order) s) ∙ padding_leaves (length f.order) s in
-      ap (λ (x : Shape L). slice_get x.constants j) f.whole ∙ each_stays (unplaced_of before) before j c (ap (λ (cs : List ConstPlace). slice_get cs j) same ∙ h)
+      grind (arith, f.whole, each_stays (unplaced_of before) before j c, veneers_leave kinds f.order (padded_for (length f.order) s), padding_leaves (length f.order) s, h)
 
 -- the end of the last veneers
 veneers_long : (n : ℕ) (bytes : List ℕ) → length (cond (nat_eq n 0) bytes (bytes ++ padding (length bytes))) + 8 * n ≡ veneers_end n (length bytes)
 veneers_long zero bytes = omega arith
 veneers_long (suc n) bytes =
-    let some : nat_eq (suc n) 0 ≡ false = grind (arith, nat_tests) in
-    (λ j. length (cond (some j) bytes (bytes ++ padding (length bytes))) + 8 * suc n) ∙ ap (λ m. m + 8 * suc n) (length_padded bytes)
+    grind (arith, nat_tests, length_padded bytes)
 
 module _ (job : Job) (code : Code) (b : Buffer) (built : LinesStand (context_of job) job.lines code.lines b) (since : AfterLastIsland (context_of job) job.lines code.lines b) (f : Finishes label_kinds (shape_of b) code.bytes) (end : code.end ≡ length (bytes_of b)) (constants : code.constants ≡ f.put.constants) where
   before : (j : ℕ) (c : ConstPlace) (k : Constant) → j < length (constants_taken (context_of job) job.lines code.lines) → slice_get code.constants j ≡ Some c → slice_get job.constants c.constant.number ≡ Some k → c.offset + length k.bytes ≤ code.end

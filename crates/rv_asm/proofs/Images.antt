@@ -38,9 +38,7 @@ bytes_are mem a n xs long each =
 window_from : (mem : Memory) (a n from size : ℕ) → from + size ≤ n → window (bytes_from mem a n) from size ≡ bytes_from mem (a + from) size
 window_from mem a n from size le =
     sym (bytes_are mem (a + from) size (window (bytes_from mem a n) from size) (window_length (bytes_from mem a n) from size (omega (arith, from_long mem a n, le)))
-    (λ k lt.
-    let e : a + from + k ≡ a + (from + k) = omega arith in
-    ap (byte mem) e ∙ sym (from_byte mem a n (from + k) (omega arith)) ∙ sym (window_byte (bytes_from mem a n) from size k lt)))
+    (λ k lt. grind (arith, from_byte mem a n (from + k) (omega arith), window_byte (bytes_from mem a n) from size k lt)))
 
 -- ---- what records give
 
@@ -130,9 +128,7 @@ module _ (code : Code) (base : ℕ) (symbols slots : Addresses) (mem : Memory) (
     long = from_long mem base (length code.bytes);
     bytes = λ k lt. let short : k < length code.bytes = let l = from_long mem base (length code.bytes) in omega arith in subst (λ (b : ℕ). b < 256) (sym (from_byte mem base (length code.bytes) k short)) (placed.bytes k short);
     same = λ from size le clear. window_from mem base (length code.bytes) from size le ∙ bytes_are mem (base + from) size (window code.bytes from size) (window_length code.bytes from size le)
-        (λ k lt.
-        let e : base + from + k ≡ base + (from + k) = omega arith in
-        ap (byte mem) e ∙ placed.there (from + k) (omega arith) (outside same from size k lt clear) ∙ sym (window_byte code.bytes from size k lt));
+        (λ k lt. grind (arith, placed.there (from + k) (omega arith) (outside same from size k lt clear), window_byte code.bytes from size k lt));
   }
 
   -- ---- where its bytes still stand
@@ -143,9 +139,7 @@ module _ (code : Code) (base : ℕ) (symbols slots : Addresses) (mem : Memory) (
 
     same_bytes : (from size : ℕ) → from + size ≤ length code.bytes → bytes_from new (base + from) size ≡ bytes_from mem (base + from) size
     same_bytes from size le = bytes_are new (base + from) size (bytes_from mem (base + from) size) (from_long mem (base + from) size)
-        (λ k lt.
-        let e : base + from + k ≡ base + (from + k) = omega arith in
-        ap (byte new) e ∙ same_byte (from + k) (omega arith) ∙ ap (byte mem) (sym e) ∙ sym (from_byte mem (base + from) size k lt))
+        (λ k lt. grind (arith, same_byte (from + k) (omega arith), from_byte mem (base + from) size k lt))
 
     -- the code is still placed, since what relocations fill is among its bytes
     pub placed_again : ((j : ℕ) (r : MachReloc) → slice_get code.relocs j ≡ Some r → r.offset + field_size r.kind ≤ length code.bytes) → IsPlaced code base symbols slots mem → IsPlaced code base symbols slots new
@@ -185,13 +179,11 @@ module _ (code : Code) (base : ℕ) (symbols slots : Addresses) (mem : Memory) (
         let f = placed.filled u.0 _ u.1 in
         let g = placed.filled l.0 _ l.1 u.0 _ f.0 u.1 refl f.1 in
         let sum = sum_leads (address_of_name symbols name.number) addend f.0 f.1 in
-        let fits : f.0 < 2 ^ 64 = omega arith in
-        let le : at + 4 + 4 ≤ length code.bytes = ends k _ hk in
         record {
           distance = distance_to (wrap (base + at)) f.0;
           near = f.2.0;
-          leads = leads_to at f.0 fits ∙ sym sum;
-          holds = holds_both at (distance_to (wrap (base + at)) f.0) (omega arith) f.2.1.aims f.2.1.kept g.aims g.kept;
+          leads = leads_to at f.0 (omega arith) ∙ sym sum;
+          holds = holds_both at (distance_to (wrap (base + at)) f.0) (omega (arith, ends k _ hk)) f.2.1.aims f.2.1.kept g.aims g.kept;
         }
     distances j k at (SlotOf name) hj hk =
         let u = reloc_reported same j at RiscvGotHi20 (target.ExternalName name) (pos 0) hj in
@@ -199,12 +191,11 @@ module _ (code : Code) (base : ℕ) (symbols slots : Addresses) (mem : Memory) (
         let f = placed.filled u.0 _ u.1 in
         let g = placed.filled l.0 _ l.1 u.0 _ f.0 u.1 refl f.1 in
         let there = name_leads _ f.0 f.1 in
-        let le : at + 4 + 4 ≤ length code.bytes = ends k _ hk in
         record {
           distance = distance_to (wrap (base + at)) f.0;
           near = f.2.0;
           leads = leads_to at f.0 there.1 ∙ sym there.0;
-          holds = holds_both at (distance_to (wrap (base + at)) f.0) (omega arith) f.2.1.aims f.2.1.kept g.aims g.kept;
+          holds = holds_both at (distance_to (wrap (base + at)) f.0) (omega (arith, ends k _ hk)) f.2.1.aims f.2.1.kept g.aims g.kept;
         }
 
     -- the distance of a call is whole in its two words
@@ -213,13 +204,11 @@ module _ (code : Code) (base : ℕ) (symbols slots : Addresses) (mem : Memory) (
         let u = reloc_reported same k at RiscvCallPlt (target.ExternalName name) (pos 0) h in
         let f = placed.filled u.0 _ u.1 in
         let sum = sum_leads (address_of_name symbols name.number) (pos 0) f.0 f.1 in
-        let fits : f.0 < 2 ^ 64 = omega arith in
-        let le : at + 8 ≤ length code.bytes = ends k _ h in
-        let here = sym (window_from mem base (length code.bytes) at 8 (omega arith)) in
+        let here = sym (window_from mem base (length code.bytes) at 8 (omega (arith, ends k _ h))) in
         record {
           distance = distance_to (wrap (base + at)) f.0;
           near = f.2.0;
-          leads = leads_to at f.0 fits ∙ sym sum;
+          leads = leads_to at f.0 (omega arith) ∙ sym sum;
           aims = subst (λ w. Aims PCRel32 w (distance_to (wrap (base + at)) f.0)) here f.2.1.aims;
           kept = subst (SameOutside (marks_of PCRel32) (window code.bytes at 8)) here f.2.1.kept;
         }

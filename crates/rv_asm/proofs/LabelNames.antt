@@ -1,16 +1,15 @@
 -- Which labels are bound and named, how long code may be, and that a buffer can be finished.
 use Rattle.std.proofs.Common.{[], ap, arith, Bool, cond, false, inl, inr, length, List, None, Option, refl, Some, subst, suc, sym, true, ℕ, ⊎_elim, ◌*◌, ◌++◌, ◌+◌, ◌-◌, ◌<◌, ◌||◌, ◌∙◌, ◌∷◌, ◌≡◌, ◌≤◌, ◌⊎◌}
-use Rattle.std.proofs.lemmas.Bool.{eq-eqb}
 use Rattle.std.proofs.lemmas.List.{append-nil}
-use Rattle.std.specs.Prelude.{is_some, nat_eq, nat_le, slice_get}
+use Rattle.std.specs.Prelude.{is_some, nat_le, slice_get}
 use Rattle.mach_buffer.specs.Buffer.{labels_of}
 use Rattle.mach_uses.specs.Labels.{listed}
 use Rattle.mach_uses.specs.declared.uses.LabelPlace.{LabelPlace}
 use Rattle.rv_inst.specs.declared.inst.CondBrTarget.TheVariants.{Label}
-use Rattle.rv_asm.proofs.Words.{After, allocated_of, append_each, Appends, AppendsBy, AppendsInst, AppendsIsland, AppendsSequence, Around, before_last, Bind, binding_line, BindPut, binds, binds_from, both_lists, bound_kept, Branches, broken_rule, Buffer, bytes_of, bytes_put, CanFinish, CanReach}
+use Rattle.rv_asm.proofs.Words.{nat_tests, After, allocated_of, append_each, Appends, AppendsBy, AppendsInst, AppendsIsland, AppendsSequence, Around, before_last, Bind, binding_line, BindPut, binds_from, both_lists, bound_kept, Branches, broken_rule, Buffer, bytes_of, bytes_put, CanFinish, CanReach}
 use Rattle.rv_asm.proofs.Words.{cases_eq, cases_lt, code_limit, comes_from, Constant, constant_label, constants_sum, Context, core, deadlines, due_by, due_total, Each, each_more, each_none, emitted_keeps, end_after, ends_within, Extent, extent_of, Fallthrough, few_allocated, few_ways, Finishes}
 use Rattle.rv_asm.proofs.Words.{first_constant, first_inner, has_veneer_of, HasSlack, high_kept, Inst, inst_code, inst_labels, inst_rule, inst_sum, inst_ways, is_bound, is_far, IsConstantLabel, IsFarUse, Island, IslandIfNeeded, IsNamed, IsSoundBuffer, IsUsable, Jal20, jump_kind, Jumps, label_kinds}
-use Rattle.rv_asm.proofs.Words.{LabelUse, last_end, last_near, leb-false, length-append, Line, line_space, line_sum, lines_sum, LineSpan, LinesStand, lt-ltb, MachLabel, map-append, most_counts, Named, named_labels, named_of, no_own, Nowhere, or_parts, PCRelLo12I, pending, pending_at, place_of, Put}
+use Rattle.rv_asm.proofs.Words.{LabelUse, last_end, last_near, leb-false, length-append, Line, line_space, line_sum, lines_sum, LineSpan, LinesStand, lt-ltb, MachLabel, map-append, most_counts, Named, named_labels, named_of, no_own, Nowhere, PCRelLo12I, pending, pending_at, place_of, Put}
 use Rattle.rv_asm.proofs.Words.{reach_from_slack, reaches_from_slack, recorded, recorded_get, Refers, RefersConstant, registered_of, reserve_from, reserve_of, reserve_other, room_keeps, shape_of, size_limit, size_sum, Sized, slack_from_reach, slack_same, slice_get-append, slice_get-append_last}
 use Rattle.rv_asm.proofs.Words.{space_in, start_of, table_of, target_names, target_uses, Targets, targets_of, total, true≢false, try_call_of, try_labels, TryCallInfo, Use, use_at, use_usable, uses_by, uses_in, uses_kinds, uses_of, uses_start, veneers_reach, ways_more, Words, words_in, words_long}
 use Rattle.rv_asm.proofs.Words.{words_pending, words_within}
@@ -36,13 +35,9 @@ binds_given spans i (Bind l ∷ lines) = ap (λ bs. (record { label = l; offset 
 binds_next : (lines : List Line) (spans : List LineSpan) (line : Line) (span : LineSpan) → length spans ≡ length lines → binds_from (spans ++ span ∷ []) 0 (lines ++ line ∷ []) ≡ binds_from spans 0 lines ++ own_binds (length spans) span.start span.end line
 binds_next lines spans line span count = binds_given (spans ++ span ∷ []) 0 (lines ++ line ∷ []) ∙ given_next own_binds lines spans line span count ∙ ap (λ bs. bs ++ own_binds (length spans) span.start span.end line) (sym (binds_given spans 0 lines))
 
-or_assoc : (a b c : Bool) → (a || (b || c)) ≡ ((a || b) || c)
-or_assoc true b c = refl
-or_assoc false b c = refl
-
 pub bound_append : (lines more : List Line) (label : ℕ) → is_bound (lines ++ more) label ≡ (is_bound lines label || is_bound more label)
 bound_append [] more label = refl
-bound_append (line ∷ lines) more label = ap (λ b. binds line label || b) (bound_append lines more label) ∙ or_assoc (binds line label) (is_bound lines label) (is_bound more label)
+bound_append (line ∷ lines) more label = grind (arith, bound_append lines more label)
 
 -- ---- the uses and what they name
 
@@ -86,10 +81,7 @@ no_more lines b h j u at = let g = h j u at in (g.0, subst (λ ls. IsKnownLabel 
 -- ---- an island and a sequence
 
 island_keeps : (old new : Buffer) → AppendsIsland old new → Keeps old new
-island_keeps old new p label low h = ⊎_elim
-    (λ e. ap is_some (ap (place_of new) e ∙ p.bound))
-    (λ other. ap is_some (p.places label low other) ∙ h)
-    (cases_eq label p.after_island.number)
+island_keeps old new p label low h = grind (arith, p.bound, p.places label low, cases_eq label p.after_island.number)
 
 good_island : (lines : List Line) (old new : Buffer) → AppendsIsland old new → AreGood lines old → AreGood lines new
 good_island lines old new p h =
@@ -169,11 +161,7 @@ own_named lines inst number o = record { index = length lines; line = Put inst; 
 
 -- labels that are bound stay so
 code_bound : {count : ℕ} {code : List ℕ} {own : List (Use LabelUse)} {old new : Buffer} → AppendsSequence count code own old new → Keeps old new
-code_bound {old = old} {new = new} p label low = on (place_of old label) refl
-  where
-    on : (o : Option ℕ) → place_of old label ≡ o → is_some o ≡ true → is_some (place_of new label) ≡ true
-    on None e h = absurd (cc)
-    on (Some at) e h = ap is_some (bound_kept p label at e)
+code_bound p label low h = grind (arith, bound_kept p label)
 
 -- uses are put that are good
 good_code : (lines more : List Line) {count : ℕ} (code : List ℕ) (own : List (Use LabelUse)) (old new : Buffer) → AppendsSequence count code own old new → Each (IsGood (lines ++ more) new) own → AreGood lines old → AreGood (lines ++ more) new
@@ -237,15 +225,11 @@ inst_named context lines spans inst span old new n count p =
     let then_ = emitted_keeps context inst p.mid new p.emitted in
     named_from (lines ++ Put inst ∷ []) (spans ++ span ∷ []) new
     (then_.0 ∙ first.0 ∙ n.labels ∙ sym (append-nil _) ∙ sym (binds_next lines spans (Put inst) span count))
-    (λ label low free.
-    then_.1 label low ∙ first.1 label low ∙ n.unbound label low ((or_parts (is_bound lines label) false (sym (bound_append lines (Put inst ∷ []) label) ∙ free)).0))
+    (λ label low free. grind (arith, then_.1 label low, first.1 label low, n.unbound label low, bound_append lines (Put inst ∷ []) label))
     (good_emitted context lines inst p.mid new p.emitted (good_room lines line_space old p.mid p.made p.room (good_from_named lines spans old n)))
 
 bind_keeps : (label : MachLabel) (old new : Buffer) (span : LineSpan) → BindPut label old new span → Keeps old new
-bind_keeps label old new span p other low h = ⊎_elim
-    (λ e. ap is_some (ap (place_of new) e ∙ p.bound))
-    (λ differ. ap is_some (p.kept other differ) ∙ h)
-    (cases_eq other label.number)
+bind_keeps label old new span p other low h = grind (arith, p.bound, p.kept other, cases_eq other label.number)
 
 -- a label of the listing is reported
 listed_low : (label : MachLabel) (at : ℕ) → label.number < first_inner → listed label at ≡ (record { label = label; offset = at }) ∷ []
@@ -253,13 +237,9 @@ listed_low label at low = ap (λ b. cond b ((record { label = label; offset = at
 
 bind_named : (context : Context) (lines : List Line) (spans : List LineSpan) (label : MachLabel) (span : LineSpan) (old new : Buffer) → label.number < first_inner → Named lines spans old → length spans ≡ length lines → BindPut label old new span → Named (lines ++ Bind label ∷ []) (spans ++ span ∷ []) new
 bind_named context lines spans label span old new low n count p =
-    let own : labels_of new ≡ binds_from spans 0 lines ++ own_binds (length spans) span.start span.end (Bind label) =
-    p.labels ∙ (λ i. n.labels i ++ listed_low label (length (bytes_of old)) low i) ∙ ap (λ at. binds_from spans 0 lines ++ (record { label = label; offset = at }) ∷ []) (sym p.start) in
     named_from (lines ++ Bind label ∷ []) (spans ++ span ∷ []) new
-    (own ∙ sym (binds_next lines spans (Bind label) span count))
-    (λ other lt free.
-    let parts = or_parts (is_bound lines other) (is_bound (Bind label ∷ []) other) (sym (bound_append lines (Bind label ∷ []) other) ∙ free) in
-    p.kept other (λ e. true≢false (sym (eq-eqb label.number other (sym e)) ∙ (or_parts (nat_eq label.number other) false parts.1).0)) ∙ n.unbound other lt parts.0)
+    (grind (arith, p.labels, n.labels, listed_low label (length (bytes_of old)) low, p.start, binds_next lines spans (Bind label) span count))
+    (λ other lt free. grind (arith, nat_tests, bound_append lines (Bind label ∷ []) other, p.kept other, n.unbound other lt))
     (good_as (lines ++ Bind label ∷ []) new (recorded (uses_of old)) (ap recorded p.uses)
     (λ j u e. good_kept lines (Bind label ∷ []) old new (bind_keeps label old new span p) u (good_from_named lines spans old n j u e)))
 

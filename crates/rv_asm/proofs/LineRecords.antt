@@ -12,8 +12,8 @@ use Rattle.rv_ops.specs.Fpu.{is_to_integer}
 use Rattle.mach_records.specs.declared.records.FinalizedMachExceptionHandler.TheVariants as to
 use Rattle.rv_asm.proofs.Words.{Abs8, access_records, After, AllByRecursion, Around, Bind, broken_rule, Buffer, Call, call_extent, call_size, CallInd, Constant, ConstPlace, Context, end_of, Extent, extent_of, ExternalName, field_size, FillsInLine, finalized_handler, flat_map-append, FpuRR, BrTable}
 use Rattle.rv_asm.proofs.Words.{FrameLayout, handler_label, Inst, inst_labels, inst_records, inst_registers, inst_rule, is_virtual, IsaFlags, IsApart, IsGap, Island, IsOutside, IsSized, IsSpan, keeps, label_start, Line, line_records, LineSpan, LinesStand, list_any, Load, LoadExtNameFar, EmitIsland}
-use Rattle.rv_asm.proofs.Words.{LoadExtNameGot, LoadExtNameNear, loads_unless, locate, MachLabel, MachRecord, MachReloc, named_labels, offset_or_zero, patch_records, place_of, Put, record_relocs, record_tries, record_unwinds, records_from, Reloc, relocs_in, return_records, ReturnCall, same_Some}
-use Rattle.rv_asm.proofs.Words.{SavesReal, slice_get_within, sp_to_fp_of, StackLoad, start_of, StepSaves, Store, TrapCode, tries_in, try_labels, TryCallInfo, Unwind, unwinds_in, Virtual, Words, WordsApart, ReturnCallInd}
+use Rattle.rv_asm.proofs.Words.{LoadExtNameGot, LoadExtNameNear, loads_unless, locate, MachLabel, MachRecord, MachReloc, named_labels, offset_or_zero, patch_records, place_of, Put, record_relocs, record_unwinds, records_from, Reloc, relocs_in, return_records, ReturnCall, same_Some, SavesReal}
+use Rattle.rv_asm.proofs.Words.{slice_get_within, sp_to_fp_of, StackLoad, start_of, StepSaves, Store, TrapCode, tries_in, try_labels, TryCallInfo, Unwind, unwinds_in, Virtual, Words, WordsApart, ReturnCallInd}
 use Rattle.rv_asm.proofs.LabelNames.{bound_place}
 use Rattle.rv_asm.proofs.RefusalOrder.{AllBound, all_both, all_first}
 
@@ -83,10 +83,7 @@ module _ (f g : ℕ → ℕ) where
   lines_agree : (context : Context) (spans : List LineSpan) (i : ℕ) (lines : List Line) → ((k : ℕ) (line : Line) → slice_get lines k ≡ Some line → Agree (named_labels line)) → tries_in f (records_from context spans i lines) ≡ tries_in g (records_from context spans i lines)
   lines_agree context spans i [] named = refl
   lines_agree context spans i (line ∷ lines) named =
-      let own = line_records context (start_of spans i) (end_of spans i) line in
-      let more = records_from context spans (suc i) lines in
-      let first = line_agree context (start_of spans i) (end_of spans i) line (named 0 line refl) in
-      flat_map-append (record_tries f) own more ∙ (λ j. first j ++ (lines_agree context spans (suc i) lines (λ k next e. named (suc k) next e)) j) ∙ sym (flat_map-append (record_tries g) own more)
+      grind (arith, flat_map-append, line_agree context (start_of spans i) (end_of spans i) line (named 0 line refl), lines_agree context spans (suc i) lines (λ k next e. named (suc k) next e))
 
 -- a label that is bound has the offset of the line that binds it
 bound_agree : {context : Context} (lines : List Line) (spans : List LineSpan) (b : Buffer) → LinesStand context lines spans b → (labels : List MachLabel) → AllBound lines labels → Agree (offset_or_zero (place_of b)) (label_start spans lines) labels
@@ -127,10 +124,8 @@ line_saves context start end (Bind label) rule = tt
 pub lines_save : (context : Context) (spans : List LineSpan) (i : ℕ) (lines : List Line) → ((k : ℕ) (line : Line) → slice_get lines k ≡ Some line → broken_rule context line ≡ None) → AllByRecursion SavesReal (unwinds_in (records_from context spans i lines))
 lines_save context spans i [] ruled = tt
 lines_save context spans i (line ∷ lines) ruled =
-    let first = line_records context (start_of spans i) (end_of spans i) line in
-    let rest = records_from context spans (suc i) lines in
-    subst (AllByRecursion SavesReal) (sym (flat_map-append record_unwinds first rest))
-    (all_both SavesReal (unwinds_in first) (unwinds_in rest) (line_saves context (start_of spans i) (end_of spans i) line (ruled 0 line refl)) (lines_save context spans (suc i) lines (λ k l h. ruled (suc k) l h)))
+    rw (flat_map-append record_unwinds (line_records context (start_of spans i) (end_of spans i) line) (records_from context spans (suc i) lines))
+    (all_both SavesReal _ _ (line_saves context (start_of spans i) (end_of spans i) line (ruled 0 line refl)) (lines_save context spans (suc i) lines (λ k. ruled (suc k))))
 
 -- ==== The bytes that relocations fill: each relocation's are in the span of its line, among its words, and no two share one; and none is
 -- a constant's.

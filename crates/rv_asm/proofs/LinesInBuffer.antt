@@ -1,15 +1,14 @@
 -- What a line appends to the buffer, what lasts in it, and what the loop of `assemble` keeps of where lines stand.
-use Rattle.std.proofs.Common.{[], ap, append-nil, arith, Bool, false, inl, inr, length, List, None, Option, pos, refl, Some, subst, suc, sym, true, zero, ℕ, ⊎_elim, ◌%◌, ◌++◌, ◌+◌, ◌-◌, ◌<◌, ◌∙◌, ◌∷◌, ◌≡◌, ◌≤◌, ◌⊎◌}
+use Rattle.std.proofs.Common.{[], ap, append-nil, arith, Bool, inl, inr, length, List, None, Option, pos, refl, Some, subst, suc, sym, zero, ℕ, ⊎_elim, ◌%◌, ◌++◌, ◌+◌, ◌-◌, ◌<◌, ◌∙◌, ◌∷◌, ◌≡◌, ◌≤◌, ◌⊎◌}
 use Rattle.std.proofs.lemmas.Bool.{eq-eqb}
 use Rattle.std.specs.Prelude.{nat_eq, slice_get}
 use Rattle.rv_emit.specs.EmitRuns.{IsBuilt}
-use Rattle.rv_asm.proofs.Words.{adds_both, adds_none, AddsConstants, After, AllByRecursion, AllClear, AllStand, append_none, appended_named, appended_records, Appends, appends, AppendsBy, AreWindows, Around, before_or_last, below, Bind, BindPut, broken_rule, BrTable, Buffer, bytes_of, bytes_put}
-use Rattle.rv_asm.proofs.Words.{Call, call_extent, call_ind_stands, call_stands, CallInd, CallReturn, CanReach, cond-false, cond-true, Constant, constants_after, constants_last, constants_of, ConstPlace, Context, deadlines, EmitIsland, EmitVState, empty_built, end_before, end_of, EndsWithin, Slot}
-use Rattle.rv_asm.proofs.Words.{even_length, Extent, extent_of, FieldsStand, gap_last, gap_put, GapStandsIn, grows_put, HasWindows, Inst, inst_constant, inst_records, inst_rule, InstPut, is_needed, is_pending, IsaFlags, Island, IslandIfNeeded, IsSoundBuffer, label_kinds, LabelUse, Lasts, lasts_more}
-use Rattle.rv_asm.proofs.Words.{length-append, Line, line_constant, line_records, line_returns, line_space, LinePut, LineSpan, LinesStand, LineStands, loads_unless, MachLabel, marks_of, named_by, named_of, ne_eqb, number_of, parts_are_self_contained, parts_last, parts_of, parts_put, PartsIn}
-use Rattle.rv_asm.proofs.Words.{pending, place_of, Put, recorded, records_of, registered_of, result_loads, Return, return_at, return_from, return_of, return_size, ReturnCall, ReturnCallInd, returns_from, ReturnsWithin, room_named, room_records, same_Some, setting_beyond, Shape, shape_of, short_jalr}
-use Rattle.rv_asm.proofs.Words.{size_of, SpansIn, StackLoad, StandInTurn, StandOutside, StandsAfter, start_of, t0_parts_long, t0_slots, table_parts_long, table_slots, table_some, table_space, table_stands, tail_parts_long, tail_slots, TryCallInfo, Use, uses_of, VCodeConstant, Words, words_in}
-use Rattle.rv_asm.proofs.Words.{words_long, WordsApart, AppendsIsland}
+use Rattle.rv_asm.proofs.Words.{adds_both, adds_none, AddsConstants, After, AllByRecursion, AllClear, AllStand, append_none, appended_named, appended_records, Appends, appends, AppendsBy, Around, before_or_last, below, Bind, BindPut, broken_rule, BrTable, Buffer, bytes_of, bytes_put, Call}
+use Rattle.rv_asm.proofs.Words.{call_extent, call_ind_stands, call_stands, CallInd, CallReturn, CanReach, cond-false, cond-true, Constant, constants_after, constants_last, constants_of, ConstPlace, Context, EmitIsland, EmitVState, empty_built, end_before, end_of, EndsWithin, Slot, even_length}
+use Rattle.rv_asm.proofs.Words.{Extent, extent_of, FieldsStand, gap_last, gap_put, GapStandsIn, grows_put, HasWindows, Inst, inst_constant, inst_records, inst_rule, InstPut, IsaFlags, Island, IslandIfNeeded, IsSoundBuffer, label_kinds, LabelUse, Lasts, lasts_more, length-append, Line, line_constant}
+use Rattle.rv_asm.proofs.Words.{line_records, line_returns, line_space, LinePut, LineSpan, LinesStand, LineStands, loads_unless, MachLabel, marks_of, named_by, named_of, ne_eqb, number_of, parts_are_self_contained, parts_last, parts_of, parts_put, PartsIn, pending, place_of, Put, recorded}
+use Rattle.rv_asm.proofs.Words.{records_of, registered_of, result_loads, Return, return_at, return_from, return_of, return_size, ReturnCall, ReturnCallInd, returns_from, ReturnsWithin, room_named, room_records, same_Some, setting_beyond, Shape, shape_of, short_jalr, size_of, SpansIn, StackLoad}
+use Rattle.rv_asm.proofs.Words.{StandInTurn, StandOutside, StandsAfter, start_of, t0_parts_long, t0_slots, table_parts_long, table_slots, table_some, table_space, table_stands, tail_parts_long, tail_slots, TryCallInfo, uses_of, VCodeConstant, Words, words_in, words_long, WordsApart, AppendsIsland}
 use Rattle.rv_asm.proofs.Spans.{end_last, records_next, start_last, start_more, as_before, as_last}
 use Rattle.rv_code.specs.Slots.{Ask, Slots}
 use Rattle.std.proofs.lemmas.Option.{none-some}
@@ -156,10 +155,7 @@ pub record LineAdded (context : Context) (line : Line) (old new : Buffer) (span 
 
 -- where no use is, no island is put
 none_put : (distance : ℕ) (old new : Buffer) (made : Bool) → IslandIfNeeded distance old new made → uses_of old ≡ [] → length (bytes_of new) ≡ length (bytes_of old)
-none_put distance old new made m none = ⊎_elim
-    (λ same. ap (λ (b : Buffer). length (bytes_of b)) same.1)
-    (λ put. let needed : true ≡ false = sym put.0 ∙ m.asked ∙ ap (λ us. is_needed (length (bytes_of old)) distance (deadlines (is_pending label_kinds (place_of old)) label_kinds us)) none in absurd (cc))
-    m.put
+none_put distance old new made m none = grind (arith, m.put, m.asked, none)
 
 inst_added : (context : Context) (setting : EmitVState) (inst : Inst) (old new : Buffer) (span : LineSpan) → inst_rule context inst ≡ None → IsSoundBuffer old → HasWindows old → FieldsStand (shape_of old) → InstPut context setting inst old new span → LineAdded context (Put inst) old new span
 inst_added context setting inst old new span rule s w f p =
@@ -213,8 +209,7 @@ bind_added context label old new span s w f p = record {
     ends = let e = p.end in let same : length (bytes_of new) ≡ length (bytes_of old) = ap (length {A = ℕ}) p.bytes in omega arith;
   };
   end = p.end ∙ ap (length {A = ℕ}) (sym p.bytes);
-  windows = subst (λ (bs : List ℕ). AreWindows label_kinds bs (uses_of new)) (sym p.bytes)
-      (subst (λ (us : List (Use LabelUse)). AreWindows label_kinds (bytes_of old) us) (sym p.uses) w);
+  windows = rw (p.bytes, p.uses) w;
   fields = record {
     ends = λ k r h. subst (λ (bs : List ℕ). EndsWithin (length bs) r.offset r.event) (sym p.bytes) (f.ends k r (ap (λ rs. slice_get rs k) (sym p.records) ∙ h));
     clear = λ j u h. subst (λ rs. AllClear rs u.offset (length (marks_of u.kind))) (sym p.records) (f.clear j u (ap (λ us. slice_get us j) (sym p.uses) ∙ h));
@@ -402,18 +397,11 @@ later_line flags i j start (Bind label) more lt = refl
 found_from : (flags : IsaFlags) (spans : List LineSpan) (i k : ℕ) (lines : List Line) (inst : Inst) (r : Return) → slice_get lines k ≡ Some (Put inst) → return_of flags inst ≡ Some r → return_at (returns_from flags spans i lines) (i + k) ≡ start_of spans (i + k) + r.offset
 found_from flags spans i k [] inst r e returned = absurd (cc)
 found_from flags spans i zero (line ∷ lines) inst r e returned =
-    let here : i ≡ i + 0 = omega arith in
-    let more = returns_from flags spans (suc i) lines in
-    subst (λ n. return_at (returns_from flags spans i (line ∷ lines)) n ≡ start_of spans n + r.offset) here
-    (ap (λ l. return_at (line_returns flags i (start_of spans i) l ++ more) i) (same_Some line (Put inst) e) ∙ first_return i (start_of spans i) (return_of flags inst) r more returned)
+    grind (arith, first_return i (start_of spans i) (return_of flags inst) r (returns_from flags spans (suc i) lines) returned)
 found_from flags spans i (suc k) (line ∷ lines) inst r e returned =
-    let there : suc i + k ≡ i + suc k = omega arith in
-    let more = returns_from flags spans (suc i) lines in
-    later_line flags i (i + suc k) (start_of spans i) line more (omega arith)
-    ∙ subst (λ n. return_at more n ≡ start_of spans n + r.offset) there (found_from flags spans (suc i) k lines inst r e returned)
+    grind (arith, later_line flags i (i + suc k) (start_of spans i) line (returns_from flags spans (suc i) lines) (omega arith), found_from flags spans (suc i) k lines inst r e returned)
 
 -- where the call of a line returns
 pub return_found : (flags : IsaFlags) (spans : List LineSpan) (i : ℕ) (lines : List Line) (inst : Inst) (r : Return) → slice_get lines i ≡ Some (Put inst) → return_of flags inst ≡ Some r → return_at (returns_from flags spans 0 lines) i ≡ start_of spans i + r.offset
 return_found flags spans i lines inst r e returned =
-    let here : 0 + i ≡ i = omega arith in
-    subst (λ n. return_at (returns_from flags spans 0 lines) n ≡ start_of spans n + r.offset) here (found_from flags spans 0 i lines inst r e returned)
+    grind (arith, found_from flags spans 0 i lines inst r e returned)

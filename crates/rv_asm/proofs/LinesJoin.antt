@@ -2,7 +2,7 @@
 use Rattle.std.proofs.Common.{[], ap, append_assoc, arith, Bool, false, inl, inr, length, List, lit≤, None, Option, refl, Some, subst, suc, sym, true, zero, ℕ, ⊎_elim, ◌%◌, ◌*◌, ◌+◌, ◌<◌, ◌∙◌, ◌∷◌, ◌≡◌, ◌≤◌}
 use Rattle.std.proofs.lemmas.List.{append-nil}
 use Rattle.std.specs.Prelude.{if◌then◌else◌, nat_lt, slice_get, unwrap_or, ◌++◌, ◌⊎◌}
-use Rattle.rv_code.specs.InstRuns.{ComesOut, environment, Resumes}
+use Rattle.rv_code.specs.InstRuns.{ComesOut, Enters, environment, Resumes}
 use Rattle.rv_full.proofs.LargerMachine.{integer_run}
 use Rattle.rv_full.proofs.Runs.{fiter_after, fiter_none}
 use Rattle.rv_full.specs.Steps.{fiter}
@@ -77,33 +77,67 @@ pub record IsThreaded (job : Job) (code : Code) (known : Known) : Type 0 where
 
 -- ---- one line
 
--- a line of the integer core runs as it means
-core_comes : (site : Site) (line : Line) (start after : ℕ) (s : State) (v : Values) → is_integer_line site.context.frame line ≡ true → length site.bytes < code_limit → ((label at : ℕ) → site.place label ≡ Some at → at ≤ length site.bytes) → LineIn site line start after →
-    broken_rule site.context line ≡ None → is_stuck site.context.frame line ≡ false → AreOutside site.base (length site.bytes) (writes_of (environment site start after) line v) → IsPlacedAt site s.values.mem → s.pc ≡ wrap (site.base + start) → IsState s → AreValues v → Same v s.values →
-    ComesOut site start after (exit_of (environment site start after) line v) (temporaries_of line) (effect_of (environment site start after) line v) s
-core_comes site (Put inst) start after s v core short labels h rule fit outside placed pc is_state are_values same = (inst_runs site h.setting inst core rule fit).run start after s v (record {
-  even = h.even;
-  within = h.within;
-  short = short;
-  labels = labels;
-  stands = h.stands;
-  placed = placed;
-  pc = pc;
-  is_state = is_state;
-  are_values = are_values;
-  same = same;
-}) outside
-core_comes site (Bind label) start after s v core short labels h rule fit outside placed pc is_state are_values same = record {
-  steps = 0;
-  state = s;
-  moved = lit≤ tt;
-  ran = iter_none site.context.flags s;
-  arrives = pc ∙ ap (λ n. wrap (site.base + n)) h;
-  same = same_but [] same;
-  is_state = is_state;
-  are_values = are_values;
-  placed = placed;
-}
+-- labels stand within the code
+labels_within : (job : Job) (code : Code) (known : Known) → IsThreaded job code known → (mem : Memory) (base label at : ℕ) → known.place label ≡ Some at → at ≤ length (bytes_from mem base (length code.bytes))
+labels_within job code known t mem base label at h = subst (λ n. at ≤ n) (sym (from_long mem base (length code.bytes))) (t.placed label at h)
+
+-- with these values the machine has come to a line, in code that is placed
+module _ (job : Job) (code : Code) (known : Known) (t : IsThreaded job code known) (base : ℕ) (symbols slots : Addresses) (i : ℕ) (s : State) (v : Values)
+    (placed : IsPlaced code base symbols slots s.values.mem) (is_state : IsState s) (are_values : AreValues v) (same : Same v s.values) where
+  abbrev here : Site
+  here = site_of job code known base symbols slots s.values.mem
+
+  short : length here.bytes < code_limit
+  short = subst (λ n. n < code_limit) (sym (from_long s.values.mem base (length code.bytes))) t.short
+
+  still : IsPlacedAt here s.values.mem
+  still = placed_at code base symbols slots s.values.mem (context_of job) known.place known.records placed
+
+  abbrev stood : (inst : Inst) → slice_get job.lines i ≡ Some (Put inst) → InstIn here inst (start_of code.lines i) (end_of code.lines i)
+  stood inst e = t.line base symbols slots s.values.mem placed i (Put inst) e
+
+  -- at its start
+  pub enters : (inst : Inst) (e : slice_get job.lines i ≡ Some (Put inst)) → s.pc ≡ address_of code base (At i) → Enters here (start_of code.lines i) (end_of code.lines i) (parts_of here.context (stood inst e).setting inst) s v
+  enters inst e pc = record { even = (stood inst e).even; within = (stood inst e).within; short = short; labels = labels_within job code known t s.values.mem base; stands = (stood inst e).stands; placed = still; pc = pc; is_state = is_state; are_values = are_values; same = same }
+
+  -- where its call returns
+  pub enters_back : (inst : Inst) (r : Return) (e : slice_get job.lines i ≡ Some (Put inst)) → return_of job.flags inst ≡ Some r → s.pc ≡ address_of code base (Returned i) →
+      Resumes here (start_of code.lines i) (end_of code.lines i) (start_of code.lines i + r.offset) (parts_of here.context (stood inst e).setting inst) s v
+  enters_back inst r e is pc = record {
+    even = (stood inst e).even;
+    within = (stood inst e).within;
+    short = short;
+    stands = (stood inst e).stands;
+    placed = still;
+    pc = pc ∙ ap (λ n. wrap (base + n)) (ap (λ rs. return_at rs i) t.returns ∙ return_found job.flags code.lines i job.lines inst r e is);
+    is_state = is_state;
+    are_values = are_values;
+    same = same;
+  }
+
+  -- a bind takes no step
+  pub passes : (label : MachLabel) → slice_get job.lines i ≡ Some (Bind label) → s.pc ≡ address_of code base (At i) → ComesOut here (start_of code.lines i) (end_of code.lines i) Next [] v s
+  passes label e pc = record {
+    steps = 0;
+    state = s;
+    moved = lit≤ tt;
+    ran = iter_none job.flags s;
+    arrives = pc ∙ ap (λ n. wrap (base + n)) (t.line base symbols slots s.values.mem placed i (Bind label) e);
+    same = same_but [] same;
+    is_state = is_state;
+    are_values = are_values;
+    placed = still;
+  }
+
+  abbrev read_among : Environment
+  read_among = environment here (start_of code.lines i) (end_of code.lines i)
+
+  -- a line of the integer core runs as it means
+  pub core_comes : (line : Line) → slice_get job.lines i ≡ Some line → is_integer_line job.frame line ≡ true → AreOutside base (length code.bytes) (writes_of read_among line v) → s.pc ≡ address_of code base (At i) →
+      ComesOut here (start_of code.lines i) (end_of code.lines i) (exit_of read_among line v) (temporaries_of line) (effect_of read_among line v) s
+  core_comes (Put inst) e core outside pc =
+      (inst_runs here (stood inst e).setting inst core (t.ruled i (Put inst) e) (t.fit i (Put inst) e)).run _ _ s v (enters inst e pc) (subst (λ n. AreOutside base n (writes_of read_among (Put inst) v)) (sym (from_long s.values.mem base (length code.bytes))) outside)
+  core_comes (Bind label) e core outside pc = passes label e pc
 
 -- ---- where it leads
 
@@ -214,17 +248,12 @@ came job code known t base symbols slots i line entry s v e core placed bound ou
 comes : (job : Job) (code : Code) (known : Known) → IsThreaded job code known → (base : ℕ) (symbols slots : Addresses) (i : ℕ) (line : Line) (s : State) (v : Values) → slice_get job.lines i ≡ Some line → is_integer_line job.frame line ≡ true → WritesOutside job code base symbols slots i line v →
     IsPlaced code base symbols slots s.values.mem → IsState s → AreValues v → s.pc ≡ address_of code base (At i) → Same v s.values → Comes job code base symbols slots (At i) v s
 comes job code known t base symbols slots i line s v e core outside placed is_state are_values pc same =
-    let mem = s.values.mem in
-    let site = site_of job code known base symbols slots mem in
+    let site = site_of job code known base symbols slots s.values.mem in
     let env = environment_of job code base symbols slots i in
     let start = start_of code.lines i in
     let end = end_of code.lines i in
-    let long = from_long mem base (length code.bytes) in
-    let a = agrees job code known t base symbols slots mem i line e in
-    let clear = subst (λ n. AreOutside base n (writes_of (environment site start end) line v)) (sym long) (subst (AreOutside base (length code.bytes)) (sym (writes_agree line v a)) outside) in
-    let short : length site.bytes < code_limit = subst (λ n. n < code_limit) (sym long) t.short in
-    let within : (label at : ℕ) → site.place label ≡ Some at → at ≤ length site.bytes = λ label at h. subst (λ n. at ≤ n) (sym long) (t.placed label at h) in
-    let out = core_comes site line start end s v core short within (t.line base symbols slots mem placed i line e) (t.ruled i line e) (t.fit i line e) clear (placed_at code base symbols slots mem (context_of job) known.place known.records placed) pc is_state are_values same in
+    let a = agrees job code known t base symbols slots s.values.mem i line e in
+    let out = core_comes job code known t base symbols slots i s v placed is_state are_values same line e core (subst (AreOutside base (length code.bytes)) (sym (writes_agree line v a)) outside) pc in
     let led = subst (λ x. ComesOut site start end x (temporaries_of line) (effect_of (environment site start end) line v) s) (exit_agrees line v a) out in
     came job code known t base symbols slots i line AtStart s v e core placed (exit_bound job.lines env line v (t.named i line e)) (subst (λ w. ComesOut site start end (exit_of env line v) (temporaries_of line) w s) (effect_agrees line v a) led)
 
@@ -239,17 +268,7 @@ resumes : (job : Job) (code : Code) (known : Known) → IsThreaded job code know
 resumes job code known t base symbols slots i inst r s v e core returned placed is_state are_values pc same =
     let site = site_of job code known base symbols slots s.values.mem in
     let h = t.line base symbols slots s.values.mem placed i (Put inst) e in
-    let out = (inst_resumes site h.setting inst r core (t.ruled i (Put inst) e) returned).run (start_of code.lines i) (end_of code.lines i) s v (record {
-      even = h.even;
-      within = h.within;
-      short = subst (λ n. n < code_limit) (sym (from_long s.values.mem base (length code.bytes))) t.short;
-      stands = h.stands;
-      placed = placed_at code base symbols slots s.values.mem (context_of job) known.place known.records placed;
-      pc = pc ∙ ap (λ n. wrap (base + n)) (ap (λ rs. return_at rs i) t.returns ∙ return_found job.flags code.lines i job.lines inst r e returned);
-      is_state = is_state;
-      are_values = are_values;
-      same = same;
-    }) in
+    let out = (inst_resumes site h.setting inst r core (t.ruled i (Put inst) e) returned).run _ _ s v (enters_back job code known t base symbols slots i s v placed is_state are_values same inst r e returned pc) in
     came job code known t base symbols slots i (Put inst) AtReturn s v e (returns_in job.flags job.frame inst r returned ∙ core) placed (return_bound job.lines inst (t.named i (Put inst) e))
     (subst (λ w. ComesOut site (start_of code.lines i) (end_of code.lines i) (return_exit (Put inst)) [] w s) (sym (ap (λ o. resumed_by o v) returned)) out)
 
@@ -359,15 +378,6 @@ module _ (job : Job) (code : Code) (known : Known) (t : IsThreaded job code know
   abbrev env : Environment
   env = environment_of job code base symbols slots i
 
-  long : length full_site.bytes ≡ length code.bytes
-  long = from_long b.state.values.mem base (length code.bytes)
-
-  short : length full_site.bytes < code_limit
-  short = subst (λ n. n < code_limit) (sym long) t.short
-
-  labels : (label at : ℕ) → full_site.place label ≡ Some at → at ≤ length full_site.bytes
-  labels label at h = subst (λ n. at ≤ n) (sym long) (t.placed label at h)
-
   module _ (inst : Inst) (listed : slice_get job.lines i ≡ Some (Put inst)) where
     agree : AgreeOn (named_labels (Put inst)) own env
     agree = agrees job code known t base symbols slots b.state.values.mem i (Put inst) listed
@@ -393,36 +403,16 @@ module _ (job : Job) (code : Code) (known : Known) (t : IsThreaded job code know
         led (inr a) = inr (inl (record { there = there; steps = a.steps; state = a.state; ran = a.ran; asks = a.asks; took = a.took; answers = a.answers; few = subst (λ n. length a.took < 2 * n) means.own a.few }))
 
         by : AreOutside base (length code.bytes) (m.writes env v (m.own_of b.answers)) ⊎ IsOn base (length code.bytes) (m.writes env v (m.own_of b.answers)) → OneComes placing (At i) v b
-        by (inl outside) = led (inst_full_runs stood.setting inst (t.ruled i (Put inst) listed) (t.fit i (Put inst) listed) (record {
-          even = stood.even;
-          within = stood.within;
-          short = short;
-          labels = labels;
-          stands = stood.stands;
-          placed = placed_at code base symbols slots b.state.values.mem (context_of job) known.place known.records s.placed;
-          pc = s.pc;
-          is_state = s.is_state.state;
-          are_values = s.are_values;
-          same = s.same.ints;
-        }) s.same s.is_state (subst (λ n. AreOutside base n (m.writes own v (m.own_of b.answers))) (sym long) (subst (AreOutside base (length code.bytes)) (sym (means.writes (m.own_of b.answers))) outside)))
+        by (inl outside) = led (inst_full_runs stood.setting inst (t.ruled i (Put inst) listed) (t.fit i (Put inst) listed) (enters job code known t base symbols slots i b.state v.ints s.placed s.is_state.state s.are_values s.same.ints inst listed s.pc) s.same s.is_state
+            (subst (λ n. AreOutside base n (m.writes own v (m.own_of b.answers))) (sym (from_long b.state.values.mem base (length code.bytes))) (subst (AreOutside base (length code.bytes)) (sym (means.writes (m.own_of b.answers))) outside)))
         by (inr on) = inr (inr (record { there = there; took = b.answers; left = []; answers = sym (append-nil b.answers); on = on }))
 
     -- from where it returns
     pub return_comes : (r : Return) → return_of job.flags inst ≡ Some r → StandsAt placing (Returned i) v b → CameOut placing (Returned i) v b
     return_comes r is s =
         let h = t.line base symbols slots b.state.values.mem s.placed i (Put inst) listed in
-        let e : Resumes full_site start end (start + r.offset) (parts_of full_site.context h.setting inst) b.state v.ints = record {
-          even = h.even;
-          within = h.within;
-          short = short;
-          stands = h.stands;
-          placed = placed_at code base symbols slots b.state.values.mem (context_of job) known.place known.records s.placed;
-          pc = s.pc ∙ ap (λ n. wrap (base + n)) (ap (λ rs. return_at rs i) t.returns ∙ return_found job.flags code.lines i job.lines inst r listed is);
-          is_state = s.is_state.state;
-          are_values = s.are_values;
-          same = s.same.ints;
-        } in
-        let o = inst_full_resumes h.setting inst r (t.ruled i (Put inst) listed) is labels e s.same s.is_state in
+        let e = enters_back job code known t base symbols slots i b.state v.ints s.placed s.is_state.state s.are_values s.same.ints inst r listed is s.pc in
+        let o = inst_full_resumes h.setting inst r (t.ruled i (Put inst) listed) is (labels_within job code known t b.state.values.mem base) e s.same s.is_state in
         let means : MeansSame (inst_meaning AtReturn inst) own env v = meaning_agrees v AtReturn inst agree in
         led_out job code known t base symbols slots i (Put inst) v b AtReturn listed s (try_exit (try_call_of inst)) refl (return_bound job.lines inst (t.named i (Put inst) listed)) o.ends (sym (means.takes ((inst_meaning AtReturn inst).own_of o.took)) ∙ o.takes)
 
@@ -433,17 +423,7 @@ module _ (job : Job) (code : Code) (known : Known) (t : IsThreaded job code know
         steps = 0;
         state = b;
         ran = fiter_none job.flags b;
-        last = record {
-          steps = 0;
-          state = b.state;
-          moved = lit≤ tt;
-          ran = iter_none job.flags b.state;
-          arrives = s.pc ∙ ap (λ n. wrap (base + n)) (t.line base symbols slots b.state.values.mem s.placed i (Bind label) listed);
-          same = same_but [] s.same.ints;
-          is_state = s.is_state.state;
-          are_values = s.are_values;
-          placed = placed_at code base symbols slots b.state.values.mem (context_of job) known.place known.records s.placed;
-        };
+        last = passes job code known t base symbols slots i b.state v.ints s.placed s.is_state.state s.are_values s.same.ints label listed s.pc;
         units = s.same.units;
         is_state = s.is_state;
         answers = refl;

@@ -8,7 +8,7 @@ use Rattle.rv_asm.specs.Refusal.{lines_refusal, refusal}
 use Rattle.rv_inst.specs.Frames.{is_bad_frame, is_bad_frame_for, is_unrestorable_for}
 use Rattle.rv_inst.specs.Operands.{labels_of}
 use Rattle.rv_inst.specs.Plain.{IsPlain}
-use Rattle.rv_inst.specs.declared.error.EmitError.TheVariants.{BadFrame, TooLarge}
+use Rattle.rv_inst.specs.declared.error.EmitError.TheVariants.{BadFrame}
 use Rattle.rv_inst.specs.declared.error.Rule.{Rule}
 use Rattle.rv_inst.specs.declared.inst.CondBrTarget.TheVariants.{Label}
 use Rattle.rv_inst.specs.declared.tail_calls.TailCall.{TailCall}
@@ -246,9 +246,7 @@ first_of_none (Some x) = refl
 
 only_unbound : (job : Job) (bound : LabelTable (Unit {0})) → IsSurveyed (context_of job) job.lines bound → refusal job ≡ unbound_in (is_bound job.lines) job.lines
 unfolding refusal lines_refusal
-only_unbound job bound s =
-    (λ i. first_of (if s.frame i then Some BadFrame else None) (first_of (s.rules i) (first_of (s.once i) (first_of (unbound_in (is_bound job.lines) job.lines) (if le-ltb size_limit (size_sum (context_of job) job.lines) s.size i then Some TooLarge else None)))))
-    ∙ first_of_none _
+only_unbound job bound s = grind (arith, s.frame, s.rules, s.once, le-ltb size_limit (size_sum (context_of job) job.lines) s.size, first_of_none)
 
 pub finds_unbound : (job : Job) (bound : LabelTable (Unit {0})) (r : Result (Unit {0}) EmitError) → IsSurveyed (context_of job) job.lines bound → Finds (unbound_in (is_bound job.lines) job.lines) r → Finds (refusal job) r
 finds_unbound job bound r s found = subst (λ cause. Finds cause r) (sym (only_unbound job bound s)) found

@@ -1,5 +1,5 @@
 -- What is said of lines by their spans, and what lines give in turn, as lines and spans are added.
-use Rattle.std.proofs.Common.{[], ap, append-nil, append_assoc, arith, Bool, cond, drop, false, length, List, refl, Some, suc, sym, take, true, zero, ℕ, ◌++◌, ◌+◌, ◌-◌, ◌<◌, ◌||◌, ◌∙◌, ◌∷◌, ◌≡◌, ◌≤◌, subst}
+use Rattle.std.proofs.Common.{[], ap, append-nil, append_assoc, arith, Bool, cond, drop, false, length, List, refl, Some, suc, sym, true, zero, ℕ, ◌++◌, ◌+◌, ◌-◌, ◌<◌, ◌||◌, ◌∙◌, ◌∷◌, ◌≡◌, ◌≤◌}
 use Rattle.std.proofs.Math.Seq.{drop-append_seam}
 use Rattle.std.specs.Prelude.{nat_eq, nat_lt, option_map, slice_get, unwrap_or}
 use Rattle.rv_asm.proofs.Words.{Bind, bound_by, constants_named, constants_taken, Context, drop-append-le, end_before, end_of, first_after_island, is_after_island, is_island, is_island_at, IsaFlags, LabelUse, length-append, length-drop, Line, line_records, line_returns, LineSpan, or_place, Put}
@@ -54,17 +54,12 @@ end_last spans span = ap (λ o. unwrap_or (option_map (λ (s : LineSpan). s.end)
 -- what is so between the offsets of a line is so once spans are added
 pub as_before : (P : ℕ → ℕ → ℕ → Type 0) (spans more : List LineSpan) (i : ℕ) → i < length spans → P (end_before spans i) (start_of spans i) (end_of spans i) → P (end_before (spans ++ more) i) (start_of (spans ++ more) i) (end_of (spans ++ more) i)
 as_before P spans more i lt h =
-    subst (λ n. P n (start_of (spans ++ more) i) (end_of (spans ++ more) i)) (sym (ends_more spans more i (omega (arith, lt))))
-    (subst (λ n. P (end_before spans i) n (end_of (spans ++ more) i)) (sym (start_more spans more i lt))
-    (subst (P (end_before spans i) (start_of spans i)) (sym (end_more spans more i lt)) h))
+    rw (ends_more spans more i (omega (arith, lt)), start_more spans more i lt, end_more spans more i lt) h
 
 -- and what is so between those of a span is, where it is the last one
 pub as_last : (P : ℕ → ℕ → ℕ → Type 0) (spans : List LineSpan) (span : LineSpan) (i : ℕ) → i ≡ length spans → P (end_before spans i) span.start span.end → P (end_before (spans ++ span ∷ []) i) (start_of (spans ++ span ∷ []) i) (end_of (spans ++ span ∷ []) i)
 as_last P spans span i e h =
-    let all = spans ++ span ∷ [] in
-    subst (λ n. P n (start_of all i) (end_of all i)) (sym (ends_more spans (span ∷ []) i (omega (arith, e))))
-    (subst (λ n. P (end_before spans i) n (end_of all i)) (sym (ap (start_of all) e ∙ start_last spans span))
-    (subst (P (end_before spans i) span.start) (sym (ap (end_of all) e ∙ end_last spans span)) h))
+    rw (ends_more spans (span ∷ []) i (omega (arith, e)), ap (start_of (spans ++ span ∷ [])) e ∙ start_last spans span, ap (end_of (spans ++ span ∷ [])) e ∙ end_last spans span) h
 
 -- ---- what lines give
 
@@ -84,18 +79,12 @@ module _ {X : Type 0} (own : ℕ → ℕ → ℕ → Line → List X) where
   pub given_append : (spans : List LineSpan) (i : ℕ) (lines more : List Line) → given_from spans i (lines ++ more) ≡ given_from spans i lines ++ given_from spans (i + length lines) more
   given_append spans i [] more = let same : i ≡ i + 0 = omega arith in ap (λ n. given_from spans n more) same
   given_append spans i (line ∷ lines) more =
-      let same : suc i + length lines ≡ i + suc (length lines) = omega arith in
-      let first = own i (start_of spans i) (end_of spans i) line in
-      ap (λ rs. first ++ rs) (given_append spans (suc i) lines more ∙ ap (λ n. given_from spans (suc i) lines ++ given_from spans n more) same)
-      ∙ sym (append_assoc first (given_from spans (suc i) lines) (given_from spans (i + suc (length lines)) more))
+      grind (arith, append_assoc, given_append spans (suc i) lines more)
 
   -- one line more
   pub given_next : (lines : List Line) (spans : List LineSpan) (line : Line) (span : LineSpan) → length spans ≡ length lines → given_from (spans ++ span ∷ []) 0 (lines ++ line ∷ []) ≡ given_from spans 0 lines ++ own (length spans) span.start span.end line
   given_next lines spans line span count =
-      let at : 0 + length lines ≡ length spans = omega arith in
-      given_append (spans ++ span ∷ []) 0 lines (line ∷ [])
-      ∙ (λ i. given_spans spans (span ∷ []) 0 lines (omega arith) i ++ given_from (spans ++ span ∷ []) (at i) (line ∷ []))
-      ∙ (λ i. given_from spans 0 lines ++ append-nil (own (length spans) (start_last spans span i) (end_last spans span i) line) i)
+      grind (arith, start_last, end_last, append-nil, given_append (spans ++ span ∷ []) 0 lines (line ∷ []), given_spans spans (span ∷ []) 0 lines (omega arith))
 
 -- its records
 pub records_next : (context : Context) (lines : List Line) (spans : List LineSpan) (line : Line) (span : LineSpan) → length spans ≡ length lines → records_from context (spans ++ span ∷ []) 0 (lines ++ line ∷ []) ≡ records_from context spans 0 lines ++ line_records context span.start span.end line
@@ -121,10 +110,7 @@ island_more context (line ∷ lines) more spans more_spans i some lt =
 pub open_more : (context : Context) (lines more : List Line) (spans more_spans : List LineSpan) (i : ℕ) → length lines ≤ length spans → i ≤ length lines → first_after_island context (lines ++ more) (spans ++ more_spans) i ≡ first_after_island context lines spans i
 open_more context lines more spans more_spans zero count le = refl
 open_more context lines more spans more_spans (suc i) count le =
-    let long : length (drop i lines) ≡ length lines - i = length-drop i lines in
-    let a : is_island_at context (drop i (lines ++ more)) (spans ++ more_spans) i ≡ is_island_at context (drop i lines) spans i =
-    ap (λ ls. is_island_at context ls (spans ++ more_spans) i) (drop-append-le i lines more (omega arith)) ∙ island_more context (drop i lines) more spans more_spans i (omega arith) (omega arith) in
-    λ j. cond (a j || (behind_more spans more_spans i (omega arith)) j) i (open_more context lines more spans more_spans i count (omega arith) j)
+    grind (arith, drop-append-le, length-drop {A = Line}, island_more context (drop i lines) more spans more_spans i, behind_more, open_more context lines more spans more_spans i count (omega arith))
 
 pub open_low : (context : Context) (lines : List Line) (spans : List LineSpan) (i : ℕ) → first_after_island context lines spans i ≤ i
 open_low context lines spans zero = omega arith
@@ -159,17 +145,11 @@ bound_by_more spans more i (Bind l ∷ lines) label le =
 pub bound_by_append : (spans : List LineSpan) (i : ℕ) (lines more : List Line) (label : ℕ) → bound_by spans i (lines ++ more) label ≡ or_place (bound_by spans i lines label) (bound_by spans (i + length lines) more label)
 bound_by_append spans i [] more label = let same : i ≡ i + 0 = omega arith in ap (λ n. bound_by spans n more label) same
 bound_by_append spans i (Put inst ∷ lines) more label =
-    let same : suc i + length lines ≡ i + suc (length lines) = omega arith in
-    bound_by_append spans (suc i) lines more label ∙ ap (λ n. or_place (bound_by spans (suc i) lines label) (bound_by spans n more label)) same
+    grind (arith, bound_by_append spans (suc i) lines more label)
 bound_by_append spans i (Bind l ∷ lines) more label =
-    let same : suc i + length lines ≡ i + suc (length lines) = omega arith in
-    let rest = bound_by_append spans (suc i) lines more label ∙ ap (λ n. or_place (bound_by spans (suc i) lines label) (bound_by spans n more label)) same in
-    (λ j. cond (nat_eq l.number label) (Some (start_of spans i)) (rest j)) ∙ sym (of_cond (λ o. or_place o (bound_by spans (i + suc (length lines)) more label)) (nat_eq l.number label) (Some (start_of spans i)) (bound_by spans (suc i) lines label))
+    grind (arith, bound_by_append spans (suc i) lines more label)
 
 -- ---- the uses that are open, as one line is added
-
-open_at : (context : Context) (lines : List Line) (spans : List LineSpan) (k : ℕ) → first_after_island context lines spans (length lines) ≡ k → uses_after_island context lines spans ≡ uses_from context spans k (drop k lines)
-open_at context lines spans k e = ap (λ n. uses_from context spans n (drop n lines)) e
 
 own_last : (context : Context) (spans : List LineSpan) (line : Line) (span : LineSpan) → uses_from context (spans ++ span ∷ []) (length spans) (line ∷ []) ≡ own_uses context line span.start span.end
 own_last context spans (Put inst) span = append-nil _ ∙ (λ j. uses_in context (start_last spans span j) (end_last spans span j) inst)
@@ -178,16 +158,8 @@ own_last context spans (Bind label) span = refl
 open_next : (context : Context) (lines : List Line) (spans : List LineSpan) (line : Line) (span : LineSpan) → length spans ≡ length lines →
     first_after_island context (lines ++ line ∷ []) (spans ++ span ∷ []) (length (lines ++ line ∷ [])) ≡ cond (is_island context line span.start span.end || nat_lt (end_before spans (length lines)) span.start) (length lines) (first_after_island context lines spans (length lines))
 open_next context lines spans line span count =
-    let all = lines ++ line ∷ [] in
-    let all_spans = spans ++ span ∷ [] in
-    let n = length lines in
-    let long : length all ≡ suc n = length-append lines (line ∷ []) ∙ omega arith in
-    let start : start_of all_spans n ≡ span.start = ap (start_of all_spans) (sym count) ∙ start_last spans span in
-    let end : end_of all_spans n ≡ span.end = ap (end_of all_spans) (sym count) ∙ end_last spans span in
-    let cut : drop n all ≡ line ∷ [] = drop-append_seam lines (line ∷ []) in
-    let first : end_before all_spans n ≡ end_before spans n = ends_more spans (span ∷ []) n (omega arith) in
-    let rest : first_after_island context all all_spans n ≡ first_after_island context lines spans n = open_more context lines (line ∷ []) spans (span ∷ []) n (omega arith) (omega arith) in
-    ap (first_after_island context all all_spans) long ∙ (λ j. cond ((ap (λ ls. is_island_at context ls all_spans n) cut ∙ (λ j. is_island context line (start j) (end j))) j || nat_lt (first j) (start j)) n (rest j))
+    let long : length (lines ++ line ∷ []) ≡ suc (length lines) = length-append lines (line ∷ []) ∙ omega arith in
+    rw long (grind (arith, start_last, end_last, drop-append_seam, ends_more, open_more context lines (line ∷ []) spans (span ∷ []) (length lines) (omega arith) (omega arith)))
 
 module _ (context : Context) (lines : List Line) (spans : List LineSpan) (line : Line) (span : LineSpan) (count : length spans ≡ length lines) where
   -- an island in the line or before it: the last one
@@ -204,25 +176,14 @@ module _ (context : Context) (lines : List Line) (spans : List LineSpan) (line :
   -- an island in the line or before it: its own uses are open, and the island took the constants that all lines before it named
   pub open_own : (is_island context line span.start span.end || nat_lt (end_before spans (length lines)) span.start) ≡ true → OpenAfter (own_uses context line span.start span.end) (constants_named lines)
   open_own e =
-      let all = lines ++ line ∷ [] in
-      let all_spans = spans ++ span ∷ [] in
-      let front : take (length lines) all ≡ lines = take-append-le (length lines) lines (line ∷ []) (omega arith) ∙ take_all (length lines) lines (omega arith) in (
-        open_at context all all_spans (length lines) (first_own e) ∙ (λ j. uses_from context all_spans (sym count j) (drop-append_seam lines (line ∷ []) j)) ∙ own_last context spans line span,
-        ap (λ n. constants_named (take n all)) (first_own e) ∙ ap constants_named front,
-      )
+      (rw (first_own e) (grind (arith, drop-append_seam, own_last context spans line span)), rw (first_own e) (grind (arith, take-append-le, take_all)))
 
   -- no island: its own are added
   pub open_on : is_island context line span.start span.end ≡ false → nat_lt (end_before spans (length lines)) span.start ≡ false → OpenAfter (uses_after_island context lines spans ++ own_uses context line span.start span.end) (constants_taken context lines spans)
   open_on e f =
-      let all = lines ++ line ∷ [] in
-      let all_spans = spans ++ span ∷ [] in
-      let n = length lines in
-      let k = first_after_island context lines spans n in
-      let low : k ≤ n = open_low context lines spans n in
-      let from : first_after_island context all all_spans (length all) ≡ k = first_on e f in
-      let long : length (drop k lines) ≡ n - k = length-drop k lines in
-      let at : k + length (drop k lines) ≡ length spans = omega arith in (
-        open_at context all all_spans k from ∙ ap (uses_from context all_spans k) (drop-append-le k lines (line ∷ []) low) ∙ uses_append context all_spans k (drop k lines) (line ∷ [])
-            ∙ (λ j. uses_more context spans (span ∷ []) k (drop k lines) (omega arith) j ++ uses_from context all_spans (at j) (line ∷ [])) ∙ ap (λ us. uses_from context spans k (drop k lines) ++ us) (own_last context spans line span),
-        ap (λ m. constants_named (take m all)) from ∙ ap constants_named (take-append-le k lines (line ∷ []) low),
+      let k = first_after_island context lines spans (length lines) in
+      let low : k ≤ length lines = open_low context lines spans (length lines) in
+      let long : length (drop k lines) ≡ length lines - k = length-drop k lines in (
+        rw (first_on e f) (grind (arith, drop-append-le k lines (line ∷ []) low, uses_append context (spans ++ span ∷ []) k (drop k lines) (line ∷ []), uses_more context spans (span ∷ []) k (drop k lines) (omega arith), own_last context spans line span)),
+        rw (first_on e f) (grind (arith, take-append-le k lines (line ∷ []) low)),
       )

@@ -35,6 +35,7 @@ use Rattle.rv_inst.specs.Rules.{is_beyond}
 use Rattle.rv_code.specs.Immediates.{upper_of_distance, lower_of_distance, upper_of, lower_of}
 use Rattle.rv_code.specs.Slots.{between, Label, Slot, Op, Notes, Names, Allocate, Here, size_of, slot_size}
 use Rattle.rv_code.proofs.Steps.{lands, goes_both, goes_at_least, goes_none, goes_second, pc_in_code, step_at, at_next}
+pub use Rattle.rv_code.proofs.LineSlots.{size_append}
 use Rattle.rv_code.proofs.LineSlots.{closed_even, offsets, addresses, numbers, is_low, slots_by}
 use Rattle.rv_code.specs.Chains.{Goes, IsAt}
 use Rattle.rv_code.specs.InstParts.{load_over, inline_slots, immediate_slots, offset_slots, address_slots, number_slots}
@@ -45,8 +46,6 @@ use Rattle.rv_code.proofs.OperationActs.{IsIntegerLoad, rrr_acts, rri_acts, lui_
 use Rattle.rv_code.proofs.Registers.{are_values_set, reads_back, reads_other}
 
 -- ---- the numbers that upper and lower immediates sum to.
-
--- ---- a distance
 
 abbrev Sums : ℕ → ℤ → Type 0
 Sums p d = wrap (wrap (p + low64 (upper_of_distance d) * 2 ^ 12) + low64 (lower_of_distance (d -ℤ pos 4))) ≡ wrap (p + low64 d)
@@ -107,12 +106,6 @@ IsApartAt rd _ = Unit {0}
 
 -- ---- offsets and addresses that are computed in a register, exactly.
 
--- ---- slots one after the other
-
-pub size_append : (slots more : List Slot) → size_of (slots ++ more) ≡ size_of slots + size_of more
-size_append [] more = omega arith
-size_append (slot ∷ slots) more = let e = size_append slots more in omega arith
-
 -- slots stand in the code before others that do
 pub stands_split : (site : Site) (allocated from : ℕ) (slots more : List Slot) → StandsIn site allocated from (slots ++ more) → StandsIn site allocated from slots × StandsIn site allocated (from + size_of slots) more
 stands_split site allocated from [] more s = (tt, subst (λ n. StandsIn site allocated n more) (omega arith) s)
@@ -153,6 +146,15 @@ shorter k h le = record { even = h.even; room = omega arith; placed = h.placed; 
 pub set_at : {site : Site} {offset size : ℕ} {s : State} (k n x : ℕ) → IsAt site offset (k + size) s → k % 2 ≡ 0 → IsAt site (offset + k) size (at (wrap (s.pc + k)) (set_reg s.values n x))
 set_at {s = s} k n x h even = at_next k (at (wrap (s.pc + k)) (set_reg s.values n x)) h even refl h.placed
 
+-- after such a chain an operation writes the same register, as it is by the values that it finds
+sets_then : {site : Site} {offset size : ℕ} {s : State} (d : Decoded) (k n x y : ℕ) (f : Values → ℕ) → Sets site.context.flags k s n x → n < 32 → x < 2 ^ 64 → k % 2 ≡ 0 → 0 < d.len → IsState s → IsAt site offset size s → size ≡ k + d.len → CodeHas site (offset + k) (d ∷ []) →
+    ((t : State) → IsState t → act d t ≡ Some (at (wrap (t.pc + d.len)) (set_reg t.values n (f t.values)))) → f (set_reg s.values n x) ≡ y → Sets site.context.flags size s n y
+sets_then {site} {s = s} d k n x y f g lt fits even some is_state h long has acts same =
+    let s1 = at (wrap (s.pc + k)) (set_reg s.values n x) in
+    let next : IsState s1 = record { pc = omega arith; values = are_values_set s.values n x is_state.values lt fits } in
+    let does = acts s1 next ∙ ap (λ z. Some (at (wrap (s1.pc + d.len)) (set_reg s1.values n z))) same in
+    subst (λ m. Sets site.context.flags m s n y) (sym long) (sets_both k d.len n x y g (sets_one d n y (set_at k n x (shorter (k + d.len) h (omega arith)) even) some has does))
+
 -- ---- an offset, by immediates
 
 -- the lower immediate, where it isn't 0
@@ -167,21 +169,14 @@ immediate_goes {site} {s = s} allocated rd o true test some lt fits is_state h s
     let sum = offset_sums o fits in
     let zero_low : low64 (lower_of o) ≡ 0 = eqb-true (low64 (lower_of o)) 0 test in
     sets_alone allocated (short_lui site.context.flags rd (upper_of o)) rd _ (wrap (low64 o)) (lui_sized site.context.flags rd (upper_of o)) (omega arith) (lui_acts site.context.flags rd (upper_of o) s is_state) h stands
-immediate_goes {site} {offset} {s} allocated rd o false test some lt fits is_state h stands =
+immediate_goes {site} {s = s} allocated rd o false test some lt fits is_state h stands =
     let d = short_lui site.context.flags rd (upper_of o) in
-    let l = short_rri site.context.flags Addi rd rd (lower_of o) in
     let d_size = lui_sized site.context.flags rd (upper_of o) in
     let l_size = rri_sized site.context.flags Addi rd rd (lower_of o) in
     let u = wrap (low64 (upper_of o) * 2 ^ 12) in
-    let s1 = at (wrap (s.pc + d.len)) (set_reg s.values rd u) in
-    let h1 : IsAt site (offset + d.len) (l.len + 0) s1 = set_at d.len rd u h d_size.even in
-    let back : reg s1.values rd ≡ u = reads_back s.values rd u is_state.values some lt in
-    let sum : wrap (reg s1.values rd + low64 (lower_of o)) ≡ wrap (low64 o) = (λ i. wrap (back i + low64 (lower_of o))) ∙ offset_sums o fits in
-    let all : d.len + l.len ≡ d.len + (l.len + 0) = omega arith in
-    let is_next : IsState s1 = record { pc = omega arith; values = are_values_set s.values rd u is_state.values lt (omega arith) } in
-    subst (λ n. Sets site.context.flags n s rd (wrap (low64 o))) all
-    (sets_both d.len l.len rd u (wrap (low64 o)) (sets_one d rd u h (omega arith) stands.0 (lui_acts site.context.flags rd (upper_of o) s is_state))
-    (sets_one l rd (wrap (low64 o)) h1 (omega arith) stands.1.0 (rri_acts site.context.flags Addi rd rd (lower_of o) s1 refl is_next ∙ (λ i. Some (at (wrap (s1.pc + l.len)) (set_reg s1.values rd (sum i)))))))
+    let upper = sets_one d rd u h (omega arith) stands.0 (lui_acts site.context.flags rd (upper_of o) s is_state) in
+    sets_then (short_rri site.context.flags Addi rd rd (lower_of o)) d.len rd u (wrap (low64 o)) (λ v. wrap (reg v rd + low64 (lower_of o))) upper lt (omega arith) d_size.even (omega arith) is_state h (omega arith) stands.1.0
+    (λ t is. rri_acts site.context.flags Addi rd rd (lower_of o) t refl is) ((λ i. wrap (reads_back s.values rd u is_state.values some lt i + low64 (lower_of o))) ∙ offset_sums o fits)
 
 -- ---- an offset, from among the code
 
@@ -204,14 +199,14 @@ over_goes {site} {offset} {s} allocated rd size x op bytes integer some lt littl
     let s1 = at (wrap (s.pc + 4)) (set_reg s.values rd a) in
     let s2 = at (wrap (s.pc + 8)) (set_reg s.values rd x) in
     let h : IsAt site offset (4 + (4 + jump.len)) s = shorter (4 + (4 + jump.len)) whole (omega arith) in
-    let h1 : IsAt site (offset + 4) (4 + jump.len) s1 = set_at 4 rd a h refl in
     let room = there.room in
     let here : s.pc ≡ site.base + offset = pc_in_code h (omega arith) in
     let back : reg s1.values rd ≡ a = reads_back s.values rd a is_state.values some lt in
     let address : wrap (reg s1.values rd + low64 (pos (8 + j))) ≡ site.base + (offset + 4 + 4 + jump.len) = (λ i. wrap (back i + low64 (pos (8 + j)))) ∙ omega (arith, none, ahead, here, room, filled, long, jump_long) in
     let read : load_result (load_op op) s.values.mem (wrap (reg s1.values rd + low64 (pos (8 + j)))) ≡ x = ap (load_result (load_op op) s.values.mem) address ∙ reads s.values.mem (site.base + (offset + 4 + 4 + jump.len)) there in
-    let loaded : Sets flags 8 s rd x = sets_both 4 4 rd a x (sets_one (decoded (Base base.Auipc) rd 0 0 (pos 0)) rd a h (omega arith) stands.0 refl)
-    (sets_one (decoded_load op rd rd (pos (8 + j))) rd x h1 (omega arith) stands.1.0 (load_acts_wide op rd rd (pos (8 + j)) s1 integer ∙ (λ i. Some (at (wrap (s1.pc + 4)) (set_reg s1.values rd (read i)))))) in
+    let loaded : Sets flags 8 s rd x =
+    sets_then (decoded_load op rd rd (pos (8 + j))) 4 rd a x (λ v. load_result (load_op op) v.mem (wrap (reg v rd + low64 (pos (8 + j))))) (sets_one (decoded (Base base.Auipc) rd 0 0 (pos 0)) rd a h (omega arith) stands.0 refl)
+    lt (omega arith) refl (lit< tt) is_state (shorter 8 whole (omega arith)) refl stands.1.0 (λ t is. load_acts_wide op rd rd (pos (8 + j)) t integer) read in
     let h2 : IsAt site (offset + 8) jump.len s2 = set_at 8 rd x (shorter (8 + jump.len) h (omega arith)) refl in
     let jumped : wrap (s2.pc + low64 far) ≡ wrap (s.pc + (8 + j + size)) = (λ i. wrap (s2.pc + over i)) ∙ omega arith in
     goes_both {n = 0} loaded (goes_at_least (omega arith) (step_at jump [] (at (wrap (s.pc + (8 + j + size))) s2.values) h2 (omega arith) (subst (λ n. CodeHas site n (jump ∷ [])) (omega arith) stands.1.1.0) (jump_acts flags far s2 ∙ (λ i. Some (at (jumped i) s2.values)))))
@@ -232,9 +227,6 @@ pub eight_there : (mem : Memory) (a w : ℕ) → BytesAt mem a (to_le_bytes w64 
 eight_there mem a w there =
     let each : (k : ℕ) → k < 8 → byte mem (wrap (a + k)) ≡ slice_index (to_le_bytes w64 w) k = λ k lt. let e : wrap (a + k) ≡ a + k = omega arith in ap (byte mem) e ∙ there.there k lt in
     omega (arith, each 0 (lit< tt), each 1 (lit< tt), each 2 (lit< tt), each 3 (lit< tt), each 4 (lit< tt), each 5 (lit< tt), each 6 (lit< tt), each 7 (lit< tt))
-
-pub offset_even : (flags : IsaFlags) (rd : ℕ) (o : ℤ) → size_of (offset_slots flags rd o) % 2 ≡ 0
-offset_even flags rd o = closed_even (λ k. None) 0 (offset_slots flags rd o) ((offsets flags rd o).closed _ 0)
 
 -- an offset is put into a register
 pub offset_goes : {site : Site} {offset : ℕ} {s : State} (allocated rd : ℕ) (o : ℤ) → 0 < rd → rd < 32 → IsState s → IsAt site offset (size_of (offset_slots site.context.flags rd o)) s → StandsIn site allocated offset (offset_slots site.context.flags rd o) → Sets site.context.flags (size_of (offset_slots site.context.flags rd o)) s rd (wrap (low64 o))
@@ -262,20 +254,14 @@ based_goes {site} {offset} {s} allocated rd r o some lt apart is_state =
       | true ↦ λ h stands. sets_alone allocated (short_rri flags Addi rd r o) rd address address (rri_sized flags Addi rd r o) refl (rri_acts flags Addi rd r o s refl is_state) h stands
       | false ↦ λ h stands.
           let d = short_rrr flags Add rd rd r in
-          let size = rrr_sized flags Add rd rd r in
+          let sized = rrr_sized flags Add rd rd r in
           let k = size_of (offset_slots flags rd o) in
           let long : size_of (based_slots flags rd r o false) ≡ k + d.len = size_append (offset_slots flags rd o) (Op d ∷ []) ∙ omega arith in
           let both = stands_split site allocated offset (offset_slots flags rd o) (Op d ∷ []) stands in
           let x = wrap (low64 o) in
-          let s1 = at (wrap (s.pc + k)) (set_reg s.values rd x) in
-          let h1 : IsAt site (offset + k) d.len s1 = set_at k rd x (shorter (k + d.len) h (omega arith)) (offset_even flags rd o) in
-          let back : reg s1.values rd ≡ x = reads_back s.values rd x is_state.values some lt in
-          let kept : reg s1.values r ≡ reg s.values r = reads_other s.values rd r x apart in
-          let sum : wrap (reg s1.values rd + reg s1.values r) ≡ address = (λ i. wrap (back i + kept i)) ∙ omega arith in
-          let is_next : IsState s1 = record { pc = omega arith; values = are_values_set s.values rd x is_state.values lt (omega arith) } in
-          subst (λ n. Sets flags n s rd address) (sym long)
-          (sets_both k d.len rd x address (offset_goes allocated rd o some lt is_state (shorter k h (omega arith)) both.0)
-          (sets_one d rd address h1 (omega arith) both.1.0 (rrr_acts flags Add rd rd r s1 is_next ∙ (λ i. Some (at (wrap (s1.pc + d.len)) (set_reg s1.values rd (sum i)))))))
+          let sum : wrap (reg (set_reg s.values rd x) rd + reg (set_reg s.values rd x) r) ≡ address = (λ i. wrap (reads_back s.values rd x is_state.values some lt i + reads_other s.values rd r x apart i)) ∙ omega arith in
+          sets_then d k rd x address (λ v. wrap (reg v rd + reg v r)) (offset_goes allocated rd o some lt is_state (shorter k h (omega arith)) both.0) lt (omega arith) (closed_even (λ k. None) 0 (offset_slots flags rd o) ((offsets flags rd o).closed _ 0)) (omega arith) is_state h long both.1.0
+          (λ t is. rrr_acts flags Add rd rd r t is) sum
     ]
 
 -- ---- the address of a label
@@ -312,12 +298,9 @@ pub label_goes : {site : Site} {offset : ℕ} {s : State} (allocated rd : ℕ) (
 label_goes {site} {offset} {s} allocated rd l some lt bounds is_state h stands =
     let a = stands.0 in
     let b = stands.1.0 in
-    let x = upper_sum s.pc offset a.to in
-    let s1 = at (wrap (s.pc + 4)) (set_reg s.values rd x) in
-    let h1 : IsAt site (offset + 4) 4 s1 = set_at 4 rd x h refl in
-    let sum = lower_sums rd l a.to b.to some lt bounds is_state h a.reaches.0 b.reaches.0 in
-    sets_both 4 4 rd x (label_address site l) (upper_goes rd l h (omega arith) a)
-    (sets_one (decoded_addi rd rd (lower_of_distance (between (offset + 4) b.to))) rd (label_address site l) h1 (omega arith) b.has (λ i. Some (at (wrap (s1.pc + 4)) (set_reg s1.values rd (sum i)))))
+    let z = lower_of_distance (between (offset + 4) b.to) in
+    sets_then (decoded_addi rd rd z) 4 rd (upper_sum s.pc offset a.to) (label_address site l) (λ v. wrap (reg v rd + low64 z)) (upper_goes rd l h (omega arith) a) lt (omega arith) refl (lit< tt) is_state h refl b.has (λ t is. refl)
+    (lower_sums rd l a.to b.to some lt bounds is_state h a.reaches.0 b.reaches.0)
 
 -- ---- any address
 

@@ -19,7 +19,7 @@ use Rattle.rv_code.specs.Operations.{short_jump}
 use Rattle.rv_code.specs.Pieces.{Action, Rrr, Rri, Lui, Load, Store, Copy, Piece, Do, Branch, Jump, New, Bind, Go, Trap, branches, op_of, slots_of, piece_size, after, IsInRange, AreInRange}
 use Rattle.rv_code.specs.Sites.{Site, CodeHas, IsPlacedAt, StandsIn}
 use Rattle.rv_code.specs.Slots.{own_label, between}
-use Rattle.rv_code.proofs.Steps.{istep_here, at_next, aims_at, iter_none, iter_one, iter_after}
+use Rattle.rv_code.proofs.Steps.{istep_here, aims_at, iter_none, iter_one, iter_after}
 use Rattle.rv_code.proofs.OperationActs.{rrr_fits, HasSize, rrr_acts, rri_acts, lui_acts, rrr_sized, rri_sized, lui_sized, load_acts, load_sized, store_acts, store_sized, jump_acts, window_long, least_even, least_some}
 use Rattle.rv_code.proofs.Registers.{are_values_set}
 use Rattle.rv_code.proofs.StackRuns.{placed_after, put_values, stored_bytes, load_fits}
@@ -118,6 +118,11 @@ bound {site} k start (p ∷ more) ps e h = later (piece_size site.context.flags 
 
 -- ---- steps
 
+-- where the machine stands, by its counter and its values
+stands_at : {site : Site} {allocated start end : ℕ} {ps : List Piece} {v : Values} (t : State) (m : List (List ℕ)) (offset : ℕ) →
+    start ≤ offset → IsPlacedAt site t.values.mem → t.pc ≡ wrap (site.base + offset) → AreValues t.values → t.values ≡ v → StandIn site allocated offset end ps → IsAtPoint site allocated start end (points ps v m) t
+stands_at t m offset within placed pc values same k = record { offset = offset; within = within; here = record { even = k.even; room = omega arith; placed = placed; pc = pc }; stand = k; is_state = record { pc = omega arith; values = values }; values = same }
+
 stays : {most : ℕ} {site : Site} {allocated start end : ℕ} {p : Point} {s : State} → IsAtPoint site allocated start end p s → ComesToPoint most site allocated start end p s
 stays {site = site} {s = s} h = record { state = s; steps = 0; few = omega arith; ran = iter_none site.context.flags s; there = h }
 
@@ -139,14 +144,9 @@ does {site} {allocated} {start} {end} {ps} {v} {m} {s} a of out h =
     let d = op_of flags a in
     let t = at (wrap (s.pc + d.len)) (effect a s.values) in
     let sized = action_sized flags a in
-    steps_once t (istep_here d [] t h.here (omega arith) h.stand.stand.0 (action_acts flags a s of h.stand.ranges.0 h.is_state)) (record {
-      offset = h.offset + d.len;
-      within = omega arith;
-      here = at_next d.len t h.here sized.even refl (effect_placed site a s.values m (subst (λ w. AllOutside site (wrote a w m)) (sym h.values) out) h.here.placed);
-      stand = rest (Do a) ps h.stand;
-      is_state = record { pc = omega arith; values = effect_values a s.values h.stand.ranges.0 h.is_state.values };
-      values = ap (effect a) h.values;
-    })
+    let placed = effect_placed site a s.values m (subst (λ w. AllOutside site (wrote a w m)) (sym h.values) out) h.here.placed in
+    steps_once t (istep_here d [] t h.here (omega arith) h.stand.stand.0 (action_acts flags a s of h.stand.ranges.0 h.is_state))
+    (stands_at t (wrote a v m) (h.offset + d.len) (omega arith) placed (let pc = h.here.pc in omega arith) (effect_values a s.values h.stand.ranges.0 h.is_state.values) (ap (effect a) h.values) (rest (Do a) ps h.stand))
 
 -- the machine comes to an own label
 leads : {site : Site} {allocated start end : ℕ} {ps : List Piece} {v : Values} {m : List (List ℕ)} {s : State} (k : ℕ) (whole : List Piece) (q : Point) (p : Piece) (d : ℤ → Decoded) (aim : ℕ) →
@@ -158,25 +158,12 @@ leads {site} {allocated} {start} {end} {ps} {v} {m} {s} k whole q p d aim whole_
     let same : aim ≡ b.offset = same_Some aim b.offset (sym place ∙ b.place) in
     let t = at (wrap (site.base + b.offset)) s.values in
     let z = between h.offset aim in
-    is_there site allocated start end f (steps_once t (istep_here (d z) [] t h.here (omega arith) has (acts z ∙ ap (λ a. Some (at a s.values)) (aims_at aim h.here (omega arith) ∙ ap (λ n. wrap (site.base + n)) same))) (record {
-      offset = b.offset;
-      within = b.within;
-      here = record { even = b.stand.even; room = omega arith; placed = h.here.placed; pc = refl };
-      stand = b.stand;
-      is_state = record { pc = omega arith; values = h.is_state.values };
-      values = h.values;
-    }))
+    let acts_there = acts z ∙ ap (λ a. Some (at a s.values)) (aims_at aim h.here (omega arith) ∙ ap (λ n. wrap (site.base + n)) same) in
+    is_there site allocated start end f (steps_once t (istep_here (d z) [] t h.here (omega arith) has acts_there) (stands_at t m b.offset b.within h.here.placed refl h.is_state.values h.values b.stand))
 
 -- the machine goes on, without a step
 passes : {site : Site} {allocated start end : ℕ} {ps : List Piece} {v : Values} {m : List (List ℕ)} {s : State} (p : Piece) → piece_size site.context.flags p ≡ 0 → IsAtPoint site allocated start end (points (p ∷ ps) v m) s → ComesToPoint 1 site allocated start end (points ps v m) s
-passes {site} {allocated} {start} {end} {ps} {s = s} p none h = stays (record {
-  offset = h.offset + piece_size site.context.flags p;
-  within = omega arith;
-  here = search (rules, arith, h);
-  stand = rest p ps h.stand;
-  is_state = h.is_state;
-  values = h.values;
-})
+passes {site} {ps = ps} {m = m} {s = s} p none h = stays (stands_at s m (h.offset + piece_size site.context.flags p) (omega arith) h.here.placed (let pc = h.here.pc in omega arith) h.is_state.values h.values (rest p ps h.stand))
 
 pub one : {site : Site} {allocated start end : ℕ} (whole : List Piece) → StandIn site allocated start end whole → (ps : List Piece) (v : Values) (m : List (List ℕ)) (q : Point) (s : State) → next whole ps v m ≡ Some q → AllOutside site q.written → IsAtPoint site allocated start end (points ps v m) s → ComesToPoint 1 site allocated start end q s
 one whole k [] v m q s e out h = absurd (cc)
@@ -190,14 +177,8 @@ one {site} {allocated} {start} {end} whole k (Branch how a b j ∷ ps) v m q s e
     let t = at (wrap (s.pc + 4)) s.values in
     (elim test as (λ c. test ≡ c → (if c then to (after j whole) v m else Some (points ps v m)) ≡ Some q → ComesToPoint 1 site allocated start end q s) [
       | true ↦ λ is f. leads j whole q (Branch how a b j) (branches how a b) aim.to k (after j whole) refl f h (lit< tt) aim.reaches aim.has (λ z. acts z true is)
-      | false ↦ λ is f. is_there site allocated start end f (steps_once t (istep_here (branches how a b (between h.offset aim.to)) [] t h.here (omega arith) aim.has (acts (between h.offset aim.to) false is)) (record {
-        offset = h.offset + 4;
-        within = omega arith;
-        here = at_next 4 t h.here refl refl h.here.placed;
-        stand = rest (Branch how a b j) ps h.stand;
-        is_state = record { pc = omega arith; values = h.is_state.values };
-        values = h.values;
-      }))
+      | false ↦ λ is f. is_there site allocated start end f (steps_once t (istep_here (branches how a b (between h.offset aim.to)) [] t h.here (omega arith) aim.has (acts (between h.offset aim.to) false is))
+          (stands_at t m (h.offset + 4) (omega arith) h.here.placed (let pc = h.here.pc in omega arith) h.is_state.values h.values (rest (Branch how a b j) ps h.stand)))
     ]) refl (ap (λ w. if holds how (reg w a) (reg w b) then to (after j whole) v m else Some (points ps v m)) h.values ∙ e)
 one {site} {allocated} {start} {end} whole k (Jump j ∷ ps) v m q s e out h =
     let long = window_long site.context.flags in
@@ -234,20 +215,14 @@ all_earlier site whole (suc n) p q e out =
     (elim (next whole p.ahead p.values p.written) as (λ o. next whole p.ahead p.values p.written ≡ o → and_then o (evaluate n whole) ≡ Some q → AllOutside site p.written)
     [ None ↦ λ is f. absurd (cc) | Some r ↦ λ is f. one_earlier site whole p.ahead p.values p.written r is (all_earlier site whole n r q f out) ]) refl e
 
--- one piece, and others after it
-comes_then : {n : ℕ} {site : Site} {allocated start end : ℕ} {p q : Point} {s : State} (c : ComesToPoint 1 site allocated start end p s) → ComesToPoint n site allocated start end q c.state → ComesToPoint (suc n) site allocated start end q s
-comes_then {site = site} {s = s} c d = record {
-  state = d.state;
-  steps = d.steps + c.steps;
-  few = omega arith;
-  ran = iter_after site.context.flags d.steps c.steps s c.state d.state c.ran d.ran;
-  there = d.there;
-}
-
 pub pieces_run : (site : Site) (allocated start end : ℕ) (whole : List Piece) → StandIn site allocated start end whole → (n : ℕ) (p q : Point) (s : State) → evaluate n whole p ≡ Some q → AllOutside site q.written → IsAtPoint site allocated start end p s → ComesToPoint n site allocated start end q s
 pieces_run site allocated start end whole k zero p q s e out h = is_there site allocated start end e (stays h)
 pieces_run site allocated start end whole k (suc n) p q s e out h =
     (elim (next whole p.ahead p.values p.written) as (λ o. next whole p.ahead p.values p.written ≡ o → and_then o (evaluate n whole) ≡ Some q → ComesToPoint (suc n) site allocated start end q s) [
       | None ↦ λ is f. absurd (cc)
-      | Some r ↦ λ is f. let c = one whole k p.ahead p.values p.written r s is (all_earlier site whole n r q f out) h in comes_then c (pieces_run site allocated start end whole k n r q c.state f out c.there)
+      | Some r ↦ λ is f.
+          let c = one whole k p.ahead p.values p.written r s is (all_earlier site whole n r q f out) h in
+          let d = pieces_run site allocated start end whole k n r q c.state f out c.there in
+          let few = d.few in let first = c.few in
+          record { state = d.state; steps = d.steps + c.steps; few = omega arith; ran = iter_after site.context.flags d.steps c.steps s c.state d.state c.ran d.ran; there = d.there }
     ]) refl e

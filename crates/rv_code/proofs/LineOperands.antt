@@ -59,8 +59,6 @@ use Rattle.rv_code.proofs.StackRuns.{IsLoadable, IsLoadableAs, AreStackLoads, Is
 
 -- ---- what loads, stores and addresses that break no rule give of their registers, offsets and labels.
 
--- ---- addresses
-
 near : (o : ℤ) → is_distant o ≡ false → IsNear o
 near o e = let both = or_parts (int_lt o (negsuc (2 ^ 62 - 1))) (int_lt (pos (2 ^ 62)) o) e in (omega (arith, ints), omega (arith, ints))
 
@@ -175,8 +173,6 @@ label_address_kept dst label k = let usable = (are_usable (dst.reg ∷ []) k.rea
 
 -- ---- what a frame that a tail call can take away gives.
 
--- ---- one register
-
 number_loadable : (n : ℕ) → (n == 0 || (n == 1 || ((n == 2 || n == 8) || nat_le 30 n))) ≡ false → IsLoadable n
 number_loadable n e =
     let last = or_parts (n == 2 || n == 8) (nat_le 30 n) (or_parts (n == 1) _ (or_parts (n == 0) _ e).1).1 in
@@ -247,8 +243,6 @@ t0_other frame size e =
     (setup_by (AreOthersAs 5) frame tt ((λ e. absurd (omega arith)), ((λ e. absurd (omega arith)), tt)))
 
 -- ---- what a call that breaks no rule gives: how far the stack pointer falls, and that its results on the stack can be loaded.
-
--- ---- one result
 
 -- what a result on the stack gives
 record IsResult (r : Reg) (type : IrType) : Type 0 where

@@ -37,7 +37,7 @@ use Rattle.mach_uses.specs.declared.uses.Use.{Use}
 use Rattle.rv_encode.specs.Operations.{decoded, decoded_load, decoded_store, has_load, has_store}
 use Rattle.rv_inst.specs.Addresses.{Location, Based, AtLabel, AtConstant, location_of, is_near, is_splittable, inline_size, far_size, far_address_size, address_size, load_size_at, store_size_at, load_own_size, store_own_size}
 use Rattle.rv_inst.specs.Forms.{short_rrr, short_rri, short_lui, short_load, short_store}
-use Rattle.mach_uses.specs.Labels.{constant_label}
+use Rattle.mach_uses.specs.Labels.{constant_label, name_more}
 use Rattle.rv_inst.specs.Records.{access_records}
 use Rattle.rv_inst.specs.declared.inst.Inst.TheVariants.{LoadAddr, LabelAddress, LoadExtNameGot, LoadExtNameNear, LoadExtNameFar, Unwind, Load, Store}
 use Rattle.rv_machine.specs.Arithmetic.{low_word}
@@ -50,7 +50,7 @@ use Rattle.rv_ops.specs.declared.memory.LoadOP.TheVariants.{Lh}
 use Rattle.rv_ops.specs.declared.memory.StoreOP.TheVariants.{Sh}
 use Rattle.rv_ops.specs.Memory.{load_size}
 use Rattle.rv_inst.specs.Halves.{boxing_size, high_bits, is_moved_first, load_line_size, load_line_own_size, store_line_size, store_line_own_size}
-use Rattle.rv_code.specs.Slots.{Slot, Allocate, Here, size_of, uses_of, records_of, names_of, Op, Aim, Data, AreClosed, Notes, AreSelfContained, address_event}
+use Rattle.rv_code.specs.Slots.{Slot, Names, Allocate, Here, Fill, Address, CallTo, size_of, label_of, uses_of, records_of, names_of, Op, Aim, Data, AreClosed, Notes, AreSelfContained, address_event}
 use Rattle.rv_code.specs.Immediates.{upper_of, lower_of}
 use Rattle.rv_code.specs.Operations.{short_jump, jump_size}
 use Rattle.rv_code.specs.InstParts.{inline_slots, offset_slots, access_slots, load_slots, store_slots, address_slots, load_over, number_slots, got_slots, near_slots, far_slots, boxing_slots, half_load_slots, half_store_slots, load_line_slots, moved_to_float, moved_to_integer, store_line_slots}
@@ -123,31 +123,98 @@ at_end rest start end = rest end
 abbrev pub none : ℕ → ℕ → List (Use LabelUse)
 none = at_end (λ end. [])
 
+-- without uses, records or a constant
+abbrev pub HaveWords : ℕ → List Slot → Type 0
+HaveWords size slots = HaveContents size 0 none (λ at. []) None slots
+
 -- ---- pieces
 
 pub nothing : HaveAccess 0 0 none None None []
 nothing = record { plain = tt; long = refl; within = lit≤ tt; uses = λ allocated start. refl; records = λ start. refl; names = λ named. refl; closed = λ here start. tt }
 
--- the trap of an access is recorded where it is
-accessed : (trap : Option TrapCode) (d : Decoded) → d.len % 2 ≡ 0 → HaveAccess d.len d.len none trap None (access_slots trap ++ Op d ∷ [])
-accessed None d even = record { plain = tt; long = omega arith; within = omega arith; uses = λ allocated start. refl; records = λ start. refl; names = λ named. refl; closed = λ here start. (even, tt) }
-accessed (Some code) d even =
-    let at_start = λ (start : ℕ). let e : start ≡ start + d.len - d.len = omega arith in ap (trap_at code) e in
-    record { plain = tt; long = omega arith; within = omega arith; uses = λ allocated start. refl; records = at_start; names = λ named. refl; closed = λ here start. (even, tt) }
+-- an operation alone
+pub one : (d : Decoded) → d.len % 2 ≡ 0 → HaveWords d.len (Op d ∷ [])
+one d even = record { plain = tt; long = omega arith; within = omega arith; uses = λ allocated start. refl; records = λ start. refl; names = λ named. refl; closed = λ here start. (even, tt) }
 
--- an operation before slots without uses
+-- eight bytes alone
+eight : (bytes : List ℕ) → length bytes ≡ 8 → HaveWords 8 (Data bytes ∷ [])
+eight bytes long = record { plain = tt; long = omega arith; within = omega arith; uses = λ allocated start. refl; records = λ start. refl; names = λ named. refl; closed = λ here start. (ap (λ n. n % 2) long, tt) }
+
+-- ---- slots before others
+
+pub size_append : (slots more : List Slot) → size_of (slots ++ more) ≡ size_of slots + size_of more
+size_append [] more = omega arith
+size_append (slot ∷ slots) more = let e = size_append slots more in omega arith
+
+plain_append : (slots more : List Slot) → IsPlain slots → IsPlain more → IsPlain (slots ++ more)
+plain_append [] more h g = g
+plain_append (Allocate ∷ slots) more h g = absurd h
+plain_append (Here k ∷ slots) more h g = absurd h
+plain_append (slot ∷ slots) more h g = plain_append slots more h g
+
+uses_append : (allocated at end : ℕ) (slots more : List Slot) → at + size_of slots ≡ end → uses_of allocated at (slots ++ more) ≡ uses_of allocated at slots ++ uses_of allocated end more
+uses_append allocated at end [] more e = let here : at ≡ end = omega arith in ap (λ n. uses_of allocated n more) here
+uses_append allocated at end (Aim kind target ops ∷ slots) more e = ap (λ us. use_at at (label_of allocated target) kind ∷ us) (uses_append allocated (at + length (marks_of kind)) end slots more (omega arith))
+uses_append allocated at end (slot ∷ slots) more e = uses_append allocated _ end slots more (omega arith)
+
+records_append : (end : ℕ) (slots more : List Slot) (at : ℕ) → at + size_of slots ≡ end → records_of at (slots ++ more) ≡ records_of at slots ++ records_of end more
+records_append end [] more at e = let here : at ≡ end = omega arith in ap (λ n. records_of n more) here
+records_append end (Notes event ∷ slots) more at e = let r = records_append end slots more at (omega arith) in cc
+records_append end (Fill symbol upper lower ∷ slots) more at e = let r = records_append end slots more (at + 8) (omega arith) in cc
+records_append end (Address name addend ∷ slots) more at e = let r = records_append end slots more (at + 8) (omega arith) in cc
+records_append end (CallTo name ops ∷ slots) more at e = let r = records_append end slots more (at + 8) (omega arith) in cc
+records_append end (slot ∷ slots) more at e = records_append end slots more _ (omega arith)
+
+names_append : (slots more : List Slot) (named : List VCodeConstant) → names_of (slots ++ more) named ≡ names_of more (names_of slots named)
+names_append [] more named = refl
+names_append (Names k ∷ slots) more named = names_append slots more (name_more k named)
+names_append (slot ∷ slots) more named = names_append slots more named
+
+pub closed_append : (here : ℕ → Option ℕ) (at end : ℕ) (slots more : List Slot) → at + size_of slots ≡ end → AreClosed here at slots → AreClosed here end more → AreClosed here at (slots ++ more)
+closed_append here at end [] more e h g = let there : end ≡ at = omega arith in subst (λ n. AreClosed here n more) there g
+closed_append here at end (Op d ∷ slots) more e h g = (h.0, closed_append here (at + d.len) end slots more (omega arith) h.1 g)
+closed_append here at end (Aim kind target ops ∷ slots) more e h g = (h.0, closed_append here (at + length (marks_of kind)) end slots more (omega arith) h.1 g)
+closed_append here at end (Data bytes ∷ slots) more e h g = (h.0, closed_append here (at + length bytes) end slots more (omega arith) h.1 g)
+closed_append here at end (slot ∷ slots) more e h g = closed_append here _ end slots more (omega arith) h g
+
+-- slots without uses, records and a constant, before any
+pub both : {n l size last : ℕ} {own : ℕ → ℕ → List (Use LabelUse)} {records_at : ℕ → List MachRecord} {constant : Option VCodeConstant} {slots more : List Slot} →
+    HaveContents n l none (λ at. []) None slots → HaveContents size last own records_at constant more → HaveContents (n + size) last (λ start end. own (start + n) end) records_at constant (slots ++ more)
+both {n} {l} {size} {last} {own} {records_at} {constant} {slots} {more} f c =
+    let long = f.long in
+    let there : (start : ℕ) → start + size_of slots ≡ start + n = λ start. omega arith in
+    record {
+      plain = plain_append slots more f.plain c.plain;
+      long = let rest = c.long in omega (arith, size_append slots more);
+      within = let within = c.within in omega arith;
+      uses = λ allocated start.
+          uses_append allocated start (start + n) slots more (there start) ∙ (λ i. f.uses allocated start i ++ c.uses allocated (start + n) i) ∙ (let e : start + n + size ≡ start + (n + size) = omega arith in ap (own (start + n)) e);
+      records = λ start.
+          records_append (start + n) slots more start (there start) ∙ (λ i. f.records start i ++ c.records (start + n) i) ∙ (let e : start + n + size - last ≡ start + (n + size) - last = omega arith in ap records_at e);
+      names = λ named. names_append slots more named ∙ ap (names_of more) (f.names named) ∙ c.names named;
+      closed = λ here start. closed_append here start (start + n) slots more (there start) (f.closed here start) (c.closed here (start + n));
+    }
+
+-- and after slots whose uses don't depend on their end
+followed : {n l size : ℕ} {own : ℕ → ℕ → List (Use LabelUse)} {records_at : ℕ → List MachRecord} {constant : Option VCodeConstant} {slots more : List Slot} →
+    ((start end other : ℕ) → own start end ≡ own start other) → HaveContents n l own records_at constant slots → HaveWords size more → HaveContents (n + size) (l + size) own records_at constant (slots ++ more)
+followed {n} {l} {size} {own} {records_at} {constant} {slots} {more} same f c =
+    let long = f.long in
+    let there : (start : ℕ) → start + size_of slots ≡ start + n = λ start. omega arith in
+    record {
+      plain = plain_append slots more f.plain c.plain;
+      long = let rest = c.long in omega (arith, size_append slots more);
+      within = let within = f.within in omega arith;
+      uses = λ allocated start.
+          uses_append allocated start (start + n) slots more (there start) ∙ (λ i. f.uses allocated start i ++ c.uses allocated (start + n) i) ∙ append-nil (own start (start + n)) ∙ same start (start + n) (start + (n + size));
+      records = λ start.
+          records_append (start + n) slots more start (there start) ∙ (λ i. f.records start i ++ c.records (start + n) i) ∙ append-nil (records_at (start + n - l)) ∙ (let e : start + n - l ≡ start + (n + size) - (l + size) = omega arith in ap records_at e);
+      names = λ named. names_append slots more named ∙ c.names (names_of slots named) ∙ f.names named;
+      closed = λ here start. closed_append here start (start + n) slots more (there start) (f.closed here start) (c.closed here (start + n));
+    }
+
 pub op_then : {size last : ℕ} {rest : ℕ → List (Use LabelUse)} {records_at : ℕ → List MachRecord} {slots : List Slot} (d : Decoded) → d.len % 2 ≡ 0 → HaveContents size last (at_end rest) records_at None slots → HaveContents (d.len + size) last (at_end rest) records_at None (Op d ∷ slots)
-op_then {size} {last} {rest} {records_at} d even c =
-    let uses = λ (allocated start : ℕ). c.uses allocated (start + d.len) ∙ (let e : start + d.len + size ≡ start + (d.len + size) = omega arith in ap rest e) in
-    let records = λ (start : ℕ). c.records (start + d.len) ∙ (let e : start + d.len + size - last ≡ start + (d.len + size) - last = omega arith in ap records_at e) in
-    search (rules, arith, c, even, uses, records)
-
--- eight bytes before slots without uses
-data_then : {size last : ℕ} {rest : ℕ → List (Use LabelUse)} {records_at : ℕ → List MachRecord} {slots : List Slot} (bytes : List ℕ) → length bytes ≡ 8 → HaveContents size last (at_end rest) records_at None slots → HaveContents (8 + size) last (at_end rest) records_at None (Data bytes ∷ slots)
-data_then {size} {last} {rest} {records_at} bytes eight c =
-    let uses = λ (allocated start : ℕ). c.uses allocated (start + length bytes) ∙ (let e : start + length bytes + size ≡ start + (8 + size) = omega arith in ap rest e) in
-    let records = λ (start : ℕ). c.records (start + length bytes) ∙ (let e : start + length bytes + size - last ≡ start + (8 + size) - last = omega arith in ap records_at e) in
-    search (rules, arith, c, eight, uses, records)
+op_then d even c = both (one d even) c
 
 -- a record before slots whose own records are said from their start
 pub note_then : {size : ℕ} {rest : ℕ → List (Use LabelUse)} {records_at : ℕ → List MachRecord} {slots : List Slot} (noted : Event) → HaveContents size size (at_end rest) records_at None slots → HaveContents size size (at_end rest) (λ at. record { offset = at; event = noted } ∷ records_at at) None (Notes noted ∷ slots)
@@ -167,19 +234,24 @@ from_start {size} {last} {rest} {records_at} c =
     let records = λ (start : ℕ). c.records start ∙ (let e : start + size - last ≡ start + size - size + size - last = omega arith in ap records_at e) in
     search (rules, arith, c, records)
 
+-- a trap at the first of them
+trapped : {size : ℕ} {slots : List Slot} (trap : Option TrapCode) → HaveWords size slots → HaveAccess size size none trap None (access_slots trap ++ slots)
+trapped None c = from_start c
+trapped (Some code) c = note_then (event.Trap code) (from_start c)
+
+-- the trap of an access is recorded where it is
+accessed : (trap : Option TrapCode) (d : Decoded) → d.len % 2 ≡ 0 → HaveAccess d.len d.len none trap None (access_slots trap ++ Op d ∷ [])
+accessed trap d even = trapped trap (one d even)
+
 -- the same slots, their size said otherwise
 pub of_size : {n m last : ℕ} {rest : ℕ → List (Use LabelUse)} {records_at : ℕ → List MachRecord} {slots : List Slot} → n ≡ m → HaveContents n last (at_end rest) records_at None slots → HaveContents m last (at_end rest) records_at None slots
 of_size {n} {m} {last} {rest} {records_at} {slots} e c = subst (λ size. HaveContents size last (at_end rest) records_at None slots) e c
 
--- before no slots
-pub alone : {n last : ℕ} {records_at : ℕ → List MachRecord} {slots : List Slot} → HaveContents (n + 0) last none records_at None (slots ++ []) → HaveContents n last none records_at None slots
-alone {n} {last} {records_at} {slots} c = of_size (omega arith) (subst (HaveContents (n + 0) last none records_at None) (append-nil slots) c)
-
 -- ---- offsets
 
--- an offset is put into a register before other slots
-pub offset_then : {size last : ℕ} {rest : ℕ → List (Use LabelUse)} {records_at : ℕ → List MachRecord} {slots : List Slot} (flags : IsaFlags) (rd : ℕ) (o : ℤ) → HaveContents size last (at_end rest) records_at None slots → HaveContents (far_size flags rd o + size) last (at_end rest) records_at None (offset_slots flags rd o ++ slots)
-offset_then {size} {last} {rest} {records_at} {slots} flags rd o c = by (is_splittable o) (low64 (lower_of o) == 0)
+-- an offset is put into a register
+pub offsets : (flags : IsaFlags) (rd : ℕ) (o : ℤ) → HaveWords (far_size flags rd o) (offset_slots flags rd o)
+offsets flags rd o = by (is_splittable o) (low64 (lower_of o) == 0)
   where
     up : Decoded
     up = short_lui flags rd (upper_of o)
@@ -187,18 +259,14 @@ offset_then {size} {last} {rest} {records_at} {slots} flags rd o c = by (is_spli
     down : Decoded
     down = short_rri flags Addi rd rd (lower_of o)
 
-    by : (s n : Bool) → HaveContents ((if s then up.len + (if n then 0 else down.len) else inline_size flags 8) + size) last (at_end rest) records_at None ((if s then Op up ∷ (if n then [] else Op down ∷ []) else inline_slots flags rd loads.Ld 8 (to_le_bytes w64 (low64 o))) ++ slots)
-    by true true = of_size (omega arith) (op_then up (lui_sized flags rd (upper_of o)).even c)
-    by true false = of_size (omega arith) (op_then up (lui_sized flags rd (upper_of o)).even (op_then down (rri_sized flags Addi rd rd (lower_of o)).even c))
+    by : (s n : Bool) → HaveWords (if s then up.len + (if n then 0 else down.len) else inline_size flags 8) (if s then Op up ∷ (if n then [] else Op down ∷ []) else inline_slots flags rd loads.Ld 8 (to_le_bytes w64 (low64 o)))
+    by true true = of_size (omega arith) (one up (lui_sized flags rd (upper_of o)).even)
+    by true false = op_then up (lui_sized flags rd (upper_of o)).even (one down (rri_sized flags Addi rd rd (lower_of o)).even)
     by false n =
         let far = pos (8 + jump_size flags) in
         let jump = jump_len flags far in
         let even = least_even flags in
-        of_size (omega arith) (op_then (decoded (Base base.Auipc) rd 0 0 (pos 0)) refl (op_then (decoded_load loads.Ld rd rd far) refl (op_then (short_jump flags far) (omega arith) (data_then (to_le_bytes w64 (low64 o)) refl c))))
-
--- alone
-pub offsets : (flags : IsaFlags) (rd : ℕ) (o : ℤ) → HaveAccess (far_size flags rd o) 0 none None None (offset_slots flags rd o)
-offsets flags rd o = alone (offset_then flags rd o nothing)
+        of_size (omega arith) (op_then (decoded (Base base.Auipc) rd 0 0 (pos 0)) refl (op_then (decoded_load loads.Ld rd rd far) refl (op_then (short_jump flags far) (omega arith) (eight (to_le_bytes w64 (low64 o)) refl))))
 
 -- ---- by location
 
@@ -213,35 +281,22 @@ abbrev pub constant_at : Location → Option VCodeConstant
 constant_at (AtConstant k) = Some k
 constant_at _ = None
 
--- the sum of an offset and a register, after it
-pub sum_then : {size last : ℕ} {rest : ℕ → List (Use LabelUse)} {records_at : ℕ → List MachRecord} {slots : List Slot} (flags : IsaFlags) (rd r : ℕ) (o : ℤ) → HaveContents size last (at_end rest) records_at None slots → HaveContents (far_address_size flags rd r o + size) last (at_end rest) records_at None (offset_slots flags rd o ++ Op (short_rrr flags Add rd rd r) ∷ slots)
-sum_then flags rd r o c = of_size (omega arith) (offset_then flags rd o (op_then (short_rrr flags Add rd rd r) (rrr_sized flags Add rd rd r).even c))
+-- the sum of an offset and a register
+sums : (flags : IsaFlags) (rd r : ℕ) (o : ℤ) → HaveWords (far_address_size flags rd r o) (offset_slots flags rd o ++ Op (short_rrr flags Add rd rd r) ∷ [])
+sums flags rd r o = both (offsets flags rd o) (one (short_rrr flags Add rd rd r) (rrr_sized flags Add rd rd r).even)
 
--- an access to a register plus an offset, before other slots: at once where it is near, else after the address in x31
-pub based_then : {rest : ℕ → List (Use LabelUse)} {records_at : ℕ → List MachRecord} (size : ℕ) (more : List Slot) (flags : IsaFlags) (near far : Decoded) (front : List Slot) (r : ℕ) (o : ℤ) (last : Bool → ℕ) →
-    HaveContents (near.len + size) (last true) (at_end rest) records_at None (front ++ Op near ∷ more) → HaveContents (4 + size) (last false) (at_end rest) records_at None (front ++ Op far ∷ more) →
-    HaveContents ((if is_near o then near.len else far_address_size flags 31 r o + 4) + size) (last (is_near o)) (at_end rest) records_at None ((if is_near o then front ++ Op near ∷ [] else address_slots flags 31 (Based r o) ++ front ++ Op far ∷ []) ++ more)
-based_then {rest} {records_at} size more flags near far front r o last c d =
-    let sum = Op (short_rrr flags Add 31 31 r) ∷ [] in
-    elim (is_near o) as (λ t. HaveContents ((if t then near.len else far_address_size flags 31 r o + 4) + size) (last t) (at_end rest) records_at None
-    ((if t then front ++ Op near ∷ [] else (if t then Op (short_rri flags Addi 31 r o) ∷ [] else offset_slots flags 31 o ++ sum) ++ front ++ Op far ∷ []) ++ more)) [
-      | true ↦ subst (HaveContents (near.len + size) (last true) (at_end rest) records_at None) (sym (append_assoc front (Op near ∷ []) more)) c
-      | false ↦
-          subst (HaveContents (far_address_size flags 31 r o + 4 + size) (last false) (at_end rest) records_at None)
-          (sym (append_assoc (offset_slots flags 31 o ++ sum ++ front) (Op far ∷ []) more ∙ append_assoc (offset_slots flags 31 o ++ sum) front (Op far ∷ more) ∙ append_assoc (offset_slots flags 31 o) sum (front ++ Op far ∷ more)))
-          (of_size (omega arith) (sum_then flags 31 r o d))
-    ]
-
--- alone, where it may trap
+-- an access to a register plus an offset, which may trap: at once where it is near, else after the address in x31
 based : (flags : IsaFlags) (near far : Decoded) (trap : Option TrapCode) (r : ℕ) (o : ℤ) → near.len % 2 ≡ 0 → far.len ≡ 4 → HaveAccess (if is_near o then near.len else far_address_size flags 31 r o + 4) (if is_near o then near.len else 4) none trap None (if is_near o then access_slots trap ++ Op near ∷ [] else address_slots flags 31 (Based r o) ++ access_slots trap ++ Op far ∷ [])
 based flags near far trap r o near_even four =
     let d = subst (λ n. HaveAccess n n none trap None (access_slots trap ++ Op far ∷ [])) four (accessed trap far (ap (λ n. n % 2) four)) in
-    alone (based_then 0 [] flags near far (access_slots trap) r o (λ t. if t then near.len else 4) (of_size (omega arith) (accessed trap near near_even)) d)
+    elim (is_near o) as (λ t. HaveAccess (if t then near.len else far_address_size flags 31 r o + 4) (if t then near.len else 4) none trap None
+    (if t then access_slots trap ++ Op near ∷ [] else (if t then Op (short_rri flags Addi 31 r o) ∷ [] else offset_slots flags 31 o ++ Op (short_rrr flags Add 31 31 r) ∷ []) ++ access_slots trap ++ Op far ∷ []))
+    [ true ↦ accessed trap near near_even | false ↦ subst (HaveAccess (far_address_size flags 31 r o + 4) 4 none trap None) (sym (append_assoc (offset_slots flags 31 o ++ Op (short_rrr flags Add 31 31 r) ∷ []) (access_slots trap) (Op far ∷ []))) (both (sums flags 31 r o) d) ]
 
 pub addresses : (flags : IsaFlags) (rd : ℕ) (at : Location) → HaveAccess (address_size flags rd at) 0 (uses_at at) None (constant_at at) (address_slots flags rd at)
 addresses flags rd (Based r o) =
     elim (is_near o) as (λ t. HaveAccess (if t then (short_rri flags Addi rd r o).len else far_address_size flags rd r o) 0 none None None (if t then Op (short_rri flags Addi rd r o) ∷ [] else offset_slots flags rd o ++ Op (short_rrr flags Add rd rd r) ∷ []))
-    [ true ↦ of_size (omega arith) (op_then (short_rri flags Addi rd r o) (rri_sized flags Addi rd r o).even nothing) | false ↦ of_size (omega arith) (sum_then flags rd r o nothing) ]
+    [ true ↦ one (short_rri flags Addi rd r o) (rri_sized flags Addi rd r o).even | false ↦ sums flags rd r o ]
 addresses flags rd _ = record { plain = tt; long = refl; within = lit≤ tt; uses = λ allocated start. refl; records = λ start. refl; names = λ named. refl; closed = λ here start. (tt, (tt, tt)) }
 
 pub loaded : (flags : IsaFlags) (rd : ℕ) (op : LoadOP) (trap : Option TrapCode) (at : Location) → HaveAccess (load_size_at flags op rd at) (load_own_size flags op rd at) (uses_at at) trap (constant_at at) (load_slots flags rd op trap at)
@@ -332,15 +387,11 @@ real_number (Virtual file index) class n h = absurd h
 
 -- ---- how long the code of a number in a register is.
 
--- a number is put into a register before other slots
-pub number_then : {size last : ℕ} {rest : ℕ → List (Use LabelUse)} {records_at : ℕ → List MachRecord} {slots : List Slot} (flags : IsaFlags) (rd : ℕ) (z : ℤ) → HaveContents size last (at_end rest) records_at None slots → HaveContents (number_size flags rd z + size) last (at_end rest) records_at None (number_slots flags rd z ++ slots)
-number_then {size} {last} {rest} {records_at} {slots} flags rd z c =
-    elim (is_low z) as (λ low. HaveContents ((if low then (short_rri flags Addi rd 0 (lower_of z)).len else far_size flags rd z) + size) last (at_end rest) records_at None (slots_by flags rd z low ++ slots))
-    [ true ↦ op_then (short_rri flags Addi rd 0 (lower_of z)) (rri_sized flags Addi rd 0 (lower_of z)).even c | false ↦ offset_then flags rd z c ]
-
--- alone
-pub numbers : (flags : IsaFlags) (rd : ℕ) (z : ℤ) → HaveAccess (number_size flags rd z) 0 none None None (number_slots flags rd z)
-numbers flags rd z = alone (number_then flags rd z nothing)
+-- a number is put into a register
+pub numbers : (flags : IsaFlags) (rd : ℕ) (z : ℤ) → HaveWords (number_size flags rd z) (number_slots flags rd z)
+numbers flags rd z =
+    elim (is_low z) as (λ low. HaveWords (if low then (short_rri flags Addi rd 0 (lower_of z)).len else far_size flags rd z) (slots_by flags rd z low))
+    [ true ↦ one (short_rri flags Addi rd 0 (lower_of z)) (rri_sized flags Addi rd 0 (lower_of z)).even | false ↦ offsets flags rd z ]
 
 -- at most 20 bytes
 pub number_few : (flags : IsaFlags) (rd : ℕ) (z : ℤ) → number_size flags rd z ≤ 20
@@ -382,73 +433,28 @@ far_contained flags rd name offset = let jump = jump_len flags (pos (8 + jump_si
 
 -- ---- what lines of loads and stores add to a buffer, those of halves by integer registers among them, and that their parts are self-contained.
 
--- ---- a half is loaded
-
--- without uses, records or a constant
-abbrev HaveWords : ℕ → List Slot → Type 0
-HaveWords size slots = HaveContents size 0 none (λ at. []) None slots
-
-pub boxed_then : {size last : ℕ} {rest : ℕ → List (Use LabelUse)} {records_at : ℕ → List MachRecord} {slots : List Slot} (flags : IsaFlags) (rd : ℕ) →
-    HaveContents size last (at_end rest) records_at None slots → HaveContents (boxing_size flags + size) last (at_end rest) records_at None (boxing_slots flags rd ++ slots)
-boxed_then flags rd c = of_size (omega arith)
+boxed : (flags : IsaFlags) (rd : ℕ) → HaveWords (boxing_size flags) (boxing_slots flags rd)
+boxed flags rd = of_size (omega arith)
     (op_then (short_lui flags 30 high_bits) (lui_sized flags 30 high_bits).even
     (op_then (short_rrr flags Or 31 31 30) (rrr_sized flags Or 31 31 30).even
-    (op_then (moved_to_float rd 31) refl c)))
+    (one (moved_to_float rd 31) refl)))
 
-boxed : (flags : IsaFlags) (rd : ℕ) → HaveWords (boxing_size flags) (boxing_slots flags rd)
-boxed flags rd = alone (boxed_then flags rd nothing)
+-- the uses of an address don't depend on its end
+same_start : (at : Location) (start end other : ℕ) → uses_at at start end ≡ uses_at at start other
+same_start (Based r o) start end other = refl
+same_start _ start end other = refl
 
--- a trap at the first of them
-trapped : {size : ℕ} {slots : List Slot} (trap : Option TrapCode) → HaveWords size slots → HaveAccess size size none trap None (access_slots trap ++ slots)
-trapped None c = from_start c
-trapped (Some code) c = note_then (event.Trap code) (from_start c)
-
-half_loaded : (flags : IsaFlags) (rd : ℕ) (trap : Option TrapCode) (at : Location) → HaveAccess (load_size_at flags Lh 31 at + boxing_size flags) (load_own_size flags Lh 31 at + boxing_size flags) (uses_at at) trap (constant_at at) (half_load_slots flags rd trap at)
-half_loaded flags rd trap (Based r o) =
-    based_then (boxing_size flags) (boxing_slots flags rd) flags (short_load flags Lh 31 r o) (decoded_load Lh 31 31 (pos 0)) (access_slots trap) r o (λ t. (if t then (short_load flags Lh 31 r o).len else 4) + boxing_size flags)
-    (trapped trap (op_then (short_load flags Lh 31 r o) (load_sized flags Lh 31 r o).even (boxed flags rd)))
-    (trapped trap (op_then (decoded_load Lh 31 31 (pos 0)) refl (boxed flags rd)))
-half_loaded flags rd None _ = record { plain = tt; long = omega arith; within = omega arith; uses = λ allocated start. refl; records = λ start. refl; names = λ named. refl; closed = λ here start. (tt, (tt, ((lui_sized flags 30 high_bits).even, ((rrr_sized flags Or 31 31 30).even, (refl, tt))))) }
-half_loaded flags rd (Some code) _ =
-    let at_start = λ (start : ℕ). let e : start + 4 ≡ start + (8 + boxing_size flags) - (4 + boxing_size flags) = omega arith in ap (trap_at code) e in
-    record { plain = tt; long = omega arith; within = omega arith; uses = λ allocated start. refl; records = at_start; names = λ named. refl; closed = λ here start. (tt, (tt, ((lui_sized flags 30 high_bits).even, ((rrr_sized flags Or 31 31 30).even, (refl, tt))))) }
-
--- ---- a half is stored
-
--- a word of four bytes before slots whose uses don't depend on their end
-led : {size last : ℕ} {own : ℕ → List (Use LabelUse)} {records_at : ℕ → List MachRecord} {constant : Option VCodeConstant} {slots : List Slot} (d : Decoded) → d.len ≡ 4 → HaveContents size last (λ start end. own start) records_at constant slots → HaveContents (4 + size) last (λ start end. own (start + 4)) records_at constant (Op d ∷ slots)
-led {size} {last} {own} {records_at} {slots = slots} d four c =
-    let uses = λ (allocated start : ℕ). c.uses allocated (start + d.len) ∙ ap (λ n. own (start + n)) four in
-    let records = λ (start : ℕ). c.records (start + d.len) ∙ (let e : start + d.len + size - last ≡ start + (4 + size) - last = omega arith in ap records_at e) in
-    search (rules, arith, c, four, uses, records)
-
--- those of an address don't
-abbrev address_uses : Location → ℕ → List (Use LabelUse)
-address_uses at start = uses_at at start start
-
-starts_alone : (at : Location) (start end : ℕ) → uses_at at start end ≡ address_uses at start
-starts_alone (Based r o) start end = refl
-starts_alone _ start end = refl
-
-with_uses : {size last : ℕ} {own other : ℕ → ℕ → List (Use LabelUse)} {records_at : ℕ → List MachRecord} {constant : Option VCodeConstant} {slots : List Slot} → ((start end : ℕ) → own start end ≡ other start end) → HaveContents size last own records_at constant slots → HaveContents size last other records_at constant slots
-with_uses {size} same c = record { plain = c.plain; long = c.long; within = c.within; uses = λ allocated start. c.uses allocated start ∙ same start (start + size); records = c.records; names = c.names; closed = c.closed }
-
-half_stored : (flags : IsaFlags) (src : ℕ) (trap : Option TrapCode) (at : Location) → HaveAccess (4 + store_size_at flags Sh 30 at) (store_own_size flags Sh 30 at) (λ start end. uses_at at (start + 4) end) trap (constant_at at) (half_store_slots flags src trap at)
-half_stored flags src trap at = with_uses (λ start end. sym (starts_alone at (start + 4) end)) (led (moved_to_integer 30 src) refl (with_uses (starts_alone at) (stored flags Sh 30 trap at)))
-
--- ---- lines
-
-line_loaded : (flags : IsaFlags) (rd : ℕ) (op : LoadOP) (trap : Option TrapCode) (at : Location) → HaveAccess (load_line_size flags op rd at) (load_line_own_size flags op rd at) (uses_at at) trap (constant_at at) (load_line_slots flags rd op trap at)
+pub line_loaded : (flags : IsaFlags) (rd : ℕ) (op : LoadOP) (trap : Option TrapCode) (at : Location) → HaveAccess (load_line_size flags op rd at) (load_line_own_size flags op rd at) (uses_at at) trap (constant_at at) (load_line_slots flags rd op trap at)
 line_loaded flags rd op trap at =
     elim (has_load flags op) as (λ has. HaveAccess (if has then load_size_at flags op rd at else load_size_at flags Lh 31 at + boxing_size flags) (if has then load_own_size flags op rd at else load_own_size flags Lh 31 at + boxing_size flags) (uses_at at) trap (constant_at at)
     (if has then load_slots flags rd op trap at else half_load_slots flags rd trap at))
-    [ true ↦ loaded flags rd op trap at | false ↦ half_loaded flags rd trap at ]
+    [ true ↦ loaded flags rd op trap at | false ↦ followed (same_start at) (loaded flags 31 Lh trap at) (boxed flags rd) ]
 
 line_stored : (flags : IsaFlags) (op : StoreOP) (src : ℕ) (trap : Option TrapCode) (at : Location) → HaveAccess (store_line_size flags op src at) (store_line_own_size flags op src at) (λ start end. uses_at at (uses_start (is_moved_first flags op) start) end) trap (constant_at at) (store_line_slots flags op src trap at)
 line_stored flags op src trap at =
     elim (has_store flags op) as (λ has. HaveAccess (if has then store_size_at flags op src at else 4 + store_size_at flags Sh 30 at) (if has then store_own_size flags op src at else store_own_size flags Sh 30 at) (λ start end. uses_at at (uses_start (not has) start) end) trap (constant_at at)
     (if has then store_slots flags op src trap at else half_store_slots flags src trap at))
-    [ true ↦ stored flags op src trap at | false ↦ half_stored flags src trap at ]
+    [ true ↦ stored flags op src trap at | false ↦ both (one (moved_to_integer 30 src) refl) (stored flags Sh 30 trap at) ]
 
 pub load_summed : (context : Context) (rd : Writable Reg) (op : LoadOP) (flags : MemFlagsData) (from : AMode) → IsSummed context (Load rd op flags from) (load_line_slots context.flags (number_of rd.reg) op flags.trap (location_of context.frame from))
 load_summed context rd op flags from = summed_by (line_loaded context.flags (number_of rd.reg) op flags.trap (location_of context.frame from)) refl (same_uses context.flags context.frame (load_size op) from) (λ start end. refl) (same_constant context.frame (load_size op) from)

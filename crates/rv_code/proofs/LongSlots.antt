@@ -1,5 +1,5 @@
 -- Slots of tables, tail calls and probes of the stack: how long they are, and that they are self-contained.
-use Rattle.std.proofs.Common.{◌≡◌, ℕ, ◌+◌, ◌^◌, ◌*◌, ◌≤◌, Bool, true, false, List, [], ◌∷◌, length, Option, Some, None, ℤ, pos, ◌-ℤ◌, arith, lit≤, refl, subst, sym, ◌-◌, ◌%◌, ◌<◌, ◌++◌, map, ap, ◌∙◌, ◌==◌, suc, append_assoc, if◌then◌else◌, ◌&&◌}
+use Rattle.std.proofs.Common.{◌≡◌, ℕ, ◌+◌, ◌^◌, ◌*◌, ◌≤◌, Bool, true, false, List, [], ◌∷◌, length, Option, Some, None, ℤ, pos, ◌-ℤ◌, arith, lit≤, refl, subst, sym, ◌-◌, ◌%◌, ◌<◌, ◌++◌, map, ap, ◌∙◌, ◌==◌, suc, if◌then◌else◌, ◌&&◌}
 use Rattle.std.proofs.lemmas.Int.{ints}
 use Rattle.std.specs.List.{AllByRecursion}
 use Rattle.std.specs.Int.{to_le_bytes, w64, cast_signed}
@@ -20,7 +20,7 @@ use Rattle.rv_base.specs.Regs.{number_of}
 use Rattle.rv_ops.specs.declared.alu.AluOPRRR.TheVariants.{Add, Or, Sub}
 use Rattle.rv_ops.specs.declared.memory.LoadOP.{LoadOP}
 use Rattle.rv_ops.specs.declared.memory.LoadOP.TheVariants.{Ld, Lh}
-use Rattle.rv_encode.specs.Operations.{has_load, decoded_load}
+use Rattle.rv_encode.specs.Operations.{has_load}
 use Rattle.rv_inst.specs.Addresses.{Based, is_near, is_splittable, load_size_at}
 use Rattle.rv_inst.specs.Halves.{boxing_size, high_bits, load_line_size}
 use Rattle.rv_inst.specs.Returns.{StackLoad, loads_unless, location_loads, restores, result_load, result_loads, saved_load, saves_from, setup_loads, typed_loads, frame_above}
@@ -29,7 +29,7 @@ use Rattle.rv_base.specs.declared.label.MachLabel.{MachLabel}
 use Rattle.rv_ops.specs.declared.alu.AluOPRRI.TheVariants.{Addi, Slli, Srli}
 use Rattle.rv_ops.specs.declared.memory.LoadOP.TheVariants as loads
 use Rattle.rv_machine.specs.State.{low64}
-use Rattle.rv_inst.specs.Forms.{short_rri, short_lui, short_rrr, short_jalr, short_load}
+use Rattle.rv_inst.specs.Forms.{short_rri, short_lui, short_rrr, short_jalr}
 use Rattle.rv_inst.specs.LabelUse.{marks_of}
 use Rattle.rv_base.specs.declared.external_name.ExternalName.{ExternalName}
 use Rattle.rv_machine.specs.declared.decoding.Decoded.{Decoded}
@@ -44,20 +44,17 @@ use Rattle.rv_inst.specs.declared.inst.Inst.TheVariants.{StackProbeLoop}
 use Rattle.rv_code.specs.Usable.{AreFineResults, IsFineResult}
 use Rattle.rv_code.proofs.OperationActs.{split_short, load_short, either_most, load_sized, lui_sized, rrr_sized, rri_sized, jump_len, least_even, jalr_sized, HasSize, store_sized, least_few}
 use Rattle.rv_code.proofs.LineOperands.{of_both, setup_by}
-use Rattle.rv_code.proofs.LineSlots.{is_low, numbers, number_few as number_most, number_then, IsPlain, IsSummed, boxed_then, HaveContents, HaveAccess, at_end, none, nothing, of_size, op_then, alone, based_then, summed_by}
+use Rattle.rv_code.proofs.LineSlots.{is_low, numbers, number_few as number_most, IsPlain, IsSummed, HaveContents, HaveAccess, HaveWords, at_end, none, nothing, of_size, one, both, closed_append, op_then, line_loaded, size_append, summed_by}
 use Rattle.rv_code.specs.Choices.{extend_pieces}
 use Rattle.rv_code.specs.Pieces.{slots_of}
 use Rattle.rv_code.specs.Immediates.{upper_of, lower_of}
-use Rattle.rv_code.specs.InstParts.{inline_slots, number_slots, table_slots, boxing_slots, half_load_slots, load_line_slots, load_slots, stack_load_slots, stack_step_slots, return_slots, call_to, tail_slots, t0_slots, probe_slots}
+use Rattle.rv_code.specs.InstParts.{inline_slots, number_slots, table_slots, stack_load_slots, stack_step_slots, return_slots, call_to, tail_slots, t0_slots, probe_slots}
 use Rattle.rv_code.specs.Operations.{jump_size, decoded_bgeu, short_jump}
-use Rattle.rv_code.specs.Slots.{Label, Own, Slot, Op, Aim, Data, Allocate, Here, AreClosed, AreSelfContained, size_of, Notes, call_event}
+use Rattle.rv_code.specs.Slots.{here_at, Label, Own, Slot, Op, Aim, Data, Allocate, Here, AreClosed, AreSelfContained, size_of, Notes, call_event}
 use Rattle.rv_code.specs.Tables.{far_jump, jump_slots}
-use Rattle.rv_code.proofs.Courses.{size_append}
 use Rattle.rv_code.specs.Probes.{probe_op, zero_op, nearer_op, probe_turn, probe_turn_size}
 
 -- ---- how many bytes loads from the stack have: 28 at most, halves by integer registers among them, whose offset is at most 2^30.
-
--- ---- one load
 
 abbrev pub IsShortLoad : IsaFlags → StackLoad → Type 0
 IsShortLoad flags l = load_line_size flags l.op l.register (Based 2 l.offset) ≤ 28
@@ -72,10 +69,6 @@ half_short flags n le =
     let far = split_short flags 31 (pos n) (grind (arith, ints)) in
     let load : load_size_at flags Lh 31 (Based 2 (pos n)) ≤ 16 = either_most (is_near (pos n)) _ _ 16 (omega (arith, (load_sized flags Lh 31 2 (pos n)).few)) (omega (arith, far, (rrr_sized flags Add 31 31 2).few)) in
     omega (arith, load, (lui_sized flags 30 high_bits).few, (rrr_sized flags Or 31 31 30).few)
-
--- any load from so far above the stack pointer
-near_short : (flags : IsaFlags) (op : LoadOP) (rd n : ℕ) → n ≤ 2 ^ 30 → load_line_size flags op rd (Based 2 (pos n)) ≤ 28
-near_short flags op rd n le = either_most (has_load flags op) _ _ 28 (load_short flags op rd (Based 2 (pos n))) (half_short flags n le)
 
 -- ---- several
 
@@ -110,7 +103,7 @@ restores_short flags frame =
 
 typed_short : (flags : IsaFlags) (register offset : ℕ) (op : Option LoadOP) → offset ≤ 2 ^ 30 → AreShortLoads flags (typed_loads register offset op)
 typed_short flags register offset None near = tt
-typed_short flags register offset (Some op) near = (near_short flags op register offset near, tt)
+typed_short flags register offset (Some op) near = (either_most (has_load flags op) _ _ 28 (load_short flags op register (Based 2 (pos offset))) (half_short flags offset near), tt)
 
 located_short : (flags : IsaFlags) (r : Reg) (location : RetLocation) → IsFineResult r location → AreShortLoads flags (location_loads r location)
 located_short flags r (InReg s) h = tt
@@ -126,8 +119,6 @@ unless_short flags true defs h = tt
 unless_short flags false defs h = results_short flags defs h
 
 -- ---- the length of the slots of a branch by a table.
-
--- ---- slots of even lengths
 
 -- slots that use, allocate and bind no own label, each of an even length
 abbrev pub AreEven : List Slot → Type 0
@@ -157,15 +148,6 @@ even_closed here at (Data bytes ∷ slots) e = (e.0, even_closed here (at + leng
 even_closed here at (Allocate ∷ slots) e = absurd e
 even_closed here at (Here k ∷ slots) e = absurd e
 even_closed here at (slot ∷ slots) e = even_closed here _ slots e
-
-even_both : (slots more : List Slot) → AreEven slots → AreEven more → AreEven (slots ++ more)
-even_both [] more e f = f
-even_both (Op d ∷ slots) more e f = (e.0, even_both slots more e.1 f)
-even_both (Aim kind (Own k) ops ∷ slots) more e f = absurd e
-even_both (Data bytes ∷ slots) more e f = (e.0, even_both slots more e.1 f)
-even_both (Allocate ∷ slots) more e f = absurd e
-even_both (Here k ∷ slots) more e f = absurd e
-even_both (slot ∷ slots) more e f = even_both slots more e f
 
 -- ---- the pieces of a branch by a table
 
@@ -230,9 +212,13 @@ table_long flags index tmp1 tmp2 (default ∷ labels) some =
 pub table_contained : (flags : IsaFlags) (index tmp1 tmp2 : ℕ) (targets : List MachLabel) → AreSelfContained (table_slots flags index tmp1 tmp2 targets)
 table_contained flags index tmp1 tmp2 [] = tt
 table_contained flags index tmp1 tmp2 (default ∷ labels) =
-    even_closed _ 0 (table_slots flags index tmp1 tmp2 (default ∷ labels))
-    (even_both (slots_of flags (extend_pieces 31 index false 32)) (number_slots flags tmp2 (pos (length labels)) ++ jump_slots tmp1 tmp2 default labels) (extend_even flags 31 index)
-    (even_both (number_slots flags tmp2 (pos (length labels))) (jump_slots tmp1 tmp2 default labels) (number_even flags tmp2 (pos (length labels))) (refl, (refl, (refl, (refl, (refl, far_jumps_even tmp2 labels)))))))
+    let extend = slots_of flags (extend_pieces 31 index false 32) in
+    let number = number_slots flags tmp2 (pos (length labels)) in
+    let jumps = jump_slots tmp1 tmp2 default labels in
+    let here = λ (k : ℕ). here_at k 0 (table_slots flags index tmp1 tmp2 (default ∷ labels)) in
+    let jumps_even : AreEven jumps = (refl, (refl, (refl, (refl, (refl, far_jumps_even tmp2 labels))))) in
+    closed_append here 0 (size_of extend) extend (number ++ jumps) (omega arith) (even_closed here 0 extend (extend_even flags 31 index))
+    (closed_append here (size_of extend) (size_of extend + size_of number) number jumps refl ((numbers flags tmp2 (pos (length labels))).closed here (size_of extend)) (even_closed here (size_of extend + size_of number) jumps jumps_even))
 
 -- four bytes less than the space before which an island is asked for; so many labels need at most two instructions for their number
 pub table_short : (flags : IsaFlags) (index tmp2 labels : ℕ) → 1 ≤ labels → labels ≤ 2 ^ 30 → table_size flags index tmp2 labels ≤ 36 + 8 * labels
@@ -240,33 +226,17 @@ table_short flags index tmp2 labels some few = omega (arith, extend_few flags 31
 
 -- ---- what tail calls add to a buffer: an island where one is needed, and then their words; and that their parts are self-contained.
 
--- ---- pieces
-
--- a load by a register, before slots without uses
-load_then : {size last : ℕ} {rest : ℕ → List (Use LabelUse)} {records_at : ℕ → List MachRecord} {slots : List Slot} (flags : IsaFlags) (rd : ℕ) (op : LoadOP) (r : ℕ) (o : ℤ) → HaveContents size last (at_end rest) records_at None slots → HaveContents (load_size_at flags op rd (Based r o) + size) last (at_end rest) records_at None (load_slots flags rd op None (Based r o) ++ slots)
-load_then {size} {last} {slots = slots} flags rd op r o c = based_then size slots flags (short_load flags op rd r o) (decoded_load op rd 31 (pos 0)) [] r o (λ near. last) (op_then _ (load_sized flags op rd r o).even c) (op_then _ refl c)
-
-half_then : {size last : ℕ} {rest : ℕ → List (Use LabelUse)} {records_at : ℕ → List MachRecord} {slots : List Slot} (flags : IsaFlags) (rd r : ℕ) (o : ℤ) → HaveContents size last (at_end rest) records_at None slots → HaveContents (load_size_at flags Lh 31 (Based r o) + boxing_size flags + size) last (at_end rest) records_at None (half_load_slots flags rd None (Based r o) ++ slots)
-half_then {size} {last} {rest} {records_at} {slots} flags rd r o c =
-    subst (HaveContents (load_size_at flags Lh 31 (Based r o) + boxing_size flags + size) last (at_end rest) records_at None) (sym (append_assoc (load_slots flags 31 Lh None (Based r o)) (boxing_slots flags rd) slots))
-    (of_size (omega arith) (load_then flags 31 Lh r o (boxed_then flags rd c)))
-
-line_then : {size last : ℕ} {rest : ℕ → List (Use LabelUse)} {records_at : ℕ → List MachRecord} {slots : List Slot} (flags : IsaFlags) (rd : ℕ) (op : LoadOP) (r : ℕ) (o : ℤ) → HaveContents size last (at_end rest) records_at None slots → HaveContents (load_line_size flags op rd (Based r o) + size) last (at_end rest) records_at None (load_line_slots flags rd op None (Based r o) ++ slots)
-line_then {size} {last} {rest} {records_at} {slots} flags rd op r o c =
-    elim (has_load flags op) as (λ has. HaveContents ((if has then load_size_at flags op rd (Based r o) else load_size_at flags Lh 31 (Based r o) + boxing_size flags) + size) last (at_end rest) records_at None
-    ((if has then load_slots flags rd op None (Based r o) else half_load_slots flags rd None (Based r o)) ++ slots))
-    [ true ↦ load_then flags rd op r o c | false ↦ half_then flags rd r o c ]
-
 -- loads from the stack
+loads_counted : (flags : IsaFlags) (loads : List StackLoad) → HaveWords (stack_loads_size flags loads) (stack_load_slots flags loads)
+loads_counted flags [] = nothing
+loads_counted flags (l ∷ loads) = both (line_loaded flags l.register l.op None (Based 2 l.offset)) (loads_counted flags loads)
+
 pub loads_then : {size last : ℕ} {rest : ℕ → List (Use LabelUse)} {records_at : ℕ → List MachRecord} {slots : List Slot} (flags : IsaFlags) (loads : List StackLoad) → HaveContents size last (at_end rest) records_at None slots → HaveContents (stack_loads_size flags loads + size) last (at_end rest) records_at None (stack_load_slots flags loads ++ slots)
-loads_then flags [] c = of_size (omega arith) c
-loads_then {size} {last} {rest} {records_at} {slots} flags (l ∷ loads) c =
-    subst (HaveContents (stack_loads_size flags (l ∷ loads) + size) last (at_end rest) records_at None) (sym (append_assoc (load_line_slots flags l.register l.op None (Based 2 l.offset)) (stack_load_slots flags loads) slots))
-    (of_size (omega arith) (line_then flags l.register l.op 2 l.offset (loads_then flags loads c)))
+loads_then flags loads c = both (loads_counted flags loads) c
 
 -- a step of the stack pointer
-pub step_then : {size last : ℕ} {rest : ℕ → List (Use LabelUse)} {records_at : ℕ → List MachRecord} {slots : List Slot} (flags : IsaFlags) (z : ℤ) → HaveContents size last (at_end rest) records_at None slots → HaveContents (stack_step_size flags z + size) last (at_end rest) records_at None (stack_step_slots flags z ++ slots)
-step_then {size} {last} {rest} {records_at} {slots} flags z c = by (low64 z == 0) (is_near z)
+steps_counted : (flags : IsaFlags) (z : ℤ) → HaveWords (stack_step_size flags z) (stack_step_slots flags z)
+steps_counted flags z = by (low64 z == 0) (is_near z)
   where
     sum : Decoded
     sum = short_rrr flags Add 2 2 31
@@ -274,21 +244,17 @@ step_then {size} {last} {rest} {records_at} {slots} flags z c = by (low64 z == 0
     near : Decoded
     near = short_rri flags Addi 2 2 z
 
-    by : (none_at_all small : Bool) → HaveContents ((if none_at_all then 0 else if small then near.len else number_size flags 31 z + sum.len) + size) last (at_end rest) records_at None ((if none_at_all then [] else if small then Op near ∷ [] else number_slots flags 31 z ++ Op sum ∷ []) ++ slots)
-    by true small = of_size (omega arith) c
-    by false true = op_then near (rri_sized flags Addi 2 2 z).even c
-    by false false = subst (HaveContents (number_size flags 31 z + sum.len + size) last (at_end rest) records_at None) (sym (append_assoc (number_slots flags 31 z) (Op sum ∷ []) slots))
-        (of_size (omega arith) (number_then flags 31 z (op_then sum (rrr_sized flags Add 2 2 31).even c)))
+    by : (none_at_all small : Bool) → HaveWords (if none_at_all then 0 else if small then near.len else number_size flags 31 z + sum.len) (if none_at_all then [] else if small then Op near ∷ [] else number_slots flags 31 z ++ Op sum ∷ [])
+    by true small = nothing
+    by false true = one near (rri_sized flags Addi 2 2 z).even
+    by false false = both (numbers flags 31 z) (one sum (rrr_sized flags Add 2 2 31).even)
+
+pub step_then : {size last : ℕ} {rest : ℕ → List (Use LabelUse)} {records_at : ℕ → List MachRecord} {slots : List Slot} (flags : IsaFlags) (z : ℤ) → HaveContents size last (at_end rest) records_at None slots → HaveContents (stack_step_size flags z + size) last (at_end rest) records_at None (stack_step_slots flags z ++ slots)
+step_then flags z c = both (steps_counted flags z) c
 
 -- a frame is taken away
-return_then : {size last : ℕ} {rest : ℕ → List (Use LabelUse)} {records_at : ℕ → List MachRecord} {slots : List Slot} (flags : IsaFlags) (frame : FrameLayout) (arguments : ℕ) → HaveContents size last (at_end rest) records_at None slots → HaveContents (return_size flags frame arguments + size) last (at_end rest) records_at None (return_slots flags frame arguments ++ slots)
-return_then {size} {last} {rest} {records_at} {slots} flags frame arguments c =
-    subst (HaveContents (return_size flags frame arguments + size) last (at_end rest) records_at None) (sym (append_assoc (stack_load_slots flags (restores frame)) (stack_step_slots flags (pos (frame_above frame arguments))) slots))
-    (of_size (omega arith) (loads_then flags (restores frame) (step_then flags (pos (frame_above frame arguments)) c)))
-
--- alone
 pub returns_counted : (flags : IsaFlags) (frame : FrameLayout) (arguments : ℕ) → HaveAccess (return_size flags frame arguments) 0 none None None (return_slots flags frame arguments)
-returns_counted flags frame arguments = alone (return_then flags frame arguments nothing)
+returns_counted flags frame arguments = both (loads_counted flags (restores frame)) (steps_counted flags (pos (frame_above frame arguments)))
 
 -- ---- the whole
 
@@ -300,10 +266,10 @@ pair_contents : (name : ExternalName) → HaveContents 8 8 none (call_records na
 pair_contents name = record { plain = tt; long = refl; within = lit≤ tt; uses = λ allocated start. refl; records = λ start. let e : start ≡ start + 8 - 8 = omega arith in ap (call_records name) e; names = λ named. refl; closed = λ here start. tt }
 
 pub tail_contents : (flags : IsaFlags) (frame : FrameLayout) (arguments : ℕ) (name : ExternalName) → HaveContents (return_size flags frame arguments + 8) 8 none (call_records name) None (tail_slots flags frame arguments name)
-tail_contents flags frame arguments name = return_then flags frame arguments (pair_contents name)
+tail_contents flags frame arguments name = both (returns_counted flags frame arguments) (pair_contents name)
 
 pub t0_contents : (flags : IsaFlags) (frame : FrameLayout) (arguments : ℕ) → HaveAccess (return_size flags frame arguments + (short_jalr flags 0 5 (pos 0)).len) 0 none None None (t0_slots flags frame arguments)
-t0_contents flags frame arguments = return_then flags frame arguments (of_size (omega arith) (op_then (short_jalr flags 0 5 (pos 0)) (jalr_sized flags 0 5 (pos 0)).even nothing))
+t0_contents flags frame arguments = both (returns_counted flags frame arguments) (one (short_jalr flags 0 5 (pos 0)) (jalr_sized flags 0 5 (pos 0)).even)
 
 pub tail_contained : (flags : IsaFlags) (frame : FrameLayout) (arguments : ℕ) (name : ExternalName) → AreSelfContained (tail_slots flags frame arguments name)
 tail_contained flags frame arguments name = (tail_contents flags frame arguments name).closed _ 0
@@ -356,12 +322,7 @@ turn_counted flags tmp =
     (op_then (short_jump flags far) even nothing)))))
 
 probes_counted : (flags : IsaFlags) (tmp guard count : ℕ) → HaveAccess (probe_size flags tmp guard count) 0 none None None (probe_slots flags tmp guard count)
-probes_counted flags tmp guard count =
-    let first = number_slots flags 31 (cast_signed w64 (guard * count)) in
-    let second = number_slots flags tmp (pos guard) in
-    let turn = map Op (probe_turn flags tmp) in
-    subst (HaveAccess (probe_size flags tmp guard count) 0 none None None) (sym (append_assoc first second turn))
-    (of_size (omega arith) (number_then flags 31 (cast_signed w64 (guard * count)) (number_then flags tmp (pos guard) (turn_counted flags tmp))))
+probes_counted flags tmp guard count = of_size (omega arith) (both (both (numbers flags 31 (cast_signed w64 (guard * count))) (numbers flags tmp (pos guard))) (turn_counted flags tmp))
 
 pub probe_summed : (context : Context) (guard count : ℕ) (tmp : Writable Reg) → IsSummed context (StackProbeLoop guard count tmp) (probe_slots context.flags (number_of tmp.reg) (low_word guard) (low_word count))
 probe_summed context guard count tmp = summed_by (probes_counted context.flags (number_of tmp.reg) (low_word guard) (low_word count)) refl (λ start end. refl) (λ start end. refl) refl

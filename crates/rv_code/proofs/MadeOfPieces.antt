@@ -10,7 +10,7 @@ use Rattle.rv_base.specs.declared.constant.VCodeConstant.{VCodeConstant}
 use Rattle.rv_inst.specs.Context.{Context}
 use Rattle.rv_inst.specs.Operands.{inst_constant, named_by, all_of, written_in}
 use Rattle.rv_inst.specs.MostBytes.{most_bytes}
-use Rattle.rv_inst.specs.Sizes.{Words, words_in, extent_of, inst_records, count_size, zeros_size, reverse_size, is_byte, move_op, move_size, moves_size, right_shift, trap_size}
+use Rattle.rv_inst.specs.Sizes.{Words, words_in, extent_of, inst_records, zeros_size, is_byte, move_op, move_size, moves_size, right_shift, trap_size}
 use Rattle.rv_inst.specs.Uses.{uses_in}
 use Rattle.rv_inst.specs.declared.inst.Inst.{Inst}
 use Rattle.rv_base.specs.IrType.{bits_of}
@@ -126,20 +126,13 @@ pieces_name flags (p ∷ ps) named = pieces_name flags ps named
 
 -- ---- the instructions that count bits of a register, and that reverse those of its bytes: the pieces that make them, and how long they are.
 
--- ---- the ones
-
-ones_long : (flags : IsaFlags) (sum tmp step rs bits : ℕ) → count_size flags sum tmp step rs bits ≡ pieces_size flags (ones_pieces sum tmp step rs bits)
-ones_long flags sum tmp step rs bits = let jump = window_long flags in omega arith
-
-ones_closed : (sum tmp step rs bits : ℕ) → AreClosedPieces (ones_pieces sum tmp step rs bits)
-ones_closed sum tmp step rs bits =
-    let P = IsBoundIn (ones_pieces sum tmp step rs bits) in
-    record { among = (lit< tt, (lit< tt, (lit< tt, (lit< tt, (lit< tt, (lit< tt, tt)))))); bound = below_more P 2 (below_more P 1 (below_more P 0 (below_none P) (_, refl)) (_, refl)) (_, refl) }
-
 pub popcnt_made : (context : Context) (info : CountInfo) → IsMadeOf context (Popcnt info) (ones_pieces (number_of info.sum.reg) (number_of info.tmp.reg) (number_of info.step.reg) (number_of info.rs) (bits_of info.ty))
 popcnt_made context info =
-    made_by context (Popcnt info) _ (ones_closed (number_of info.sum.reg) (number_of info.tmp.reg) (number_of info.step.reg) (number_of info.rs) (bits_of info.ty)) (lit≤ tt) (lit≤ tt) tt (lit≤ tt)
-    (ap Words (ones_long context.flags (number_of info.sum.reg) (number_of info.tmp.reg) (number_of info.step.reg) (number_of info.rs) (bits_of info.ty))) (λ start end. refl) (λ start. refl) (λ named. refl)
+    let pieces = ones_pieces (number_of info.sum.reg) (number_of info.tmp.reg) (number_of info.step.reg) (number_of info.rs) (bits_of info.ty) in
+    let P = IsBoundIn pieces in
+    let closed : AreClosedPieces pieces = record { among = (lit< tt, (lit< tt, (lit< tt, (lit< tt, (lit< tt, (lit< tt, tt)))))); bound = below_more P 2 (below_more P 1 (below_more P 0 (below_none P) (_, refl)) (_, refl)) (_, refl) } in
+    let long : extent_of context (Popcnt info) ≡ Words (pieces_size context.flags pieces) = let jump = window_long context.flags in ap Words (omega arith) in
+    made_by context (Popcnt info) pieces closed (lit≤ tt) (lit≤ tt) tt (lit≤ tt) long (λ start end. refl) (λ start. refl) (λ named. refl)
 
 -- ---- the zeros before the first one
 
@@ -165,23 +158,19 @@ zeros_made context false info =
 
 -- ---- bits in reverse order
 
-reverse_long : (flags : IsaFlags) (rd tmp tmp2 step rs bits : ℕ) → reverse_size flags rd tmp tmp2 step rs bits ≡ pieces_size flags (reverse_pieces rd tmp tmp2 step rs bits)
-reverse_long flags rd tmp tmp2 step rs bits = let jump = window_long flags in omega arith
-
-reverse_closed : (rd tmp tmp2 step rs bits : ℕ) → AreClosedPieces (reverse_pieces rd tmp tmp2 step rs bits)
-reverse_closed rd tmp tmp2 step rs bits =
-    let P = IsBoundIn (reverse_pieces rd tmp tmp2 step rs bits) in
-    let three = below_more P 2 (below_more P 1 (below_more P 0 (below_none P) (_, refl)) (_, refl)) (_, refl) in
-    record { among = (lit< tt, (lit< tt, (lit< tt, (lit< tt, (lit< tt, (lit< tt, (lit< tt, (lit< tt, (lit< tt, (lit< tt, tt)))))))))); bound = below_more P 4 (below_more P 3 three (_, refl)) (_, refl) }
-
 pub reverse_made : (context : Context) (info : Brev8Info) → IsMadeOf context (Brev8 info) (reverse_pieces (number_of info.rd.reg) (number_of info.tmp.reg) (number_of info.tmp2.reg) (number_of info.step.reg) (number_of info.rs) (bits_of info.ty))
 reverse_made context info =
-    made_by context (Brev8 info) _ (reverse_closed (number_of info.rd.reg) (number_of info.tmp.reg) (number_of info.tmp2.reg) (number_of info.step.reg) (number_of info.rs) (bits_of info.ty)) (lit≤ tt) (lit≤ tt) tt (lit≤ tt)
-    (ap Words (reverse_long context.flags (number_of info.rd.reg) (number_of info.tmp.reg) (number_of info.tmp2.reg) (number_of info.step.reg) (number_of info.rs) (bits_of info.ty))) (λ start end. refl) (λ start. refl) (λ named. refl)
+    let pieces = reverse_pieces (number_of info.rd.reg) (number_of info.tmp.reg) (number_of info.tmp2.reg) (number_of info.step.reg) (number_of info.rs) (bits_of info.ty) in
+    let P = IsBoundIn pieces in
+    let three = below_more P 2 (below_more P 1 (below_more P 0 (below_none P) (_, refl)) (_, refl)) (_, refl) in
+    let closed : AreClosedPieces pieces = record {
+      among = (lit< tt, (lit< tt, (lit< tt, (lit< tt, (lit< tt, (lit< tt, (lit< tt, (lit< tt, (lit< tt, (lit< tt, tt))))))))));
+      bound = below_more P 4 (below_more P 3 three (_, refl)) (_, refl);
+    } in
+    let long : extent_of context (Brev8 info) ≡ Words (pieces_size context.flags pieces) = let jump = window_long context.flags in ap Words (omega arith) in
+    made_by context (Brev8 info) pieces closed (lit≤ tt) (lit≤ tt) tt (lit≤ tt) long (λ start end. refl) (λ start. refl) (λ named. refl)
 
 -- ---- the instructions that move and extend a register and that choose one of two values: the pieces that make them, and how long they are.
-
--- ---- operations alone
 
 -- what an operation leaves true of the pieces after it is true of operations
 actions_keep : (P : List Piece → Type 0) (actions : List Action) → ((a : Action) (ps : List Piece) → P ps → P (Do a ∷ ps)) → P [] → P (map Do actions)
@@ -282,10 +271,6 @@ results_few : (dst : ValueRegs (Writable Reg)) → length (written_in dst) ≤ 2
 results_few (One r) = lit≤ tt
 results_few (Two r s) = lit≤ tt
 
-pub choice_most : (dst : ValueRegs (Writable Reg)) (first second : List Reg) (how : IntCC) (a b : ℕ) → pieces_most (choice_pieces (written_in dst) first second how a b) ≤ 20
-choice_most dst first second how a b =
-    omega (arith, results_few dst, moves_most (written_in dst) first (Branch how a b 0 ∷ moves_then (written_in dst) second (Bind 0 ∷ [])), moves_most (written_in dst) second (Bind 0 ∷ []))
-
 choice_long : (flags : IsaFlags) (rds first second : List Reg) (how : IntCC) (a b : ℕ) → pieces_size flags (choice_pieces rds first second how a b) ≡ moves_size flags rds first + 4 + moves_size flags rds second
 choice_long flags rds first second how a b = omega (arith, moves_long flags rds first (Branch how a b 0 ∷ moves_then rds second (Bind 0 ∷ [])), moves_long flags rds second (Bind 0 ∷ []))
 
@@ -309,8 +294,8 @@ choice_made context info first second how long =
     let rds = written_in info.dst in
     let a = number_of info.condition.rs1 in
     let b = number_of info.condition.rs2 in
-    let most = choice_most info.dst first second how a b in
-    made_by context (Select info) (choice_pieces rds first second how a b) (choice_closed rds first second how a b) (omega arith) (lit≤ tt) (choice_keeps GoNowhere rds first second how a b (λ a ps h. h) (λ ps h. h) tt)
+    made_by context (Select info) (choice_pieces rds first second how a b) (choice_closed rds first second how a b)
+    (omega (arith, results_few info.dst, moves_most rds first (Branch how a b 0 ∷ moves_then rds second (Bind 0 ∷ [])), moves_most rds second (Bind 0 ∷ []))) (lit≤ tt) (choice_keeps GoNowhere rds first second how a b (λ a ps h. h) (λ ps h. h) tt)
     (let one = choice_owns rds first second how a b in omega (arith, one)) (ap Words (long ∙ sym (choice_long context.flags rds first second how a b))) (λ start end. refl)
     (choice_keeps (λ ps. (at : ℕ) → records_of at (slots_of context.flags ps) ≡ []) rds first second how a b (λ a ps h at. h (at + (op_of context.flags a).len)) (λ ps h at. h (at + 4)) (λ at. refl)) (λ named. refl)
 

@@ -378,8 +378,6 @@ operation_given {x} {w} e = ap (λ (y : UnitWord). Some y.operation) (same_Some 
 
 -- ---- what an extension and a choice that break no rule give.
 
--- ---- an extension
-
 -- usable registers, and from one bit to 64
 pub extend_kept : (rd : Writable Reg) (rn : Reg) (signed : Bool) (from_bits to_bits : ℕ) → Keeps (Extend rd rn signed from_bits to_bits) → IsUsable rd.reg × IsUsable rn × (1 ≤ from_bits) × (from_bits ≤ 64)
 extend_kept rd rn signed from_bits to_bits k =

@@ -1,5 +1,5 @@
 -- Bits in reverse order: the registers of a reversal, and the bits of bytes as a sum of single bits.
-use Rattle.std.proofs.Common.{◌≡◌, ◌≢◌, ℕ, ◌%◌, ◌<◌, ◌≤◌, false, [], ◌∷◌, List, length, arith, sym, rules, zero, suc, ◌+◌, ◌-◌, ◌*◌, ◌/◌, ◌^◌, refl, ap, subst, ◌∙◌, lit<, bit_or, max}
+use Rattle.std.proofs.Common.{◌≡◌, ◌≢◌, ℕ, ◌%◌, ◌<◌, ◌≤◌, false, [], ◌∷◌, List, length, arith, sym, rules, zero, suc, ◌+◌, ◌-◌, ◌*◌, ◌/◌, ◌^◌, refl, ap, subst, ◌∙◌, lit<, bit_or, bit_and, max}
 use Rattle.std.proofs.lemmas.Bool.Decides.{nat_tests}
 use Rattle.std.specs.Int.{bit_at}
 use Rattle.std.specs.Int.Bits.{or_add_and}
@@ -140,7 +140,10 @@ whole_bytes (suc bytes) n =
 
 -- a bit that isn't set is added
 pub or_plus : (a k : ℕ) → bit_at a k ≡ 0 → bit_or a (2 ^ k) ≡ a + 2 ^ k
-or_plus a k clear = omega (arith, or_add_and a (2 ^ k), and_pow a k ∙ ap (λ b. b * 2 ^ k) clear)
+or_plus a k clear =
+    let sum = or_add_and a (2 ^ k) in
+    let both : bit_and a (2 ^ k) ≡ 0 * 2 ^ k = and_pow a k ∙ ap (λ b. b * 2 ^ k) clear in
+    omega arith
 
 -- where so many low bits go, no bit is set
 abbrev pub IsClear : ℕ → ℕ → Type 0
@@ -174,14 +177,17 @@ pub place_down : (i : ℕ) → i % 8 ≡ 0 → 2 ^ mirrored i / 2 ^ 15 ≡ place
 place_down zero e = refl
 place_down (suc j) e =
     let there : mirrored (suc j) ≡ 15 + mirrored j = omega arith in
-    omega (arith, ap (λ k. 2 ^ k) there ∙ pow-add 2 15 (mirrored j))
+    let power : 2 ^ mirrored (suc j) ≡ 2 ^ 15 * 2 ^ mirrored j = ap (λ k. 2 ^ k) there ∙ pow-add 2 15 (mirrored j) in
+    omega arith
 
 -- else one up
 pub place_up : (i : ℕ) → i % 8 ≢ 0 → 2 ^ mirrored i * 2 ≡ place_of i
 place_up zero other = absurd (other refl)
 place_up (suc j) other =
     let there : mirrored j ≡ suc (mirrored (suc j)) = omega arith in
-    omega (arith, pow-suc 2 (mirrored (suc j)), ap (λ k. 2 ^ k) there)
+    let power = pow-suc 2 (mirrored (suc j)) in
+    let same : 2 ^ mirrored j ≡ 2 ^ suc (mirrored (suc j)) = ap (λ k. 2 ^ k) there in
+    omega arith
 
 pub place_fits : (left : ℕ) → left ≤ 64 → place_of left < 2 ^ 64
 place_fits zero le = lit< tt

@@ -37,8 +37,6 @@ use Rattle.rv_code.proofs.Registers.{are_values_set, but_set, spare_set, reads_b
 
 -- ---- what loads read and stores write of memories that are the same, and the code that a store leaves as it was.
 
--- ---- one byte
-
 -- the byte at an address after one is written
 byte_inserted : (mem : Memory) (k b a : ℕ) → byte (map.insert mem k b) a ≡ cond (a == k) b (byte mem a)
 byte_inserted mem k b a =
@@ -111,8 +109,6 @@ load_fits load.Ld mem at h = eight_fit mem at h
 load_fits _ mem at h = let all = eight_fit mem at h in omega (arith, ints)
 
 -- ---- registers come from the stack, and the stack pointer rises or falls.
-
--- ---- which registers are loaded
 
 -- a register below x30 that isn't the stack pointer
 pub record IsLoadable (n : ℕ) : Type 0 where

@@ -6,8 +6,9 @@ use Rattle.rv_emit.proofs.Terms.{Buffer, pending, AppendsInst, AppendsBy, Append
 use Rattle.rv_inst.specs.declared.inst.CondBrTarget.TheVariants.{Label}
 use Rattle.rv_inst.specs.declared.inst.Line.TheVariants.{Inst as Put}
 use Rattle.rv_emit.proofs.CallAppends.{words_pending}
-use Rattle.rv_emit.proofs.MostBytes.{words_within}
-use Rattle.rv_emit.proofs.ReachAfterInst.{Each, bytes_put, each_more, each_none, few_deadlines, first_use, pending_adds, pending_at, pending_whole, uses_late}
+use Rattle.rv_emit.proofs.InstSlots.{words_within}
+use Rattle.rv_emit.proofs.OwnPieces.{Each, each_more, each_none}
+use Rattle.rv_emit.proofs.ReachAfterInst.{bytes_put, few_deadlines, first_use, pending_adds, pending_at, pending_whole, uses_late}
 
 -- ---- how far uses reach
 

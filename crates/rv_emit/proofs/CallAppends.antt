@@ -1,9 +1,10 @@
 -- Reach holds within a call that loads results, and after it.
 use Rattle.rv_emit.proofs.Terms.{◌≡◌, ℕ, ◌+◌, ◌*◌, ◌≤◌, true, false, List, [], ◌∷◌, ◌++◌, length, append-nil, Option, Some, None, sym, ◌∙◌, subst, arith, lit≤, is_some, TryCallInfo, IsaFlags, Context, label_kinds, StackLoad, line_space, try_size, stack_loads_size, results_space, call_extent}
-use Rattle.rv_emit.proofs.Terms.{space_in, uses_by, uses_in, Inst, LabelUse, Nowhere, bytes_of, uses_of, place_of, CanReach, HasSlack, deadline, deadlines, is_needed, MachRecord, Use, deadlines_append, slack_less, slack_not_needed, reach_from_slack, Buffer, pending, AppendsBy, AppendsWords}
-use Rattle.rv_emit.proofs.Terms.{AreShortLoads, words_long}
-use Rattle.rv_emit.proofs.CallSlots.{results_few}
-use Rattle.rv_emit.proofs.ReachAfterInst.{Each, each_none, each_more, pending_at, jump_far, jump_few, slack_uses, calm_after, reach_within}
+use Rattle.rv_emit.proofs.Terms.{space_in, uses_by, Inst, LabelUse, Nowhere, bytes_of, uses_of, place_of, CanReach, HasSlack, deadline, deadlines, is_needed, MachRecord, Use, deadlines_append, slack_less, slack_not_needed, reach_from_slack, Buffer, pending, AppendsBy, AppendsWords, AreShortLoads}
+use Rattle.rv_emit.proofs.Terms.{words_long, Slot, least_few}
+use Rattle.rv_emit.proofs.CallSlots.{IsCall, results_few}
+use Rattle.rv_emit.proofs.OwnPieces.{Each, each_none, each_more}
+use Rattle.rv_emit.proofs.ReachAfterInst.{pending_at, jump_far, slack_uses, calm_after, reach_within}
 
 -- what is pending after words: what was before, and their uses that are
 pub words_pending : (size : ℕ) (own : List (Use LabelUse)) (recorded : List MachRecord) (old new : Buffer) → AppendsWords size own recorded old new → pending new ≡ pending old ++ deadlines (pending_at (place_of old)) label_kinds own
@@ -16,7 +17,7 @@ one_use flags start end (Some t) = lit≤ tt
 
 use_far : (flags : IsaFlags) (start end : ℕ) (t : Option TryCallInfo) → Each (λ u. end + 1900 ≤ deadline label_kinds u) (uses_by flags start end t Nowhere)
 use_far flags start end None = each_none _
-use_far flags start end (Some t) = let far = jump_far flags in let few = jump_few flags in each_more (λ u. end + 1900 ≤ deadline label_kinds u) _ [] (omega arith) (each_none _)
+use_far flags start end (Some t) = let far = jump_far flags in let few = least_few flags in each_more (λ u. end + 1900 ≤ deadline label_kinds u) _ [] (omega arith) (each_none _)
 
 -- after the first words, where no island was needed before the line
 pub reach_first : (size : ℕ) (recorded : List MachRecord) (old new : Buffer) → size ≤ 32 → is_needed (length (bytes_of old)) line_space (pending old) ≡ false → AppendsWords size [] recorded old new → CanReach (length (bytes_of new)) (pending new)
@@ -38,10 +39,10 @@ reach_last flags start size space t old new le calm w =
     reach_from_slack cur (pending new) (subst (HasSlack cur 14) (sym whole) (slack_uses (pending_at (place_of old)) cur 14 (uses_of old) own far spare))
 
 -- by what a call loads
-pub reach_loading : (context : Context) (inst : Inst) (jump popped : ℕ) (loads : List StackLoad) (t : Option TryCallInfo) (old new : Buffer) → AreShortLoads context.flags loads → is_some (space_in (call_extent context.flags jump popped loads t)) ≡ true → ((start end : ℕ) →
-    uses_in context start end inst ≡ uses_by context.flags start end t Nowhere) → AppendsBy context (call_extent context.flags jump popped loads t) inst old new → CanReach (length (bytes_of new)) (pending new)
-reach_loading context inst jump popped [] t old new short asks uses a = absurd (cc)
-reach_loading context inst jump popped (l ∷ loads) t old new short asks uses a =
+pub reach_loading : {context : Context} {inst : Inst} {jump popped : ℕ} {call : List Slot → List Slot} {t : Option TryCallInfo} (loads : List StackLoad) (old new : Buffer) → IsCall context inst jump popped call loads t →
+    AreShortLoads context.flags loads → is_some (space_in (call_extent context.flags jump popped loads t)) ≡ true → AppendsBy context (call_extent context.flags jump popped loads t) inst old new → CanReach (length (bytes_of new)) (pending new)
+reach_loading [] old new is short asks a = absurd (cc)
+reach_loading {context} {t = t} (l ∷ loads) old new is short asks a =
     let size = stack_loads_size context.flags (l ∷ loads) + try_size context.flags t in
     reach_last context.flags (length (bytes_of old)) size (results_space (l ∷ loads)) t a.last new (results_few context.flags l loads t short) (calm_after (results_space (l ∷ loads)) a.mid a.last a.made a.room)
-    (subst (λ own. AppendsWords size own [] a.last new) (uses (length (bytes_of old)) (length (bytes_of new))) a.second)
+    (subst (λ own. AppendsWords size own [] a.last new) (is.uses (length (bytes_of old)) (length (bytes_of new))) a.second)

@@ -1,10 +1,10 @@
 -- What calls that return add to a buffer: their words, and where they load results an island among them; and that their parts are self-contained.
 use Rattle.rv_emit.proofs.Terms.{◌≡◌, ℕ, ◌+◌, ◌-◌, ◌*◌, ◌≤◌, Bool, true, false, List, [], ◌∷◌, ◌++◌, length, Option, Some, None, inst_constant, named_by, ℤ, pos, refl, ap, sym, ◌∙◌, subst, append-nil, arith, lit≤, CallInfo, TryCallInfo, UserStackMap, ExternalName, IsaFlags, FrameLayout, Reg}
-use Rattle.rv_emit.proofs.Terms.{number_of, sp_to_fp_of, is_some, count_by, if◌then◌else◌, MachRecord, Use, bytes_of, allocated_of, Shape, VCodeConstant, LabelUse, Nowhere, Context, short_jalr, jump_kind, jump_size, marks_of, site_event, return_records, patch_records, StackLoad, result_loads}
-use Rattle.rv_emit.proofs.Terms.{loads_unless, Extent, Words, stack_loads_size, stack_step_size, fall, call_size, try_size, results_space, call_extent, extent_of, space_in, island_space, inst_sum, inst_records, is_stacked, no_extra, use_at, uses_by, uses_in, Inst, Call, CallInd, EmitVState}
-use Rattle.rv_emit.proofs.Terms.{PutsAlone, PutsParts, Emits, Buffer, AppendsInst, Appends, AppendsBy, AppendsAround, AppendsWords, stack_load_slots, stack_step_slots, return_notes, after_call, patch_notes, try_slots, call_slots, call_ind_slots, loading_parts, call_parts, parts_of, GapStandsIn}
-use Rattle.rv_emit.proofs.Terms.{PartsIn, SlotsIn, SpansIn, Slot, Ask, Slots, AreSelfContained, PartsAreSelfContained, size_of, names_of, call_event, HaveContents, HaveAccess, at_end, none, nothing, of_size, note_then, from_start, IsPlain, summed, appends_words, words_long, puts_bytes, jalr_sized}
-use Rattle.rv_emit.proofs.Terms.{window_long, AreShortLoads, loads_most, loads_then, step_then, step_most}
+use Rattle.rv_emit.proofs.Terms.{number_of, sp_to_fp_of, is_some, count_by, MachRecord, Use, bytes_of, allocated_of, Shape, VCodeConstant, LabelUse, Nowhere, Context, short_jalr, jump_kind, jump_size, marks_of, site_event, return_records, patch_records, StackLoad, result_loads, loads_unless, Extent}
+use Rattle.rv_emit.proofs.Terms.{Words, stack_loads_size, stack_step_size, fall, call_size, try_size, results_space, call_extent, extent_of, space_in, island_space, inst_sum, inst_records, is_stacked, no_extra, use_at, uses_by, uses_in, Inst, Call, CallInd, EmitVState, PutsAlone, PutsParts, Emits}
+use Rattle.rv_emit.proofs.Terms.{Buffer, AppendsInst, AppendsBy, AppendsAround, AppendsWords, stack_load_slots, stack_step_slots, return_notes, after_call, patch_notes, try_slots, call_slots, call_ind_slots, loading_parts, call_parts, parts_of, GapStandsIn, PartsIn, SlotsIn, SpansIn, Slot, Ask}
+use Rattle.rv_emit.proofs.Terms.{Slots, AreSelfContained, PartsAreSelfContained, size_of, names_of, call_event, HaveContents, HaveAccess, at_end, none, nothing, of_size, note_then, from_start, IsPlain, summed, appends_words, words_long, puts_bytes, jalr_sized, window_long, AreShortLoads, loads_most}
+use Rattle.rv_emit.proofs.Terms.{loads_then, step_then, step_most, append_assoc, call_to, Op, least_few}
 use Rattle.mach_records.specs.declared.records.Event.TheVariants as event
 use Rattle.rv_code.specs.Slots.{uses_of, records_of}
 
@@ -73,7 +73,7 @@ pub record AreCall (context : Context) (inst : Inst) (before size : ℕ) (rest :
   pub names : (named : List VCodeConstant) → names_of slots named ≡ named
   pub block : AreSelfContained slots
 
-pub call_contents : {size : ℕ} {rest : ℕ → List (Use LabelUse)} {last : List Slot} (context : Context) (info : CallInfo ExternalName) → AreLast size rest last → AreCall context (Call info) (call_size context.flags 8 info.callee_pop_size) size rest (call_slots context.flags context.frame info last)
+call_contents : {size : ℕ} {rest : ℕ → List (Use LabelUse)} {last : List Slot} (context : Context) (info : CallInfo ExternalName) → AreLast size rest last → AreCall context (Call info) (call_size context.flags 8 info.callee_pop_size) size rest (call_slots context.flags context.frame info last)
 call_contents {size} {rest} {last} context info c =
     let flags = context.flags in
     let t = info.try_call_info in
@@ -98,7 +98,8 @@ call_contents {size} {rest} {last} context info c =
       block = all.closed _ 8;
     }
 
-pub call_ind_contents : {size : ℕ} {rest : ℕ → List (Use LabelUse)} {last : List Slot} (context : Context) (info : CallInfo Reg) → AreLast size rest last → AreCall context (CallInd info) (call_size context.flags (short_jalr context.flags 1 (number_of info.dest) (pos 0)).len info.callee_pop_size) size rest (call_ind_slots context.flags context.frame info last)
+call_ind_contents : {size : ℕ} {rest : ℕ → List (Use LabelUse)} {last : List Slot} (context : Context) (info : CallInfo Reg) → AreLast size rest last →
+    AreCall context (CallInd info) (call_size context.flags (short_jalr context.flags 1 (number_of info.dest) (pos 0)).len info.callee_pop_size) size rest (call_ind_slots context.flags context.frame info last)
 call_ind_contents {size} {rest} {last} context info c =
     let flags = context.flags in
     let t = info.try_call_info in
@@ -120,6 +121,52 @@ call_ind_contents {size} {rest} {last} context info c =
       names = all.names;
       block = ((jalr_sized flags 1 (number_of info.dest) (pos 0)).even, all.closed _ (0 + jump.len));
     }
+
+-- ---- a call of either kind
+
+-- what comes after the words of a call, put later
+rest_then : (notes steps patch last : List Slot) → (notes ++ (steps ++ (patch ++ []))) ++ last ≡ notes ++ (steps ++ (patch ++ last))
+rest_then notes steps patch last =
+    append_assoc notes (steps ++ (patch ++ [])) last
+    ∙ ap (λ more. notes ++ more) (append_assoc steps (patch ++ []) last ∙ ap (λ more. steps ++ more) (append_assoc patch [] last))
+
+-- that an instruction is a call: its first words, what comes after them, what it loads, and where it goes on
+pub record IsCall (context : Context) (inst : Inst) (jump popped : ℕ) (call : List Slot → List Slot) (loads : List StackLoad) (t : Option TryCallInfo) : Type 0 where
+  pub few : jump ≤ 8
+  pub whole : AreCall context inst (call_size context.flags jump popped) (try_size context.flags t) (try_use context.flags t) (call (try_slots context.flags t))
+  pub first : AreCall context inst (call_size context.flags jump popped) 0 (λ end. []) (call [])
+  pub joined : (last : List Slot) → call [] ++ last ≡ call last
+  pub parts : (setting : EmitVState) → parts_of context setting inst ≡ call_parts context.flags call loads t
+  pub extent : extent_of context inst ≡ call_extent context.flags jump popped loads t
+  pub uses : (start end : ℕ) → uses_in context start end inst ≡ uses_by context.flags start end t Nowhere
+  pub constant : inst_constant inst ≡ None
+
+pub call_is : (context : Context) (info : CallInfo ExternalName) → IsCall context (Call info) 8 info.callee_pop_size (call_slots context.flags context.frame info) (loads_unless info.patchable info.defs) info.try_call_info
+call_is context info = record {
+  few = lit≤ tt;
+  whole = call_contents context info (jump_contents context.flags info.try_call_info);
+  first = call_contents context info nothing;
+  joined = λ last.
+      let notes = return_notes context.frame info.stack_map info.try_call_info in
+      ap (λ more. call_to 1 1 info.dest ∷ more) (rest_then notes (after_call context.flags info.callee_pop_size) (patch_notes info.patchable (call_size context.flags 8 info.callee_pop_size)) last);
+  parts = λ setting. refl;
+  extent = refl;
+  uses = λ start end. refl;
+  constant = refl;
+}
+
+pub call_ind_is : (context : Context) (info : CallInfo Reg) →
+    IsCall context (CallInd info) (short_jalr context.flags 1 (number_of info.dest) (pos 0)).len info.callee_pop_size (call_ind_slots context.flags context.frame info) (result_loads info.defs) info.try_call_info
+call_ind_is context info = record {
+  few = let few = (jalr_sized context.flags 1 (number_of info.dest) (pos 0)).few in omega arith;
+  whole = call_ind_contents context info (jump_contents context.flags info.try_call_info);
+  first = call_ind_contents context info nothing;
+  joined = λ last. ap (λ more. Op (short_jalr context.flags 1 (number_of info.dest) (pos 0)) ∷ more) (rest_then (return_notes context.frame info.stack_map info.try_call_info) (after_call context.flags info.callee_pop_size) [] last);
+  parts = λ setting. refl;
+  extent = refl;
+  uses = λ start end. refl;
+  constant = refl;
+}
 
 -- ---- one that loads nothing
 
@@ -155,28 +202,18 @@ around {before} context inst call loads t old new c uses (mid, first, (last, mad
     }
 
 -- by what it loads
-call_adds : (context : Context) (inst : Inst) (jump popped : ℕ) (call : List Slot → List Slot) (loads : List StackLoad) (t : Option TryCallInfo) (old new : Buffer) →
-    AreCall context inst (call_size context.flags jump popped) (try_size context.flags t) (try_use context.flags t) (call (try_slots context.flags t)) → AreCall context inst (call_size context.flags jump popped) 0 (λ end. []) (call []) →
-    extent_of context inst ≡ call_extent context.flags jump popped loads t → ((start end : ℕ) → uses_in context start end inst ≡ uses_by context.flags start end t Nowhere) → inst_constant inst ≡ None →
+pub call_adds : {context : Context} {inst : Inst} {jump popped : ℕ} {call : List Slot → List Slot} {t : Option TryCallInfo} (loads : List StackLoad) (old new : Buffer) → IsCall context inst jump popped call loads t →
     PutsParts context.flags (call_parts context.flags call loads t) old new → AppendsBy context (call_extent context.flags jump popped loads t) inst old new
-call_adds context inst jump popped call [] t old new whole first is uses none p = summed context inst (call (try_slots context.flags t)) old new (record {
-  plain = whole.plain;
-  long = is ∙ ap Words whole.long;
-  uses = λ allocated start. whole.uses allocated start ∙ same_use context.flags start (start + size_of (call (try_slots context.flags t))) t ∙ sym (uses start (start + size_of (call (try_slots context.flags t))));
-  records = λ start. whole.records start (start + size_of (call (try_slots context.flags t)));
-  names = λ named. whole.names named ∙ sym (ap (λ k. named_by k named) none);
-}) context.flags p
-call_adds context inst jump popped call (l ∷ loads) t old new whole first is uses none p = around context inst call (l ∷ loads) t old new first uses p
-
-pub call_appends : (context : Context) (info : CallInfo ExternalName) (old new : Buffer) → PutsParts context.flags (call_parts context.flags (call_slots context.flags context.frame info) (loads_unless info.patchable info.defs) info.try_call_info) old new → Appends context (Call info) old new
-call_appends context info old new p =
-    call_adds context (Call info) 8 info.callee_pop_size (call_slots context.flags context.frame info) (loads_unless info.patchable info.defs) info.try_call_info old new (call_contents context info (jump_contents context.flags info.try_call_info)) (call_contents context info nothing) refl
-    (λ start end. refl) refl p
-
-pub call_ind_appends : (context : Context) (info : CallInfo Reg) (old new : Buffer) → PutsParts context.flags (call_parts context.flags (call_ind_slots context.flags context.frame info) (result_loads info.defs) info.try_call_info) old new → Appends context (CallInd info) old new
-call_ind_appends context info old new p =
-    call_adds context (CallInd info) (short_jalr context.flags 1 (number_of info.dest) (pos 0)).len info.callee_pop_size (call_ind_slots context.flags context.frame info) (result_loads info.defs) info.try_call_info old new
-    (call_ind_contents context info (jump_contents context.flags info.try_call_info)) (call_ind_contents context info nothing) refl (λ start end. refl) refl p
+call_adds {context} {inst} {jump} {popped} {call} {t} [] old new is p =
+    let slots = call (try_slots context.flags t) in
+    summed context inst slots old new (record {
+      plain = is.whole.plain;
+      long = is.extent ∙ ap Words is.whole.long;
+      uses = λ allocated start. is.whole.uses allocated start ∙ same_use context.flags start (start + size_of slots) t ∙ sym (is.uses start (start + size_of slots));
+      records = λ start. is.whole.records start (start + size_of slots);
+      names = λ named. is.whole.names named ∙ sym (ap (λ k. named_by k named) is.constant);
+    }) context.flags p
+call_adds {context} {inst} {jump} {popped} {call} {t} (l ∷ loads) old new is p = around context inst call (l ∷ loads) t old new is.first is.uses p
 
 -- what an instruction that asks for no island adds
 pub words_alone : (context : Context) (extent : Extent) (inst : Inst) (old new : Buffer) → space_in extent ≡ None → AppendsBy context extent inst old new → AppendsInst context inst old new
@@ -188,15 +225,12 @@ no_loads : (flags : IsaFlags) (jump popped : ℕ) (loads : List StackLoad) (t : 
 no_loads flags jump popped [] t asks = refl
 no_loads flags jump popped (l ∷ loads) t asks = absurd (cc)
 
-pub call_emits : (context : Context) (inst : Inst) (info : CallInfo ExternalName) (old new : Buffer) → inst ≡ Call info → island_space context inst ≡ None → PutsAlone context.flags (call_slots context.flags context.frame info (try_slots context.flags info.try_call_info)) old new → Emits context inst old new
-call_emits context inst info old new is asks p =
-    let none = no_loads context.flags 8 info.callee_pop_size (loads_unless info.patchable info.defs) info.try_call_info (ap (island_space context) (sym is) ∙ asks) in
-    subst (λ i. Emits context i old new) (sym is) (λ setting. subst (λ loads. PutsParts context.flags (call_parts context.flags (call_slots context.flags context.frame info) loads info.try_call_info) old new) (sym none) p)
-
-pub call_ind_emits : (context : Context) (inst : Inst) (info : CallInfo Reg) (old new : Buffer) → inst ≡ CallInd info → island_space context inst ≡ None → PutsAlone context.flags (call_ind_slots context.flags context.frame info (try_slots context.flags info.try_call_info)) old new → Emits context inst old new
-call_ind_emits context inst info old new is asks p =
-    let none = no_loads context.flags (short_jalr context.flags 1 (number_of info.dest) (pos 0)).len info.callee_pop_size (result_loads info.defs) info.try_call_info (ap (island_space context) (sym is) ∙ asks) in
-    subst (λ i. Emits context i old new) (sym is) (λ setting. subst (λ loads. PutsParts context.flags (call_parts context.flags (call_ind_slots context.flags context.frame info) loads info.try_call_info) old new) (sym none) p)
+pub call_emits : {context : Context} {inst : Inst} {jump popped : ℕ} {call : List Slot → List Slot} {loads : List StackLoad} {t : Option TryCallInfo} (given : Inst) (old new : Buffer) → IsCall context inst jump popped call loads t → given ≡ inst → island_space context given ≡ None →
+    PutsAlone context.flags (call (try_slots context.flags t)) old new → Emits context given old new
+call_emits {context} {inst} {jump} {popped} {call} {loads} {t} given old new is same asks p =
+    let none = no_loads context.flags jump popped loads t (ap space_in (sym is.extent) ∙ ap (island_space context) (sym same) ∙ asks) in
+    let whole = subst (λ loads. PutsParts context.flags (call_parts context.flags call loads t) old new) (sym none) p in
+    subst (λ i. Emits context i old new) (sym same) (λ setting. subst (λ parts. PutsParts context.flags parts old new) (sym (is.parts setting)) whole)
 
 -- and one that asks for one loads results
 some_parts : (flags : IsaFlags) (jump popped : ℕ) (call : List Slot → List Slot) (loads : List StackLoad) (t : Option TryCallInfo) (old new : Buffer) → is_some (space_in (call_extent flags jump popped loads t)) ≡ true → PutsParts flags (loading_parts flags call loads t) old new → PutsParts flags (call_parts flags call loads t) old new
@@ -226,48 +260,38 @@ call_ind_sum context inst info is = ap (inst_sum context) is ∙ ap (λ n. 128 +
 
 -- ---- self-contained slots
 
-parts_blocks : (flags : IsaFlags) (call : List Slot → List Slot) (loads : List StackLoad) (t : Option TryCallInfo) → AreSelfContained (call (try_slots flags t)) → AreSelfContained (call []) → PartsAreSelfContained (call_parts flags call loads t)
-parts_blocks flags call [] t whole first = (whole, tt)
-parts_blocks flags call (l ∷ loads) t whole first = (first, ((loads_contents flags (l ∷ loads) t).closed _ 0, tt))
-
-pub call_blocks : (context : Context) (info : CallInfo ExternalName) → PartsAreSelfContained (call_parts context.flags (call_slots context.flags context.frame info) (loads_unless info.patchable info.defs) info.try_call_info)
-call_blocks context info = parts_blocks context.flags (call_slots context.flags context.frame info) (loads_unless info.patchable info.defs) info.try_call_info (call_contents context info (jump_contents context.flags info.try_call_info)).block (call_contents context info nothing).block
-
-pub call_ind_blocks : (context : Context) (info : CallInfo Reg) → PartsAreSelfContained (call_parts context.flags (call_ind_slots context.flags context.frame info) (result_loads info.defs) info.try_call_info)
-call_ind_blocks context info = parts_blocks context.flags (call_ind_slots context.flags context.frame info) (result_loads info.defs) info.try_call_info (call_ind_contents context info (jump_contents context.flags info.try_call_info)).block (call_ind_contents context info nothing).block
+pub call_blocks : {context : Context} {inst : Inst} {jump popped : ℕ} {call : List Slot → List Slot} {t : Option TryCallInfo} (loads : List StackLoad) → IsCall context inst jump popped call loads t → PartsAreSelfContained (call_parts context.flags call loads t)
+call_blocks [] is = (is.whole.block, tt)
+call_blocks {context} {t = t} (l ∷ loads) is = (is.first.block, ((loads_contents context.flags (l ∷ loads) t).closed _ 0, tt))
 
 -- ---- where the words stand
 
 slots_size : (flags : IsaFlags) (slots : List Slot) (f : Shape LabelUse) (start end : ℕ) → SlotsIn flags slots f start end → end ≡ start + size_of slots
 slots_size flags slots f start end s = let long = puts_bytes flags s.old.allocated slots s.old s.new s.puts in let starts = s.starts in let ends = s.ends in omega arith
 
-parts_span : (flags : IsaFlags) (jump popped : ℕ) (call : List Slot → List Slot) (loads : List StackLoad) (t : Option TryCallInfo) (f : Shape LabelUse) (start end : ℕ) → call_size flags jump popped + try_size flags t ≡ size_of (call (try_slots flags t)) → call_size flags jump popped + 0 ≡ size_of (call []) → PartsIn flags (call_parts flags call loads t) f start end → SpansIn flags f (call_extent flags jump popped loads t) start end
-parts_span flags jump popped call [] t f start end whole first (last, s, same) = let size = slots_size flags (call (try_slots flags t)) f start last s in omega arith
-parts_span flags jump popped call (l ∷ loads) t f start end whole first (from, s, (mid, gap, (last, u, same))) =
-    let size = slots_size flags (call []) f start from s in
-    let more = slots_size flags (stack_load_slots flags (l ∷ loads) ++ try_slots flags t) f mid last u in
-    let long = (loads_contents flags (l ∷ loads) t).long in
-    let here : from ≡ start + call_size flags jump popped = omega arith in
-    (mid, subst (λ n. GapStandsIn flags f n mid) here gap, omega arith)
+parts_span : {context : Context} {inst : Inst} {jump popped : ℕ} {call : List Slot → List Slot} {t : Option TryCallInfo} (loads : List StackLoad) (f : Shape LabelUse) (start end : ℕ) → IsCall context inst jump popped call loads t →
+    PartsIn context.flags (call_parts context.flags call loads t) f start end → SpansIn context.flags f (call_extent context.flags jump popped loads t) start end
+parts_span {context} {call = call} {t} [] f start end is (last, s, same) = omega (arith, is.whole.long, slots_size context.flags (call (try_slots context.flags t)) f start last s)
+parts_span {context} {jump = jump} {popped} {call} {t} (l ∷ loads) f start end is (from, s, (mid, gap, (last, u, same))) =
+    let size = slots_size context.flags (call []) f start from s in
+    let more = slots_size context.flags (stack_load_slots context.flags (l ∷ loads) ++ try_slots context.flags t) f mid last u in
+    let first = is.first.long in
+    let long = (loads_contents context.flags (l ∷ loads) t).long in
+    let here : from ≡ start + call_size context.flags jump popped = omega arith in
+    (mid, subst (λ n. GapStandsIn context.flags f n mid) here gap, omega arith)
 
 -- the words of a call stand where its parts do
 pub call_stands : (context : Context) (setting : EmitVState) (info : CallInfo ExternalName) (f : Shape LabelUse) (start end : ℕ) → PartsIn context.flags (parts_of context setting (Call info)) f start end → SpansIn context.flags f (extent_of context (Call info)) start end
-call_stands context setting info f start end p =
-    parts_span context.flags 8 info.callee_pop_size (call_slots context.flags context.frame info) (loads_unless info.patchable info.defs) info.try_call_info f start end (call_contents context info (jump_contents context.flags info.try_call_info)).long (call_contents context info nothing).long p
+call_stands context setting info f start end p = parts_span _ f start end (call_is context info) p
 
 pub call_ind_stands : (context : Context) (setting : EmitVState) (info : CallInfo Reg) (f : Shape LabelUse) (start end : ℕ) → PartsIn context.flags (parts_of context setting (CallInd info)) f start end → SpansIn context.flags f (extent_of context (CallInd info)) start end
-call_ind_stands context setting info f start end p =
-    parts_span context.flags (short_jalr context.flags 1 (number_of info.dest) (pos 0)).len info.callee_pop_size (call_ind_slots context.flags context.frame info) (result_loads info.defs) info.try_call_info f start end (call_ind_contents context info (jump_contents context.flags info.try_call_info)).long (call_ind_contents context info nothing).long p
+call_ind_stands context setting info f start end p = parts_span _ f start end (call_ind_is context info) p
 
 -- ---- how many bytes at most
 
 pub try_few : (flags : IsaFlags) (t : Option TryCallInfo) → try_size flags t ≤ 4
 try_few flags None = lit≤ tt
-try_few flags (Some t) = by flags.has_zca
-  where
-    by : (c : Bool) → (if c then 2 else 4) ≤ 4
-    by true = lit≤ tt
-    by false = lit≤ tt
+try_few flags (Some t) = least_few flags
 
 -- before its loads a call has at most 32
 pub call_few : (flags : IsaFlags) (jump popped : ℕ) → jump ≤ 8 → call_size flags jump popped ≤ 32

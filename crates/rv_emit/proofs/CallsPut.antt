@@ -1,47 +1,24 @@
 -- What calls put: the call, and the results that are loaded after it.
-use Rattle.rv_emit.proofs.Terms.{◌≡◌, ℕ, ◌+◌, ◌≤◌, false, List, [], ◌∷◌, ◌++◌, length, append-nil, append_assoc, Option, pos, ap, ◌∙◌, subst, arith, lit≤, zero, suc, ◌*◌, ◌<◌, ⊎_elim, Bool, true, cond, take, Some, None, refl, sym, CallInfo, TryCallInfo, ExternalName, IsaFlags, FrameLayout, Reg}
-use Rattle.rv_emit.proofs.Terms.{number_of, Context, context_by, short_jalr, StackLoad, typed_loads, location_loads, result_loads, result_load, line_space, call_size, results_space, inst_records, Inst, Call, CallInd, shape_of, bytes_of, allocated_of, reserve_of, reserve_from, CanReach, is_needed}
-use Rattle.rv_emit.proofs.Terms.{MachRecord, PutsAlone, PutsParts, Buffer, IsSoundBuffer, AppendsWords, pending, AppendsIsland, IslandIfNeeded, return_notes, after_call, patch_notes, try_slots, stack_load_slots, call_to, call_slots, call_ind_slots, loading_parts, load_line_slots, Slot, Op, Ask}
-use Rattle.rv_emit.proofs.Terms.{Slots, nothing, appends_words, words_long, jalr_sized, both_alone, alone_long, get_or, count_by, IsSome, length-append, take_all, take_more, is_count_by, code_limit, CallRetPair, RetLocation, IrType, LoadOP, Based, I8, I16, I32, I64, F16, F32, F64, load_of}
-use Rattle.rv_emit.proofs.Terms.{is_on_stack, is_stacked, IsFineResult, AreFineResults, results_short}
+use Rattle.rv_emit.proofs.Terms.{◌≡◌, ℕ, ◌+◌, ◌≤◌, false, List, [], ◌∷◌, ◌++◌, length, append-nil, append_assoc, Option, pos, ap, ◌∙◌, subst, arith, zero, suc, ◌*◌, ◌<◌, ⊎_elim, Bool, true, cond, take, Some, None, refl, sym, TryCallInfo, IsaFlags, Reg, number_of, Context, StackLoad, typed_loads}
+use Rattle.rv_emit.proofs.Terms.{location_loads, result_loads, result_load, line_space, call_size, results_space, inst_records, Inst, shape_of, bytes_of, allocated_of, reserve_of, reserve_from, CanReach, is_needed, MachRecord, PutsAlone, PutsParts, Buffer, IsSoundBuffer, AppendsWords, pending}
+use Rattle.rv_emit.proofs.Terms.{AppendsIsland, IslandIfNeeded, try_slots, stack_load_slots, loading_parts, load_line_slots, Slot, Ask, Slots, appends_words, words_long, both_alone, alone_long, get_or, count_by, IsSome, length-append, take_all, take_more, code_limit, CallRetPair, RetLocation}
+use Rattle.rv_emit.proofs.Terms.{IrType, LoadOP, Based, I8, I16, I32, I64, F16, F32, F64, load_of, is_on_stack, is_stacked, IsFineResult, AreFineResults, results_short, size_of}
 use Rattle.rv_emit.proofs.CallAppends.{reach_first, words_pending}
-use Rattle.rv_emit.proofs.CallSlots.{AreCall, call_contents, call_ind_contents, call_few}
+use Rattle.rv_emit.proofs.MostBytes.{stacked_in, stacked_counted, some_few}
+use Rattle.rv_emit.proofs.CallSlots.{IsCall, call_few}
 use Rattle.rv_base.specs.declared.call.RetLocation.TheVariants.{Reg as InReg, Stack as OnStack}
 use Rattle.rv_emit.proofs.TailCallCode.{loads_both, loads_plain, loads_room}
 
 -- ---- a call without loads
 
--- what comes after the words of a call, put later
-rest_then : (notes steps patch last : List Slot) → (notes ++ (steps ++ (patch ++ []))) ++ last ≡ notes ++ (steps ++ (patch ++ last))
-rest_then notes steps patch last =
-    append_assoc notes (steps ++ (patch ++ [])) last
-    ∙ ap (λ more. notes ++ more) (append_assoc steps (patch ++ []) last ∙ ap (λ more. steps ++ more) (append_assoc patch [] last))
-
-pub call_put : {flags : IsaFlags} (frame : FrameLayout) (info : CallInfo ExternalName) (last : List Slot) (old mid new : Buffer) → PutsAlone flags (call_slots flags frame info []) old mid → PutsAlone flags last mid new → PutsAlone flags (call_slots flags frame info last) old new
-call_put {flags} frame info last old mid new p q =
-    let patch = patch_notes info.patchable (call_size flags 8 info.callee_pop_size) in
-    let first = call_slots flags frame info [] in
-    let same : first ++ last ≡ call_slots flags frame info last = ap (λ more. call_to 1 1 info.dest ∷ more) (rest_then (return_notes frame info.stack_map info.try_call_info) (after_call flags info.callee_pop_size) patch last) in
-    subst (λ slots. PutsAlone flags slots old new) same (both_alone first last old mid new (call_contents (context_by flags frame []) info nothing).plain p q)
-
-pub call_ind_put : {flags : IsaFlags} (frame : FrameLayout) (info : CallInfo Reg) (last : List Slot) (old mid new : Buffer) → PutsAlone flags (call_ind_slots flags frame info []) old mid → PutsAlone flags last mid new → PutsAlone flags (call_ind_slots flags frame info last) old new
-call_ind_put {flags} frame info last old mid new p q =
-    let steps = after_call flags info.callee_pop_size in
-    let first = call_ind_slots flags frame info [] in
-    let same : first ++ last ≡ call_ind_slots flags frame info last = ap (λ more. Op (short_jalr flags 1 (number_of info.dest) (pos 0)) ∷ more) (rest_then (return_notes frame info.stack_map info.try_call_info) steps [] last) in
-    subst (λ slots. PutsAlone flags slots old new) same (both_alone first last old mid new (call_ind_contents (context_by flags frame []) info nothing).plain p q)
+pub call_put : {context : Context} {inst : Inst} {jump popped : ℕ} {call : List Slot → List Slot} {loads : List StackLoad} {t : Option TryCallInfo} (last : List Slot) (old mid new : Buffer) → IsCall context inst jump popped call loads t →
+    PutsAlone context.flags (call []) old mid → PutsAlone context.flags last mid new → PutsAlone context.flags (call last) old new
+call_put {context} {call = call} last old mid new is p q = subst (λ slots. PutsAlone context.flags slots old new) (is.joined last) (both_alone (call []) last old mid new is.first.plain p q)
 
 -- how long its words are at most
-pub call_few_after : {flags : IsaFlags} (frame : FrameLayout) (info : CallInfo ExternalName) (old mid : Buffer) → PutsAlone flags (call_slots flags frame info []) old mid → length (bytes_of mid) ≤ length (bytes_of old) + 32
-call_few_after {flags} frame info old mid p = omega (arith, alone_long (call_slots flags frame info []) old mid p, (call_contents (context_by flags frame []) info nothing).long, call_few flags 8 info.callee_pop_size (lit≤ tt))
-
-pub call_ind_few_after : {flags : IsaFlags} (frame : FrameLayout) (info : CallInfo Reg) (old mid : Buffer) → PutsAlone flags (call_ind_slots flags frame info []) old mid → length (bytes_of mid) ≤ length (bytes_of old) + 32
-call_ind_few_after {flags} frame info old mid p =
-    let a = alone_long (call_ind_slots flags frame info []) old mid p in
-    let b = (call_ind_contents (context_by flags frame []) info nothing).long in
-    let size = (jalr_sized flags 1 (number_of info.dest) (pos 0)).few in
-    let few = call_few flags (short_jalr flags 1 (number_of info.dest) (pos 0)).len info.callee_pop_size (omega arith) in
-    omega arith
+pub call_few_after : {context : Context} {inst : Inst} {jump popped : ℕ} {call : List Slot → List Slot} {loads : List StackLoad} {t : Option TryCallInfo} (old mid : Buffer) → IsCall context inst jump popped call loads t →
+    PutsAlone context.flags (call []) old mid → length (bytes_of mid) ≤ length (bytes_of old) + 32
+call_few_after {context} {jump = jump} {popped} {call} old mid is p = omega (arith, alone_long (call []) old mid p, is.first.long, call_few context.flags jump popped is.few)
 
 -- ---- a call with loads
 
@@ -67,39 +44,19 @@ begun size recorded old mid few calm w = record {
   sound = w.adds.sound;
 }
 
-words_of : {before : ℕ} (context : Context) (inst : Inst) (slots : List Slot) (old mid : Buffer) → AreCall context inst before 0 (λ end. []) slots → PutsAlone context.flags slots old mid → AppendsWords before [] (inst_records context (length (bytes_of old)) 0 inst) old mid
-words_of {before} context inst slots old mid c p = appends_words context.flags slots before [] _ old mid c.plain (let long = c.long in omega arith) (c.uses (allocated_of old) (length (bytes_of old))) (c.records (length (bytes_of old)) 0) c.names p
-
-pub call_begins : {flags : IsaFlags} (frame : FrameLayout) (info : CallInfo ExternalName) (old mid : Buffer) → is_needed (length (bytes_of old)) line_space (pending old) ≡ false → PutsAlone flags (call_slots flags frame info []) old mid → Begun old mid
-call_begins {flags} frame info old mid calm p =
-    let context = context_by flags frame [] in
-    begun (call_size flags 8 info.callee_pop_size) _ old mid (call_few flags 8 info.callee_pop_size (lit≤ tt)) calm
-    (words_of context (Call info) (call_slots flags frame info []) old mid (call_contents context info nothing) p)
-
-pub call_ind_begins : {flags : IsaFlags} (frame : FrameLayout) (info : CallInfo Reg) (old mid : Buffer) → is_needed (length (bytes_of old)) line_space (pending old) ≡ false → PutsAlone flags (call_ind_slots flags frame info []) old mid → Begun old mid
-call_ind_begins {flags} frame info old mid calm p =
-    let context = context_by flags frame [] in
-    let few = (jalr_sized flags 1 (number_of info.dest) (pos 0)).few in
-    begun (call_size flags (short_jalr flags 1 (number_of info.dest) (pos 0)).len info.callee_pop_size) _ old mid (call_few flags (short_jalr flags 1 (number_of info.dest) (pos 0)).len info.callee_pop_size (omega arith)) calm
-    (words_of context (CallInd info) (call_ind_slots flags frame info []) old mid (call_ind_contents context info nothing) p)
+pub call_begins : {context : Context} {inst : Inst} {jump popped : ℕ} {call : List Slot → List Slot} {loads : List StackLoad} {t : Option TryCallInfo} (old mid : Buffer) → IsCall context inst jump popped call loads t →
+    is_needed (length (bytes_of old)) line_space (pending old) ≡ false → PutsAlone context.flags (call []) old mid → Begun old mid
+call_begins {context} {inst} {jump} {popped} {call} old mid is calm p =
+    let start = length (bytes_of old) in
+    let long : size_of (call []) ≡ call_size context.flags jump popped = (let e = is.first.long in omega arith) in
+    begun (call_size context.flags jump popped) (inst_records context start 0 inst) old mid (call_few context.flags jump popped is.few) calm
+    (appends_words context.flags (call []) _ [] _ old mid is.first.plain long (is.first.uses (allocated_of old) start) (is.first.records start 0) is.first.names p)
 
 -- ---- how many there are
 
 typed_one : (register offset : ℕ) (op : Option LoadOP) → IsSome op → length (typed_loads register offset op) ≡ 1
 typed_one register offset None some = absurd (cc)
 typed_one register offset (Some op) some = refl
-
-typed_few : (register offset : ℕ) (op : Option LoadOP) → length (typed_loads register offset op) ≤ 1
-typed_few register offset None = lit≤ tt
-typed_few register offset (Some op) = lit≤ tt
-
--- from the first on
-abbrev stacked_in : List CallRetPair → ℕ
-stacked_in [] = 0
-stacked_in (d ∷ defs) = cond (is_stacked d) (1 + stacked_in defs) (stacked_in defs)
-
-stacked_counted : (defs : List CallRetPair) → stacked_in defs ≡ count_by is_stacked defs
-stacked_counted = is_count_by stacked_in is_stacked refl (λ d defs. refl)
 
 -- a load for each result on the stack
 each_loads : (r : Reg) (location : RetLocation) (m n : ℕ) → IsFineResult r location → m ≡ n → length (location_loads r location) + m ≡ cond (is_on_stack location) (1 + n) n
@@ -112,20 +69,6 @@ all_load (d ∷ defs) h = length-append (location_loads d.vreg.reg d.location) (
 
 pub results_counted : (defs : List CallRetPair) → AreFineResults defs → length (result_loads defs) ≡ count_by is_stacked defs
 results_counted defs h = all_load defs h ∙ stacked_counted defs
-
--- no more for some of the results
-one_few : (r : Reg) (location : RetLocation) (m n : ℕ) → m ≤ n → length (location_loads r location) + m ≤ cond (is_on_stack location) (1 + n) n
-one_few r (InReg s) m n le = omega arith
-one_few r (OnStack offset type) m n le = let few = typed_few (number_of r) offset (result_load type) in omega arith
-
-front_few : (defs : List CallRetPair) (k : ℕ) → length (result_loads (take k defs)) ≤ stacked_in defs
-front_few [] zero = lit≤ tt
-front_few [] (suc k) = lit≤ tt
-front_few (d ∷ defs) zero = omega arith
-front_few (d ∷ defs) (suc k) = omega (arith, length-append (location_loads d.vreg.reg d.location) (result_loads (take k defs)), one_few d.vreg.reg d.location (length (result_loads (take k defs))) (stacked_in defs) (front_few defs k))
-
-some_few : (defs : List CallRetPair) (k : ℕ) → length (result_loads (take k defs)) ≤ count_by is_stacked defs
-some_few defs k = let few = front_few defs k in let same = stacked_counted defs in omega arith
 
 -- ---- one more
 

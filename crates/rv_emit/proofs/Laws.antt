@@ -16,7 +16,7 @@ pub use Rattle.rv_emit.proofs.PartsInBuffer.{gap_last, parts_last, gap_put, part
 -- constants that come to stand; and an element of a list with one more
 pub use Rattle.rv_emit.proofs.NewConstants.{adds_both, adds_none, adds_end, before_or_last}
 -- an instruction's parts are self-contained; and what one that asks for no island adds
-pub use Rattle.rv_emit.proofs.InstSlots.{parts_are_self_contained, Lacks, lacks, room_records, appended_records, room_named, appended_named, room_keeps, emitted_keeps}
+pub use Rattle.rv_emit.proofs.InstSlots.{words_within, parts_are_self_contained, Lacks, lacks, room_records, appended_records, room_named, appended_named, room_keeps, emitted_keeps}
 pub use Rattle.rv_emit.proofs.TailAppends.{table_parts_long, table_some, table_stands, appends, tail_parts_long, t0_parts_long}
 -- a buffer in which nothing stands yet; and one in which a label more is bound
 pub use Rattle.rv_emit.proofs.EmitRuns.{empty_built, bound_built}
@@ -30,13 +30,14 @@ pub use Rattle.rv_emit.proofs.Standing.{gap_stands, parts_stand, own_stands}
 pub use Rattle.rv_emit.proofs.IslandsStand.{gap_is, GoesToLabel, label_reached}
 -- where a jump or a branch aims
 -- pending uses and their deadlines
-pub use Rattle.rv_emit.proofs.ReachAfterInst.{Each, first_use, pending_at, each_none, each_more, uses_bare, uses_kinds, bytes_put, direct_never_pending, pending_still}
+pub use Rattle.rv_emit.proofs.OwnPieces.{Each, each_none, each_more}
+pub use Rattle.rv_emit.proofs.ReachAfterInst.{first_use, pending_at, uses_bare, uses_kinds, bytes_put, direct_never_pending, pending_still}
 -- and what a sequence leaves as it was, with labels of its own or without
 pub use Rattle.rv_sequences.proofs.Sequences.{no_own, high_kept, bound_kept}
 -- how far the uses of an instruction reach, and how many are pending
 pub use Rattle.rv_emit.proofs.Bounds.{few_ways, ways_more}
 -- how many bytes an instruction has at most
-pub use Rattle.rv_emit.proofs.MostBytes.{words_within, most_counts}
+pub use Rattle.rv_emit.proofs.MostBytes.{most_counts}
 pub use Rattle.rv_emit.proofs.Islands.{deadlines_as}
 pub use Rattle.rv_code.proofs.Courses.{bits_back}
 -- a window of bytes: its bytes and its length

@@ -1,14 +1,24 @@
 -- Labels that an instruction allocates and binds itself, and the pieces that name them.
-use Rattle.rv_emit.proofs.Terms.{◌≡◌, ℕ, ◌+◌, Bool, true, false, List, [], ◌∷◌, length, Some, refl, ap, sym, ◌∙◌, arith, ◌≢◌, inl, inr, ◌<◌, ◌≤◌, ◌++◌, Option, None, subst, append_assoc, lit≤, nat_eq, if◌then◌else◌, nat_lt, is_some, ◌&&◌, eqb-true, le-leb, same_Some, IsaFlags, LabelUse, Shape}
-use Rattle.rv_emit.proofs.Terms.{IsUsable, placed_same, few_allocated, use_usable, placed_other, Slot, Op, Aim, Data, Notes, Names, Allocate, Here, Fill, Address, CallTo, own_label, here_at, Label, Own, PutsSlot, Puts, slot_bytes, lasts_after_slots, puts_bytes, puts_uses, puts_named, puts_constants}
-use Rattle.rv_emit.proofs.Terms.{puts_records, nat_tests, length-append, append-nil, MachLabel, first_inner, inner_count, is_reached, shape_of, bytes_of, place_of, allocated_of, named_of, Context, jump_kind, label_kinds, forward_of, backward_of, has_veneer_of, words_in, inst_records, use_at, Inst}
-use Rattle.rv_emit.proofs.Terms.{B12, Jal20, RVCJump, slots_alone, short_jump, Piece, Do, Branch, Jump, New, Bind, Go, Trap, op_of, branches, slots_for, slots_of, piece_size, pieces_size, after, own_labels, AreAmong, trap_bytes, GoNowhere, pieces_long, pieces_few, IsMadeOf, pieces_name, PutsParts}
-use Rattle.rv_emit.proofs.Terms.{Buffer, IsSoundBuffer, AppendsInst, IsOwnUse}
+use Rattle.rv_emit.proofs.Terms.{◌≡◌, ℕ, ◌+◌, Bool, true, false, List, [], ◌∷◌, length, Some, refl, ap, sym, ◌∙◌, arith, ◌≢◌, inl, inr, ◌<◌, ◌≤◌, ◌++◌, Option, None, subst, lit≤, nat_eq, if◌then◌else◌, nat_lt, is_some, ◌&&◌, eqb-true, le-leb, same_Some, IsaFlags, LabelUse, Shape, IsUsable}
+use Rattle.rv_emit.proofs.Terms.{placed_same, few_allocated, use_usable, placed_other, Slot, Op, Data, Notes, Allocate, Here, own_label, here_at, PutsSlot, Puts, slot_bytes, lasts_after_slots, puts_bytes, puts_uses, puts_named, puts_constants, puts_records, nat_tests, append-nil, MachLabel}
+use Rattle.rv_emit.proofs.Terms.{first_inner, inner_count, is_reached, shape_of, bytes_of, place_of, allocated_of, named_of, Context, jump_kind, label_kinds, forward_of, backward_of, has_veneer_of, words_in, inst_records, use_at, Inst, B12, Jal20, RVCJump, slots_alone, Piece, Do, Branch, Jump, New}
+use Rattle.rv_emit.proofs.Terms.{Bind, Go, Trap, op_of, slots_for, slots_of, piece_size, pieces_size, after, own_labels, AreAmong, trap_bytes, GoNowhere, pieces_long, pieces_few, IsMadeOf, pieces_name, PutsParts, Buffer, IsSoundBuffer, AppendsInst, IsOwnUse, zero, suc, slice_get, drop, length-drop}
+use Rattle.std.proofs.lemmas.List.{take-append-drop}
 use Rattle.rv_inst.specs.Sizes.{space_in}
 use Rattle.rv_code.specs.Slots.{uses_of}
 use Rattle.rv_code.proofs.MadeOfPieces.{jump_reach}
-use Rattle.rv_emit.proofs.ReachAfterInst.{Each, each_none, each_more}
 use Rattle.mach_records.specs.declared.records.Event.TheVariants as event
+
+-- what holds of each element
+abbrev pub Each : {X : Type 0} → (X → Type 0) → List X → Type 0
+Each {X} P xs = (k : ℕ) (x : X) → slice_get xs k ≡ Some x → P x
+
+pub each_none : {X : Type 0} (P : X → Type 0) → Each P []
+each_none P k x h = absurd (cc)
+
+pub each_more : {X : Type 0} (P : X → Type 0) (x : X) (xs : List X) → P x → Each P xs → Each P (x ∷ xs)
+each_more P x xs p rest zero y h = subst P (same_Some _ _ h) p
+each_more P x xs p rest (suc k) y h = rest k y h
 
 -- ---- labels
 
@@ -19,24 +29,16 @@ bound_here flags allocated k slots s mid t p q =
     ((λ i. (p.1 i).place (own_label allocated k).number) ∙ placed_same s.place (own_label allocated k).number (length s.bytes))
 
 -- each own label of slots is bound where they say, counted from an offset
-pub own_bound : (flags : IsaFlags) (allocated from at : ℕ) (slots : List Slot) (s t : Shape LabelUse) → Puts flags allocated slots s t → length s.bytes ≡ from + at → (k to : ℕ) → here_at k at slots ≡ Some to → t.place (own_label allocated k).number ≡ Some (from + to)
-own_bound flags allocated from at [] s t p e k to h = absurd (cc)
-own_bound flags allocated from at (Op d ∷ slots) s t p e k to h = let l = slot_bytes flags allocated (Op d) s p.0 p.1 in own_bound flags allocated from (at + d.len) slots p.0 t p.2 (omega arith) k to h
-own_bound flags allocated from at (Aim kind target ops ∷ slots) s t p e k to h = let l = slot_bytes flags allocated (Aim kind target ops) s p.0 p.1 in own_bound flags allocated from _ slots p.0 t p.2 (omega arith) k to h
-own_bound flags allocated from at (Data bytes ∷ slots) s t p e k to h = let l = slot_bytes flags allocated (Data bytes) s p.0 p.1 in own_bound flags allocated from (at + length bytes) slots p.0 t p.2 (omega arith) k to h
-own_bound flags allocated from at (Notes event ∷ slots) s t p e k to h = let l = slot_bytes flags allocated (Notes event) s p.0 p.1 in own_bound flags allocated from at slots p.0 t p.2 (omega arith) k to h
-own_bound flags allocated from at (Names c ∷ slots) s t p e k to h = let l = slot_bytes flags allocated (Names c) s p.0 p.1 in own_bound flags allocated from at slots p.0 t p.2 (omega arith) k to h
-own_bound flags allocated from at (Allocate ∷ slots) s t p e k to h = let l = slot_bytes flags allocated Allocate s p.0 p.1 in own_bound flags allocated from at slots p.0 t p.2 (omega arith) k to h
-own_bound flags allocated from at (Fill symbol upper lower ∷ slots) s t p e k to h = let l = slot_bytes flags allocated (Fill symbol upper lower) s p.0 p.1 in own_bound flags allocated from (at + 8) slots p.0 t p.2 (omega arith) k to h
-own_bound flags allocated from at (Address name addend ∷ slots) s t p e k to h = let l = slot_bytes flags allocated (Address name addend) s p.0 p.1 in own_bound flags allocated from (at + 8) slots p.0 t p.2 (omega arith) k to h
-own_bound flags allocated from at (CallTo name ops ∷ slots) s t p e k to h = let l = slot_bytes flags allocated (CallTo name ops) s p.0 p.1 in own_bound flags allocated from (at + 8) slots p.0 t p.2 (omega arith) k to h
-own_bound flags allocated from at (Here j ∷ slots) s t p e k to h = on (nat_eq j k) refl (own_bound flags allocated from at slots p.0 t p.2 (let l = slot_bytes flags allocated (Here j) s p.0 p.1 in omega arith) k to) h
+pub own_bound : (flags : IsaFlags) (allocated from : ℕ) (slots : List Slot) (at : ℕ) (s t : Shape LabelUse) → Puts flags allocated slots s t → length s.bytes ≡ from + at → (k to : ℕ) → here_at k at slots ≡ Some to → t.place (own_label allocated k).number ≡ Some (from + to)
+own_bound flags allocated from [] at s t p e k to h = absurd (cc)
+own_bound flags allocated from (Here j ∷ slots) at s t p e k to h = on (nat_eq j k) refl (own_bound flags allocated from slots at p.0 t p.2 (let l = slot_bytes flags allocated (Here j) s p.0 p.1 in omega arith) k to) h
   where
     on : (c : Bool) → nat_eq j k ≡ c → (here_at k at slots ≡ Some to → t.place (own_label allocated k).number ≡ Some (from + to)) → (if c then Some at else here_at k at slots) ≡ Some to → t.place (own_label allocated k).number ≡ Some (from + to)
     on true is rest here =
         (λ i. t.place (own_label allocated (sym (eqb-true j k is) i)).number) ∙ bound_here flags allocated j slots s p.0 t p.1 p.2
         ∙ ap (λ (n : ℕ). Some n) (e ∙ ap (λ n. from + n) (same_Some at to here))
     on false is rest here = rest here
+own_bound flags allocated from (slot ∷ slots) at s t p e k to h = let l = slot_bytes flags allocated slot s p.0 p.1 in own_bound flags allocated from slots _ p.0 t p.2 (omega arith) k to h
 
 -- ---- pieces
 
@@ -44,51 +46,36 @@ own_bound flags allocated from at (Here j ∷ slots) s t p e k to h = on (nat_eq
 abbrev IsOther : ℕ → ℕ → ℕ → Type 0
 IsOther a total label = (k : ℕ) → k < total → label ≢ (own_label a k).number
 
--- bytes and labels were added; other labels' places are as they were
+-- labels were added; other labels' places are as they were
 record AddsOwn (a total news : ℕ) (s t : Shape LabelUse) : Type 0 where
-  code : List ℕ
-  bytes : t.bytes ≡ s.bytes ++ code
   labels : t.labels ≡ s.labels
   allocated : t.allocated ≡ s.allocated + news
   places : (label : ℕ) → IsOther a total label → t.place label ≡ s.place label
 
-adds_none : (a total : ℕ) (s t : Shape LabelUse) → t ≡ s → AddsOwn a total 0 s t
-adds_none a total s t e = record {
-  code = [];
-  bytes = ap (λ x. x.bytes) e ∙ sym (append-nil s.bytes);
-  labels = ap (λ x. x.labels) e;
-  allocated = ap (λ x. x.allocated) e ∙ omega arith;
-  places = λ label other. ap (λ x. x.place label) e;
-}
+-- none was
+adds_none : {a total : ℕ} (s m t : Shape LabelUse) → t ≡ m → m.labels ≡ s.labels → m.allocated ≡ s.allocated → m.place ≡ s.place → AddsOwn a total 0 s t
+adds_none s m t e labels allocated place = record { labels = ap (λ x. x.labels) e ∙ labels; allocated = ap (λ x. x.allocated) e ∙ allocated ∙ omega arith; places = λ label other. ap (λ x. x.place label) e ∙ ap (λ p. p label) place }
 
 adds_both : {a total m n : ℕ} {s t u : Shape LabelUse} → AddsOwn a total m s t → AddsOwn a total n t u → AddsOwn a total (m + n) s u
-adds_both {s = s} x y = record {
-  code = x.code ++ y.code;
-  bytes = y.bytes ∙ ap (λ b. b ++ y.code) x.bytes ∙ append_assoc s.bytes x.code y.code;
-  labels = y.labels ∙ x.labels;
-  allocated = let e = x.allocated in let f = y.allocated in omega arith;
-  places = λ label other. y.places label other ∙ x.places label other;
-}
+adds_both x y = record { labels = y.labels ∙ x.labels; allocated = let e = x.allocated in let f = y.allocated in omega arith; places = λ label other. y.places label other ∙ x.places label other }
 
 not_low : (number : ℕ) → first_inner ≤ number → nat_lt number first_inner ≡ false
 not_low number high = grind (arith, nat_tests)
 
 -- one piece does
 adds_piece : (flags : IsaFlags) (a total : ℕ) (p : Piece) (s t : Shape LabelUse) → AreAmong total (p ∷ []) → Puts flags a (slots_for flags p) s t → AddsOwn a total (own_labels (p ∷ [])) s t
-adds_piece flags a total (Do d) s t among put = let e = put.2 ∙ put.1.3 in record { code = put.1.0; bytes = ap (λ x. x.bytes) e; labels = ap (λ x. x.labels) e; allocated = ap (λ x. x.allocated) e ∙ omega arith; places = λ label other. ap (λ x. x.place label) e }
-adds_piece flags a total (Trap code) s t among put = let e = put.2.2 ∙ put.2.1 in let r = put.1.1 in record { code = trap_bytes flags; bytes = ap (λ x. x.bytes) e ∙ ap (λ x. x.bytes ++ trap_bytes flags) r; labels = ap (λ x. x.labels) e ∙ ap (λ x. x.labels) r; allocated = ap (λ x. x.allocated) e ∙ ap (λ x. x.allocated) r ∙ omega arith; places = λ label other. ap (λ x. x.place label) e ∙ ap (λ x. x.place label) r }
-adds_piece flags a total New s t among put = let e = put.1 in record { code = []; bytes = ap (λ x. x.bytes) (put.2 ∙ e) ∙ sym (append-nil s.bytes); labels = ap (λ x. x.labels) (put.2 ∙ e); allocated = ap (λ x. x.allocated) (put.2 ∙ e); places = λ label other. ap (λ x. x.place label) (put.2 ∙ e) }
+adds_piece flags a total (Do d) s t among put = adds_none s _ t (put.2 ∙ put.1.3) refl refl refl
+adds_piece flags a total (Trap code) s t among put = adds_none s _ t (put.2.2 ∙ put.2.1) (ap (λ x. x.labels) put.1.1) (ap (λ x. x.allocated) put.1.1) (ap (λ x. x.place) put.1.1)
+adds_piece flags a total New s t among put = let e = put.2 ∙ put.1 in record { labels = ap (λ x. x.labels) e; allocated = ap (λ x. x.allocated) e; places = λ label other. ap (λ x. x.place label) e }
 adds_piece flags a total (Bind k) s t among put =
     let e = put.2 ∙ put.1.1 in
     let own = own_label a k in
     record {
-      code = [];
-      bytes = ap (λ x. x.bytes) e ∙ sym (append-nil s.bytes);
       labels = ap (λ x. x.labels) e ∙ ap (λ c. s.labels ++ (if c then (record { label = own; offset = length s.bytes }) ∷ [] else [])) (not_low own.number (omega arith)) ∙ append-nil s.labels;
       allocated = ap (λ x. x.allocated) e ∙ omega arith;
       places = λ label other. ap (λ x. x.place label) e ∙ placed_other s.place own.number (length s.bytes) label (other k among.0);
     }
-adds_piece flags a total p s t among put = let e = put.2 ∙ put.1.2 in record { code = put.1.0; bytes = ap (λ x. x.bytes) e; labels = ap (λ x. x.labels) e; allocated = ap (λ x. x.allocated) e ∙ omega arith; places = λ label other. ap (λ x. x.place label) e }
+adds_piece flags a total p s t among put = adds_none s _ t (put.2 ∙ put.1.2) refl refl refl
 
 -- the first of pieces, and the others
 pieces_split : (flags : IsaFlags) (a : ℕ) (p : Piece) (ps : List Piece) (s t : Shape LabelUse) → Puts flags a (slots_of flags (p ∷ ps)) s t → (m : Shape LabelUse) × Puts flags a (slots_for flags p) s m × Puts flags a (slots_of flags ps) m t
@@ -106,7 +93,7 @@ among_split total (Bind k) ps h = ((h.0, tt), h.1)
 among_split total p ps h = (tt, h)
 
 adds : (flags : IsaFlags) (a total : ℕ) (ps : List Piece) (s t : Shape LabelUse) → AreAmong total ps → Puts flags a (slots_of flags ps) s t → AddsOwn a total (own_labels ps) s t
-adds flags a total [] s t among p = adds_none a total s t p
+adds flags a total [] s t among p = adds_none s s t p refl refl refl
 adds flags a total (p ∷ ps) s t among puts =
     let b = among_split total p ps among in
     let r = pieces_split flags a p ps s t puts in
@@ -128,9 +115,6 @@ later n long same b = record { before = sym same ∙ b.before; to = b.to; there 
 bound : (flags : IsaFlags) (a k : ℕ) (ps qs : List Piece) (s t : Shape LabelUse) → after k ps ≡ Some qs → Puts flags a (slots_of flags ps) s t → IsBoundAmong a k s t
 bound flags a k [] qs s t e p = absurd (cc)
 bound flags a k (Do d ∷ ps) qs s t e (m, put, q) = later _ (slot_bytes flags a (Op (op_of flags d)) s m put) (ap (λ x. x.place (own_label a k).number) put.3) (bound flags a k ps qs m t e q)
-bound flags a k (Branch how x y j ∷ ps) qs s t e (m, put, q) = later _ (slot_bytes flags a (Aim B12 (Own j) (λ z. branches how x y z ∷ [])) s m put) (ap (λ x. x.place (own_label a k).number) put.2) (bound flags a k ps qs m t e q)
-bound flags a k (Jump j ∷ ps) qs s t e (m, put, q) = later _ (slot_bytes flags a (Aim (jump_kind flags) (Own j) (λ z. short_jump flags z ∷ [])) s m put) (ap (λ x. x.place (own_label a k).number) put.2) (bound flags a k ps qs m t e q)
-bound flags a k (Go l ∷ ps) qs s t e (m, put, q) = later _ (slot_bytes flags a (Aim (jump_kind flags) (Label l) (λ z. short_jump flags z ∷ [])) s m put) (ap (λ x. x.place (own_label a k).number) put.2) (bound flags a k ps qs m t e q)
 bound flags a k (Trap code ∷ ps) qs s t e (m, put, (n, bytes, q)) = later {s = s} {m = m} {t = t} _ (slot_bytes flags a (Notes (event.Trap code)) s m put) (ap (λ x. x.place (own_label a k).number) put.1) (later {s = m} {m = n} {t = t} _ (slot_bytes flags a (Data (trap_bytes flags)) m n bytes) (ap (λ x. x.place (own_label a k).number) bytes) (bound flags a k ps qs n t e q))
 bound flags a k (New ∷ ps) qs s t e (m, put, q) = later _ (slot_bytes flags a Allocate s m put) (ap (λ x. x.place (own_label a k).number) put) (bound flags a k ps qs m t e q)
 bound flags a k (Bind j ∷ ps) qs s t e (m, put, q) = by (nat_eq j k) refl e (λ f. bound flags a k ps qs m t f q)
@@ -146,6 +130,7 @@ bound flags a k (Bind j ∷ ps) qs s t e (m, put, q) = by (nat_eq j k) refl e (�
         let more = puts_bytes flags a (slots_of flags ps) m t q in
         subst (λ n. IsBoundAmong a n s t) same (record { before = put.0; to = length s.bytes; low = omega arith; high = omega arith; there = (lasts_after_slots flags a (slots_of flags ps) m t q).grows.places (own_label a j).number (length s.bytes) there })
     by false test e rest = later _ (slot_bytes flags a (Here j) s m put) (ap (λ x. x.place (own_label a k).number) put.1 ∙ placed_other s.place (own_label a j).number (length s.bytes) (own_label a k).number (apart test)) (rest e)
+bound flags a k (p ∷ ps) qs s t e (m, put, q) = later _ (puts_bytes flags a (slots_for flags p) s m (m, put, refl)) (ap (λ x. x.place (own_label a k).number) put.2) (bound flags a k ps qs m t e q)
 
 -- ---- the uses of own labels
 
@@ -162,16 +147,11 @@ reached kind label place at to start end e forward backward a b c d small =
     ap (λ o. is_reached label_kinds o (use_at at label kind)) e
     ∙ (λ i. le-leb to (at + forward_of kind) (omega arith) i && le-leb at (to + backward_of kind) (omega arith) i)
 
-jump_served : (flags : IsaFlags) → has_veneer_of (jump_kind flags) ≡ true
-jump_served flags = by flags.has_zca
-  where
-    by : (c : Bool) → has_veneer_of (if c then RVCJump else Jal20) ≡ true
-    by true = refl
-    by false = refl
+pub jump_served : (flags : IsaFlags) → has_veneer_of (jump_kind flags) ≡ true
+jump_served flags = elim flags.has_zca as (λ c. has_veneer_of (if c then RVCJump else Jal20) ≡ true) [ true ↦ refl | false ↦ refl ]
 
 each_own : (flags : IsaFlags) (a total at start end : ℕ) (place : ℕ → Option ℕ) (ps : List Piece) → at + pieces_size flags ps ≤ end → start ≤ at → end ≤ start + 2046 → GoNowhere ps → AreAmong total ps → ((k : ℕ) → k < total → IsPlacedBetween a k start end place) → Each (IsOwnUse total a place) (uses_of a at (slots_of flags ps))
 each_own flags a total at start end place [] le low small nowhere among all = each_none _
-each_own flags a total at start end place (Do d ∷ ps) le low small nowhere among all = each_own flags a total (at + piece_size flags (Do d)) start end place ps (omega arith) (omega arith) small nowhere among all
 each_own flags a total at start end place (Branch how x y k ∷ ps) le low small nowhere among all =
     let p = all k among.0 in
     each_more (IsOwnUse total a place) (use_at at (own_label a k) B12) _ (record { index = k; own = among.0; names = refl; served = refl; bare = refl; reached = reached B12 (own_label a k) _ at p.to start end p.there (lit≤ tt) (lit≤ tt) low (omega arith) p.low p.high small })
@@ -181,10 +161,9 @@ each_own flags a total at start end place (Jump k ∷ ps) le low small nowhere a
     let r = jump_reach flags in
     each_more (IsOwnUse total a place) (use_at at (own_label a k) (jump_kind flags)) _ (record { index = k; own = among.0; names = refl; served = jump_served flags; bare = refl; reached = reached (jump_kind flags) (own_label a k) _ at p.to start end p.there r.0 r.1 low (omega arith) p.low p.high small })
     (each_own flags a total (at + piece_size flags (Jump k)) start end place ps (omega arith) (omega arith) small nowhere among.1 all)
-each_own flags a total at start end place (New ∷ ps) le low small nowhere among all = each_own flags a total at start end place ps (omega arith) low small nowhere among all
 each_own flags a total at start end place (Bind k ∷ ps) le low small nowhere among all = each_own flags a total at start end place ps (omega arith) low small nowhere among.1 all
 each_own flags a total at start end place (Go l ∷ ps) le low small nowhere among all = absurd nowhere
-each_own flags a total at start end place (Trap code ∷ ps) le low small nowhere among all = each_own flags a total (at + piece_size flags (Trap code)) start end place ps (omega arith) (omega arith) small nowhere among all
+each_own flags a total at start end place (p ∷ ps) le low small nowhere among all = each_own flags a total _ start end place ps (omega arith) (omega arith) small nowhere among all
 
 -- ---- an instruction
 
@@ -196,13 +175,13 @@ not_usable s label k count lt few (inr c) e = let is = c.is in absurd (omega ari
 -- what the pieces that make it add
 pub made_appends : (context : Context) (inst : Inst) (pieces : List Piece) (old new : Buffer) → IsMadeOf context inst pieces → IsSoundBuffer old → PutsParts context.flags (slots_alone (slots_of context.flags pieces)) old new → AppendsInst context inst old new
 made_appends context inst ps old new made before (mid, p, same) = subst (AppendsInst context inst old) (sym same) (record {
-  code = x.code;
+  code = drop start (bytes_of mid);
   direct = uses_of a start (slots_of flags ps);
   own = own_labels ps;
   few = made.owns;
   alone = λ asks. let e : false ≡ true = ap (λ e. is_some (space_in e)) (sym made.long) ∙ asks in absurd (cc);
   adds = record {
-    bytes = x.bytes;
+    bytes = bytes;
     uses = puts_uses flags a (slots_of flags ps) (shape_of old) (shape_of mid) p.puts ∙ ap (λ us. (shape_of old).uses ++ (us ++ uses_of a start (slots_of flags ps))) (made.uses start (length (bytes_of mid)));
     allocated = x.allocated;
     unbound = λ k lt. (there k lt).before;
@@ -217,7 +196,7 @@ made_appends context inst ps old new made before (mid, p, same) = subst (Appends
   each = λ j u h. inr (own_uses j u h);
   records = puts_records flags a (slots_of flags ps) (shape_of old) (shape_of mid) p.puts ∙ ap (λ more. (shape_of old).records ++ more) (made.records start ∙ ap (λ n. inst_records context start n inst) (sym end));
   named = puts_named flags a (slots_of flags ps) (shape_of old) (shape_of mid) p.puts ∙ pieces_name flags ps (named_of old) ∙ made.names (named_of old);
-  long = ap words_in made.long ∙ (let e = end in let l = ap length x.bytes ∙ length-append (bytes_of old) x.code in omega arith);
+  long = ap words_in made.long ∙ (let e = end in let l = length-drop start (bytes_of mid) in omega arith);
 })
   where
     flags : IsaFlags
@@ -231,6 +210,9 @@ made_appends context inst ps old new made before (mid, p, same) = subst (Appends
 
     end : length (bytes_of mid) ≡ start + pieces_size flags ps
     end = puts_bytes flags a (slots_of flags ps) (shape_of old) (shape_of mid) p.puts ∙ ap (λ n. start + n) (pieces_long flags ps)
+
+    bytes : bytes_of mid ≡ bytes_of old ++ drop start (bytes_of mid)
+    bytes = sym (take-append-drop start (bytes_of mid)) ∙ ap (λ front. front ++ drop start (bytes_of mid)) (lasts_after_slots flags a (slots_of flags ps) (shape_of old) (shape_of mid) p.puts).grows.before
 
     x : AddsOwn a (own_labels ps) (own_labels ps) (shape_of old) (shape_of mid)
     x = adds flags a (own_labels ps) ps (shape_of old) (shape_of mid) made.closed.among p.puts

@@ -1,9 +1,9 @@
 -- What was put part by part stands in the buffer, its windows and what relocations fill with it, and lasts.
 use Rattle.rv_emit.proofs.Terms.{◌≡◌, inl, inr, ⊎_elim, ℕ, ◌+◌, ◌≤◌, List, [], ◌∷◌, ◌++◌, length, Some, ap, sym, ◌∙◌, subst, arith, ◌⊎◌, ◌%◌, Bool, true, false, refl, slice_get, Option, length-append, IsaFlags, LabelUse, Jal20, label_kinds, marks_of, use_at, shape_of, bytes_of, uses_of}
 use Rattle.rv_emit.proofs.Terms.{allocated_of, RecordsLast, Lasts, Shape, with_bytes, with_allocated, AllEnd, AreWindows, Event, Reloc, MachRecord, Use, append_each, recorded_at, lasts_same, lasts_more, lasts_allocated, windows_with_bytes, windows_with_use, stands_last, even_length, Buffer}
-use Rattle.rv_emit.proofs.Terms.{AppendsIsland, IsSoundBuffer, HasWindows, IslandIfNeeded, EndsWithin, IsClear, AllClear, FieldsEnd, FieldsStand, AsksNothing, PutsSlot, Puts, eight_zeros, slot_ends, slot_bytes, lasts_after_slots, puts_bytes, puts_constants, Slot, Op, Aim, Data, Notes, Names}
-use Rattle.rv_emit.proofs.Terms.{Allocate, Here, Fill, Address, CallTo, label_of, upper_event, lower_event, address_event, call_event, AddressOf, SlotOf, Symbol, slot_size, Part, Ask, Slots, Label, AreClosed, PartsAreSelfContained, AllStand, wide_jump_to, PutsParts, SlotsIn, IslandIn, GapStandsIn}
-use Rattle.rv_emit.proofs.Terms.{PartsIn, AddsConstants, marks_even}
+use Rattle.rv_emit.proofs.Terms.{AppendsIsland, IsSoundBuffer, HasWindows, IslandIfNeeded, EndsWithin, IsClear, AllClear, FieldsEnd, FieldsStand, AsksNothing, PutsSlot, Puts, eight_zeros, slot_ends, slot_bytes, lasts_after_slots, puts_bytes, puts_constants, Slot, Op, Aim, Data, Notes, Here, Fill}
+use Rattle.rv_emit.proofs.Terms.{Address, CallTo, label_of, upper_event, lower_event, address_event, call_event, AddressOf, SlotOf, Symbol, slot_size, Part, Ask, Slots, Label, AreClosed, PartsAreSelfContained, AllStand, wide_jump_to, PutsParts, SlotsIn, IslandIn, GapStandsIn, PartsIn, AddsConstants}
+use Rattle.rv_emit.proofs.Terms.{marks_even}
 use Rattle.rv_emit.proofs.NewConstants.{adds_both, adds_none, adds_same}
 
 -- What relocations fill.
@@ -61,8 +61,6 @@ slot_fields_end flags allocated (Op d) s t p ends = subst FieldsEnd (sym p.3) (�
 slot_fields_end flags allocated (Aim kind target ops) s t p ends = subst FieldsEnd (sym p.2) (λ k r h. ends_later (length s.bytes) (length (s.bytes ++ p.0)) r.offset r.event (omega (arith, length-append s.bytes p.0)) (ends k r h))
 slot_fields_end flags allocated (Data bytes) s t p ends = subst FieldsEnd (sym p) (λ k r h. ends_later (length s.bytes) (length (s.bytes ++ bytes)) r.offset r.event (omega (arith, length-append s.bytes bytes)) (ends k r h))
 slot_fields_end flags allocated (Notes e) s t p ends = subst FieldsEnd (sym p.1) (one_ends s.records (record { offset = length s.bytes; event = e }) (length s.bytes) (length s.bytes) (omega arith) (nothing_ends (length s.bytes) (length s.bytes) e p.0) ends)
-slot_fields_end flags allocated (Names k) s t p ends = subst FieldsEnd (sym p) ends
-slot_fields_end flags allocated Allocate s t p ends = subst FieldsEnd (sym p) ends
 slot_fields_end flags allocated (Here k) s t p ends = subst FieldsEnd (sym p.1) ends
 slot_fields_end flags allocated (Fill symbol upper lower) s t (first, second, hi, lo, e) ends =
     let here = length s.bytes in
@@ -83,6 +81,7 @@ slot_fields_end flags allocated (CallTo name ops) s t (code, is, e) ends =
     let one = length-append s.bytes code in
     let a : length code ≡ 8 = is.long in
     subst FieldsEnd (sym e) (one_ends s.records (record { offset = here; event = call_event name }) here (length (s.bytes ++ code)) (omega arith) (omega arith) ends)
+slot_fields_end flags allocated slot s t p ends = subst FieldsEnd (sym p) ends
 
 -- what is filled stays apart from the windows of uses
 slot_clear : (flags : IsaFlags) (allocated : ℕ) (slot : Slot) (s t : Shape LabelUse) → PutsSlot flags allocated slot s t → AllEnd label_kinds s → FieldsStand s → (j : ℕ) (u : Use LabelUse) → slice_get t.uses j ≡ Some u → AllClear t.records u.offset (length (marks_of u.kind))
@@ -90,12 +89,9 @@ slot_clear flags allocated (Op d) s t p ends f j u h = subst (λ rs. AllClear rs
 slot_clear flags allocated (Aim kind target ops) s t p ends f j u h =
     subst (λ rs. AllClear rs u.offset (length (marks_of u.kind))) (λ i. (sym p.2 i).records)
     (append_each (λ (x : Use LabelUse). AllClear s.records x.offset (length (marks_of x.kind))) s.uses (use_at (length s.bytes) (label_of allocated target) kind) (clear_later s (length s.bytes) (length (marks_of kind)) f.ends (omega arith)) f.clear j u ((λ i. slice_get (sym p.2 i).uses j) ∙ h))
-slot_clear flags allocated (Data bytes) s t p ends f j u h = subst (λ rs. AllClear rs u.offset (length (marks_of u.kind))) (λ i. (sym p i).records) (f.clear j u ((λ i. slice_get (sym p i).uses j) ∙ h))
 slot_clear flags allocated (Notes e) s t p ends f j u h =
     subst (λ rs. AllClear rs u.offset (length (marks_of u.kind))) (λ i. (sym p.1 i).records)
     (one_clear s.records (record { offset = length s.bytes; event = e }) u.offset (length (marks_of u.kind)) (nothing_clear u.offset (length (marks_of u.kind)) (length s.bytes) e p.0) (f.clear j u ((λ i. slice_get (sym p.1 i).uses j) ∙ h)))
-slot_clear flags allocated (Names k) s t p ends f j u h = subst (λ rs. AllClear rs u.offset (length (marks_of u.kind))) (λ i. (sym p i).records) (f.clear j u ((λ i. slice_get (sym p i).uses j) ∙ h))
-slot_clear flags allocated Allocate s t p ends f j u h = subst (λ rs. AllClear rs u.offset (length (marks_of u.kind))) (λ i. (sym p i).records) (f.clear j u ((λ i. slice_get (sym p i).uses j) ∙ h))
 slot_clear flags allocated (Here k) s t p ends f j u h = subst (λ rs. AllClear rs u.offset (length (marks_of u.kind))) (λ i. (sym p.1 i).records) (f.clear j u ((λ i. slice_get (sym p.1 i).uses j) ∙ h))
 slot_clear flags allocated (Fill symbol upper lower) s t (first, second, hi, lo, e) ends f j u h =
     let here = length s.bytes in
@@ -117,6 +113,7 @@ slot_clear flags allocated (CallTo name ops) s t (code, is, e) ends f j u h =
     let end : u.offset + length (marks_of u.kind) ≤ here = ends j u there in
     subst (λ rs. AllClear rs u.offset (length (marks_of u.kind))) (λ i. (sym e i).records)
     (one_clear s.records (record { offset = here; event = call_event name }) u.offset (length (marks_of u.kind)) (after_clear u.offset (length (marks_of u.kind)) here (call_event name) end) (f.clear j u there))
+slot_clear flags allocated slot s t p ends f j u h = subst (λ rs. AllClear rs u.offset (length (marks_of u.kind))) (λ i. (sym p i).records) (f.clear j u ((λ i. slice_get (sym p i).uses j) ∙ h))
 
 pub slot_fields : (flags : IsaFlags) (allocated : ℕ) (slot : Slot) (s t : Shape LabelUse) → PutsSlot flags allocated slot s t → AllEnd label_kinds s → FieldsStand s → FieldsStand t
 slot_fields flags allocated slot s t p ends f = record { ends = slot_fields_end flags allocated slot s t p f.ends; clear = slot_clear flags allocated slot s t p ends f }
@@ -182,10 +179,7 @@ even_after : (here : ℕ → Option ℕ) (at : ℕ) (slot : Slot) (slots : List 
 even_after here at (Op d) slots c = (c.0, (at + d.len, c.1))
 even_after here at (Aim kind target ops) slots c = (marks_even kind, (at + length (marks_of kind), c.1))
 even_after here at (Data bytes) slots c = (c.0, (at + length bytes, c.1))
-even_after here at (Fill symbol upper lower) slots c = (refl, (at + 8, c))
-even_after here at (Address name addend) slots c = (refl, (at + 8, c))
-even_after here at (CallTo name ops) slots c = (refl, (at + 8, c))
-even_after here at slot slots c = (refl, (at, c))
+even_after here at slot slots c = (refl, (_, c))
 
 puts_well : (flags : IsaFlags) (allocated : ℕ) (slots : List Slot) (here : ℕ → Option ℕ) (at : ℕ) (s t : Shape LabelUse) → AreClosed here at slots → length s.bytes % 2 ≡ 0 → Puts flags allocated slots s t → StandWell s → StandWell t
 puts_well flags allocated [] here at s t c even p w = subst StandWell (sym p) w

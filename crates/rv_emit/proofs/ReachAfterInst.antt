@@ -1,11 +1,14 @@
 -- How a sequence and an island keep Reach, and what is pending after them.
-use Rattle.rv_emit.proofs.Terms.{◌≡◌, ◌⊎◌, inl, inr, ℕ, zero, suc, ◌+◌, ◌*◌, ◌≤◌, Bool, true, false, cond, List, [], ◌∷◌, ◌++◌, length, Option, Some, None, refl, ap, sym, ◌∙◌, subst, arith, ⊎_elim, append_assoc, is_none, not, ◌&&◌, slice_get, ◌-◌, if◌then◌else◌, same_Some, length-append, append-nil}
-use Rattle.rv_emit.proofs.Terms.{TryCallInfo, MachLabel, IsaFlags, jump_kind, jump_size, Context, Inst, inst_rule, Fallthrough, LabelUse, Jal20, B12, PCRelHi20, PCRelLo12I, RVCJump, label_kinds, forward_of, has_veneer_of, targets_of, try_call_of, Targets, Nowhere, Jumps, Branches, Refers}
-use Rattle.rv_emit.proofs.Terms.{RefersConstant, constant_label, is_far, Kinds, code_limit, Use, CanReach, HasSlack, deadline, deadlines, is_pending, is_reached, is_needed, bytes_of, uses_of, place_of, deadlines_append, none_from, slack_use, slack_less, slack_not_needed, reach_from_slack, Buffer}
-use Rattle.rv_emit.proofs.Terms.{pending, IsFarUse, IsOwnUse, AppendsInst, IslandIfNeeded, CanEmit, words_in, line_space, inst_code, extent_of, island_space, inst_sum, sequence_limit, use_at, target_uses, uses_by, uses_in, uses_start, named_kept}
+use Rattle.rv_emit.proofs.Terms.{◌≡◌, ◌⊎◌, inl, inr, ℕ, suc, ◌+◌, ◌*◌, ◌≤◌, Bool, true, false, cond, List, [], ◌∷◌, ◌++◌, length, Option, Some, None, refl, ap, sym, ◌∙◌, subst, arith, ⊎_elim, append_assoc, is_none, not, ◌&&◌, ◌-◌, length-append, append-nil, TryCallInfo, MachLabel, IsaFlags}
+use Rattle.rv_emit.proofs.Terms.{jump_kind, jump_size, Context, Inst, inst_rule, Fallthrough, LabelUse, B12, PCRelHi20, PCRelLo12I, label_kinds, forward_of, has_veneer_of, targets_of, try_call_of, Targets, Nowhere, Jumps, Branches, Refers, RefersConstant, constant_label, is_far, Kinds, code_limit}
+use Rattle.rv_emit.proofs.Terms.{Use, CanReach, HasSlack, deadline, deadlines, is_pending, is_reached, is_needed, bytes_of, uses_of, place_of, deadlines_append, none_from, slack_use, slack_less, slack_not_needed, reach_from_slack, Buffer, pending, IsFarUse, IsOwnUse, AppendsInst, IslandIfNeeded}
+use Rattle.rv_emit.proofs.Terms.{CanEmit, words_in, line_space, inst_code, extent_of, island_space, inst_sum, sequence_limit, use_at, target_uses, uses_by, uses_in, uses_start, named_kept, least_few}
 use Rattle.rv_inst.specs.declared.inst.CondBrTarget.TheVariants.{Label}
 use Rattle.rv_emit.proofs.Islands.{deadlines_as}
-use Rattle.rv_emit.proofs.MostBytes.{words_within, most_in_sequence}
+use Rattle.rv_code.proofs.MadeOfPieces.{jump_reach}
+use Rattle.rv_emit.proofs.OwnPieces.{Each, each_none, each_more, jump_served}
+use Rattle.rv_emit.proofs.InstSlots.{words_within}
+use Rattle.rv_emit.proofs.MostBytes.{most_in_sequence}
 
 -- whether a use is pending
 abbrev pub pending_at : (ℕ → Option ℕ) → Use LabelUse → Bool
@@ -45,17 +48,6 @@ each_uses P context start end inst continued none jump one two address = by (try
 pub few_uses : (context : Context) (start end : ℕ) (inst : Inst) → length (uses_in context start end inst) ≤ 2
 few_uses context start end inst = each_uses (λ us. length us ≤ 2) context (first_use context inst start) end inst (λ label. omega arith) (omega arith) (λ label. omega arith) (λ t. omega arith) (λ t f. omega arith) (λ label. omega arith)
 
--- what holds of each element
-abbrev pub Each : {X : Type 0} → (X → Type 0) → List X → Type 0
-Each {X} P xs = (k : ℕ) (x : X) → slice_get xs k ≡ Some x → P x
-
-pub each_none : {X : Type 0} (P : X → Type 0) → Each P []
-each_none P k x h = absurd (cc)
-
-pub each_more : {X : Type 0} (P : X → Type 0) (x : X) (xs : List X) → P x → Each P xs → Each P (x ∷ xs)
-each_more P x xs p rest zero y h = subst P (same_Some _ _ h) p
-each_more P x xs p rest (suc k) y h = rest k y h
-
 -- what holds of each use that may stand in a sequence holds of those of an instruction
 pub each_use : (P : Use LabelUse → Type 0) (context : Context) (start end : ℕ) (inst : Inst) → ((label : MachLabel) → P (use_at (end - jump_size context.flags) label (jump_kind context.flags))) → ((label : MachLabel) → P (use_at start label (jump_kind context.flags))) → ((label : MachLabel) → P (use_at start label B12)) → ((label : MachLabel) → P (use_at (start + 4) label (jump_kind context.flags))) → ((label : MachLabel) → P (use_at start label PCRelHi20)) → ((label : MachLabel) → P (use_at (start + 4) label PCRelLo12I)) → Each P (uses_by context.flags start end (try_call_of inst) (targets_of inst))
 each_use P context start end inst continued jump branch second upper lower =
@@ -65,34 +57,19 @@ each_use P context start end inst continued jump branch second upper lower =
     (λ t f. each_more P _ (use_at (start + 4) f (jump_kind context.flags) ∷ []) (branch t) (each_more P _ [] (second f) (each_none P)))
     (λ label. each_more P _ (use_at (start + 4) label PCRelLo12I ∷ []) (upper label) (each_more P _ [] (lower label) (each_none P)))
 
--- how far a jump reaches at least, and that it may go by a veneer
+-- how far a jump reaches at least
 pub jump_far : (flags : IsaFlags) → 2046 ≤ forward_of (jump_kind flags)
-jump_far flags = by flags.has_zca
-  where
-    by : (c : Bool) → 2046 ≤ forward_of (if c then RVCJump else Jal20)
-    by true = omega arith
-    by false = omega arith
-
-jump_served : (flags : IsaFlags) → has_veneer_of (jump_kind flags) ≡ true
-jump_served flags = by flags.has_zca
-  where
-    by : (c : Bool) → has_veneer_of (if c then RVCJump else Jal20) ≡ true
-    by true = refl
-    by false = refl
-
-pub jump_few : (flags : IsaFlags) → jump_size flags ≤ 4
-jump_few flags = by flags.has_zca
-  where
-    by : (c : Bool) → (if c then 2 else 4) ≤ 4
-    by true = omega arith
-    by false = omega arith
+jump_far flags = (jump_reach flags).0
 
 -- each reaches over 1900 bytes after the instruction
 pub uses_far : (context : Context) (start end : ℕ) (inst : Inst) → end ≤ start + sequence_limit → Each (λ u. end + 1900 ≤ deadline label_kinds u) (uses_in context start end inst)
 uses_far context start end inst le = from (first_use context inst start) (uses_late context inst start)
   where
     from : (begin : ℕ) → start ≤ begin → Each (λ u. end + 1900 ≤ deadline label_kinds u) (uses_by context.flags begin end (try_call_of inst) (targets_of inst))
-    from begin late = let far = jump_far context.flags in let few = jump_few context.flags in each_use (λ u. end + 1900 ≤ deadline label_kinds u) context begin end inst (λ label. omega arith) (λ label. omega arith) (λ label. omega arith) (λ label. omega arith) (λ label. omega arith) (λ label. omega arith)
+    from begin late =
+        let far = jump_far context.flags in
+        let few = least_few context.flags in
+        each_use (λ u. end + 1900 ≤ deadline label_kinds u) context begin end inst (λ label. omega arith) (λ label. omega arith) (λ label. omega arith) (λ label. omega arith) (λ label. omega arith) (λ label. omega arith)
 
 -- a use may go by a veneer, or reaches all code
 abbrev pub IsServed : Use LabelUse → Type 0

@@ -1,7 +1,5 @@
 -- What is put is what an instruction emits, also with the map that is given to it.
-use Rattle.rv_emit.proofs.Terms.{◌≡◌, Result, sym, subst, OnOk, Option, refl, ap, ◌∙◌, on_ok_weaker, Inst, UserStackMap, Context, family_of, island_space, Family, Pseudo, Integer, Control, Loop, Symbols, Calls, Float, Call, CallInd, EmitVState, EmitsIn, Emits, EmitsGiven, Buffer, CanEmit, IsBounded}
-use Rattle.rv_emit.proofs.Terms.{with_map, map_given}
-use Rattle.rv_inst.specs.declared.inst.Family.TheVariants.{Memory}
+use Rattle.rv_emit.proofs.Terms.{◌≡◌, Result, sym, subst, OnOk, Option, refl, ap, ◌∙◌, on_ok_weaker, Inst, UserStackMap, Context, family_of, island_space, Family, Calls, Call, CallInd, EmitVState, EmitsIn, Emits, EmitsGiven, Buffer, CanEmit, IsBounded, with_map, map_given}
 
 -- ---- what a call puts
 
@@ -13,14 +11,8 @@ put_as r X is f p = subst (λ i. OnOk r (X i)) (sym is) (on_ok_weaker r f p)
 
 -- one of another family takes none
 abbrev pub IsOther : Family → Type 0
-IsOther Pseudo = Unit {0}
-IsOther Integer = Unit {0}
-IsOther Memory = Unit {0}
-IsOther Control = Unit {0}
-IsOther Loop = Unit {0}
-IsOther Symbols = Unit {0}
 IsOther Calls = ⊥
-IsOther Float = Unit {0}
+IsOther _ = Unit {0}
 
 pub other_given : (map : Option UserStackMap) (inst : Inst) → IsOther (family_of inst) → with_map map inst ≡ inst
 other_given map (Call info) other = absurd other

@@ -1,10 +1,10 @@
 -- What was put into a buffer, whatever followed, stands in the finished code.
 use Rattle.rv_emit.proofs.Terms.{◌≡◌, ◌⊎◌, ℕ, ◌+◌, ◌%◌, ◌≤◌, Bool, true, false, ⊎_elim, List, [], ◌∷◌, ◌++◌, length, Option, Some, None, ℤ, pos, ◌-ℤ◌, refl, ap, sym, ◌∙◌, subst, arith, slice_get, ◌&&◌, true≢false, le-leb, same_Some, MachLabel, to_le_bytes, w64, length-append, SameOutside}
 use Rattle.rv_emit.proofs.Terms.{ExternalName, Decoded, LabelUse, PCRel32, PCRelHi20, PCRelLo12I, label_kinds, Aims, marks_of, has_veneer_of, veneer_of, forward_of, backward_of, use_at, Use, Shape, with_bytes, with_record, veneer_use, Event, MachRecord, AllEnd, window, is_reached, Lasts}
-use Rattle.rv_emit.proofs.Terms.{RecordsLast, ByVeneer, UseFinished, lasts_more, lasts_bytes, lasts_record, piece_finished, use_finished, slice_get-append, slice_get-append_last, wide_jump_to, access_slots, Symbol, AddressOf, Target, Label, Own, Slot, Op, Aim, Data, Notes, Names, Allocate, Here}
-use Rattle.rv_emit.proofs.Terms.{Fill, Address, CallTo, upper_event, lower_event, address_event, call_event, Part, Ask, Slots, slot_size, size_of, own_label, label_of, between, here_at, IsClosed, AreClosed, AreSelfContained, PartsAreSelfContained, Site, BytesAt, IsPlacedAt, CodeHas, LeadsOn, Leads}
-use Rattle.rv_emit.proofs.Terms.{Reaches, AimsFrom, symbol_address, FillsFrom, LinksFrom, StandsIn, GapIn, PartsStand, Memory, fetch, TrapCode, IsOwnForm, low_funct3, AllClear, FieldsEnd, FieldsStand, KeepsOutside, IsFilled, Encodes, eight_zeros, PutsSlot, Puts, SlotsIn, IslandIn, GapStandsIn}
-use Rattle.rv_emit.proofs.Terms.{PartsIn, IsFinishedTo, slot_bytes, slot_ends, lasts_after_slots, puts_bytes, puts_uses, leads_here, leads_both, jump_leads, closed_even}
+use Rattle.rv_emit.proofs.Terms.{RecordsLast, ByVeneer, UseFinished, lasts_more, lasts_bytes, lasts_record, piece_finished, use_finished, slice_get-append, slice_get-append_last, wide_jump_to, access_slots, Symbol, AddressOf, Target, Label, Own, Slot, Op, Aim, Data, Notes, Here, Fill, Address}
+use Rattle.rv_emit.proofs.Terms.{CallTo, upper_event, lower_event, address_event, call_event, Part, Ask, Slots, slot_size, size_of, own_label, label_of, between, here_at, IsClosed, AreClosed, AreSelfContained, PartsAreSelfContained, Site, BytesAt, IsPlacedAt, CodeHas, LeadsOn, Leads, Reaches}
+use Rattle.rv_emit.proofs.Terms.{AimsFrom, symbol_address, FillsFrom, LinksFrom, StandsIn, GapIn, PartsStand, Memory, fetch, TrapCode, IsOwnForm, low_funct3, AllClear, FieldsEnd, FieldsStand, KeepsOutside, IsFilled, Encodes, eight_zeros, PutsSlot, Puts, SlotsIn, IslandIn, GapStandsIn, PartsIn}
+use Rattle.rv_emit.proofs.Terms.{IsFinishedTo, slot_bytes, slot_ends, lasts_after_slots, puts_bytes, puts_uses, leads_here, leads_both, jump_leads, closed_even}
 use Rattle.mach_buffer.proofs.Laws.{recorded_at as use_recorded_at}
 use Rattle.rv_code.specs.Slots.{uses_of}
 use Rattle.mach_records.specs.declared.records.Event.TheVariants as event
@@ -221,62 +221,49 @@ module _ (site : Site) (f : Shape LabelUse) (final : List ℕ) (fin : IsFinished
   stands : FieldsStand f → IsFilled site final → (allocated from : ℕ) (here : ℕ → Option ℕ) (new : Shape LabelUse) → ArePut f allocated from here new → (at : ℕ) (slots : List Slot) (s : Shape LabelUse) → Puts site.context.flags allocated slots s new → AreClosed here at slots → length s.bytes ≡ from + at → AllEnd label_kinds s → FieldsEnd s → StandsIn site allocated (length s.bytes) slots
   stands fields filled allocated from here new put at [] s p closed e ends kept = tt
   stands fields filled allocated from here new put at (Op d ∷ slots) s p closed e ends kept =
-      let a = after_slot allocated (Op d) slots s p.0 new put.lasts p.1 p.2 in
-      let long = a.long in (
+      let a = after_slot allocated (Op d) slots s p.0 new put.lasts p.1 p.2 in (
         code_has (length s.bytes) d.len (d ∷ []) a.room
             (subst (λ w. Encodes site.context.flags w (d ∷ [])) (sym (piece_there s p.0 p.1.0 p.1.3 ends kept a.lasts) ∙ ap (window site.bytes (length s.bytes)) p.1.1) p.1.2),
-        subst (λ n. StandsIn site allocated n slots) long (stands fields filled allocated from here new put (at + d.len) slots p.0 p.2 closed.1 (omega arith) (a.ends ends) (a.fields kept)),
+        subst (λ n. StandsIn site allocated n slots) a.long (stands fields filled allocated from here new put (at + d.len) slots p.0 p.2 closed.1 (omega arith) (a.ends ends) (a.fields kept)),
       )
   stands fields filled allocated from here new put at (Aim kind target ops ∷ slots) s p closed e ends kept =
-      let a = after_slot allocated (Aim kind target ops) slots s p.0 new put.lasts p.1 p.2 in
-      let long = a.long in (
+      let a = after_slot allocated (Aim kind target ops) slots s p.0 new put.lasts p.1 p.2 in (
         aim_stands fields allocated from here new put at kind target ops slots s p.0 p.1 p.2 a e closed.0 kept,
-        subst (λ n. StandsIn site allocated n slots) long (stands fields filled allocated from here new put (at + length (marks_of kind)) slots p.0 p.2 closed.1 (omega arith) (a.ends ends) (a.fields kept)),
+        subst (λ n. StandsIn site allocated n slots) a.long (stands fields filled allocated from here new put (at + length (marks_of kind)) slots p.0 p.2 closed.1 (omega arith) (a.ends ends) (a.fields kept)),
       )
   stands fields filled allocated from here new put at (Data bytes ∷ slots) s p closed e ends kept =
-      let a = after_slot allocated (Data bytes) slots s p.0 new put.lasts p.1 p.2 in
-      let long = a.long in (
+      let a = after_slot allocated (Data bytes) slots s p.0 new put.lasts p.1 p.2 in (
         λ mem placed. subst (BytesAt mem (site.base + length s.bytes)) (piece_there s p.0 bytes p.1 ends kept a.lasts) (window_there mem site.base site.bytes (length s.bytes) (length bytes) a.room placed.bytes),
-        subst (λ n. StandsIn site allocated n slots) long (stands fields filled allocated from here new put (at + length bytes) slots p.0 p.2 closed.1 (omega arith) (a.ends ends) (a.fields kept)),
+        subst (λ n. StandsIn site allocated n slots) a.long (stands fields filled allocated from here new put (at + length bytes) slots p.0 p.2 closed.1 (omega arith) (a.ends ends) (a.fields kept)),
       )
   stands fields filled allocated from here new put at (Notes noted ∷ slots) s p closed e ends kept =
-      let a = after_slot allocated (Notes noted) slots s p.0 new put.lasts p.1 p.2 in
-      let long = a.long in (
+      let a = after_slot allocated (Notes noted) slots s p.0 new put.lasts p.1 p.2 in (
         record { index = length s.records; there = recorded_at s p.0 noted p.1.1 a.lasts.records },
-        subst (λ n. StandsIn site allocated n slots) (long ∙ omega arith) (stands fields filled allocated from here new put at slots p.0 p.2 closed (omega arith) (a.ends ends) (a.fields kept)),
+        subst (λ n. StandsIn site allocated n slots) (a.long ∙ omega arith) (stands fields filled allocated from here new put at slots p.0 p.2 closed (omega arith) (a.ends ends) (a.fields kept)),
       )
-  stands fields filled allocated from here new put at (Names k ∷ slots) s p closed e ends kept =
-      let a = after_slot allocated (Names k) slots s p.0 new put.lasts p.1 p.2 in
-      let long = a.long in
-      subst (λ n. StandsIn site allocated n slots) (long ∙ omega arith) (stands fields filled allocated from here new put at slots p.0 p.2 closed (omega arith) (a.ends ends) (a.fields kept))
-  stands fields filled allocated from here new put at (Allocate ∷ slots) s p closed e ends kept =
-      let a = after_slot allocated Allocate slots s p.0 new put.lasts p.1 p.2 in
-      let long = a.long in
-      subst (λ n. StandsIn site allocated n slots) (long ∙ omega arith) (stands fields filled allocated from here new put at slots p.0 p.2 closed (omega arith) (a.ends ends) (a.fields kept))
   stands fields filled allocated from here new put at (Here k ∷ slots) s p closed e ends kept =
-      let a = after_slot allocated (Here k) slots s p.0 new put.lasts p.1 p.2 in
-      let long = a.long in (
+      let a = after_slot allocated (Here k) slots s p.0 new put.lasts p.1 p.2 in (
         placed_at new (own_label allocated k).number (length s.bytes) put.lasts (bound_here site.context.flags allocated k slots s p.0 new p.1 p.2),
-        subst (λ n. StandsIn site allocated n slots) (long ∙ omega arith) (stands fields filled allocated from here new put at slots p.0 p.2 closed (omega arith) (a.ends ends) (a.fields kept)),
+        subst (λ n. StandsIn site allocated n slots) (a.long ∙ omega arith) (stands fields filled allocated from here new put at slots p.0 p.2 closed (omega arith) (a.ends ends) (a.fields kept)),
       )
   stands fields filled allocated from here new put at (Fill symbol upper lower ∷ slots) s p closed e ends kept =
-      let a = after_slot allocated (Fill symbol upper lower) slots s p.0 new put.lasts p.1 p.2 in
-      let long = a.long in (
+      let a = after_slot allocated (Fill symbol upper lower) slots s p.0 new put.lasts p.1 p.2 in (
         fill_stands filled allocated symbol upper lower s p.0 p.1 ends a.lasts a.room,
-        subst (λ n. StandsIn site allocated n slots) long (stands fields filled allocated from here new put (at + 8) slots p.0 p.2 closed (omega arith) (a.ends ends) (a.fields kept)),
+        subst (λ n. StandsIn site allocated n slots) a.long (stands fields filled allocated from here new put (at + 8) slots p.0 p.2 closed (omega arith) (a.ends ends) (a.fields kept)),
       )
   stands fields filled allocated from here new put at (Address name addend ∷ slots) s p closed e ends kept =
-      let a = after_slot allocated (Address name addend) slots s p.0 new put.lasts p.1 p.2 in
-      let long = a.long in (
+      let a = after_slot allocated (Address name addend) slots s p.0 new put.lasts p.1 p.2 in (
         address_stands filled allocated name addend s p.0 p.1 a.lasts a.room,
-        subst (λ n. StandsIn site allocated n slots) long (stands fields filled allocated from here new put (at + 8) slots p.0 p.2 closed (omega arith) (a.ends ends) (a.fields kept)),
+        subst (λ n. StandsIn site allocated n slots) a.long (stands fields filled allocated from here new put (at + 8) slots p.0 p.2 closed (omega arith) (a.ends ends) (a.fields kept)),
       )
   stands fields filled allocated from here new put at (CallTo name ops ∷ slots) s p closed e ends kept =
-      let a = after_slot allocated (CallTo name ops) slots s p.0 new put.lasts p.1 p.2 in
-      let long = a.long in (
+      let a = after_slot allocated (CallTo name ops) slots s p.0 new put.lasts p.1 p.2 in (
         call_stands filled allocated name ops s p.0 p.1 ends a.lasts a.room,
-        subst (λ n. StandsIn site allocated n slots) long (stands fields filled allocated from here new put (at + 8) slots p.0 p.2 closed (omega arith) (a.ends ends) (a.fields kept)),
+        subst (λ n. StandsIn site allocated n slots) a.long (stands fields filled allocated from here new put (at + 8) slots p.0 p.2 closed (omega arith) (a.ends ends) (a.fields kept)),
       )
+  stands fields filled allocated from here new put at (slot ∷ slots) s p closed e ends kept =
+      let a = after_slot allocated slot slots s p.0 new put.lasts p.1 p.2 in
+      subst (λ n. StandsIn site allocated n slots) (a.long ∙ omega arith) (stands fields filled allocated from here new put at slots p.0 p.2 closed (omega arith) (a.ends ends) (a.fields kept))
 
   -- slots that were put between two offsets
   pub slots_stand : FieldsStand f → IsFilled site final → (slots : List Slot) (start end : ℕ) → AreSelfContained slots → (q : SlotsIn site.context.flags slots f start end) → StandsIn site q.old.allocated start slots × (end ≡ start + size_of slots)
@@ -284,7 +271,7 @@ module _ (site : Site) (f : Shape LabelUse) (final : List ℕ) (fin : IsFinished
       let long = puts_bytes site.context.flags q.old.allocated slots q.old q.new q.puts in
       let starts = q.starts in
       let ends = q.ends in
-      let put : ArePut f q.old.allocated (length q.old.bytes) (λ k. here_at k 0 slots) q.new = record { own = own_bound site.context.flags q.old.allocated (length q.old.bytes) 0 slots q.old q.new q.puts (omega arith); lasts = q.lasts } in (
+      let put : ArePut f q.old.allocated (length q.old.bytes) (λ k. here_at k 0 slots) q.new = record { own = own_bound site.context.flags q.old.allocated (length q.old.bytes) slots 0 q.old q.new q.puts (omega arith); lasts = q.lasts } in (
         subst (λ n. StandsIn site q.old.allocated n slots) (sym starts) (stands fields filled q.old.allocated (length q.old.bytes) (λ k. here_at k 0 slots) q.new put 0 slots q.old q.puts closed (omega arith) q.windows.inside q.fields),
         omega arith,
       )

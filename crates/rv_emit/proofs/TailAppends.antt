@@ -1,13 +1,14 @@
 -- What a branch by a table and tail calls add to a buffer, and so each instruction; and that Reach holds after each that asks for an island.
 use Rattle.rv_emit.proofs.Terms.{◌≡◌, ℕ, suc, ◌+◌, ◌^◌, ◌≤◌, inl, Bool, true, false, List, [], ◌∷◌, ◌++◌, map, length, Some, None, refl, ap, sym, ◌∙◌, subst, append-nil, arith, ◌-◌, slice_get, ◌==◌, ◌&&◌, if◌then◌else◌, ℤ, pos, is_some, to_le_bytes, w64, VCodeConstant, IsaFlags, MachLabel, Reg}
-use Rattle.rv_emit.proofs.Terms.{Writable, number_of, low64, Addi, Ld, is_splittable, Context, inst_rule, short_lui, short_rri, short_jalr, Inst, BrTable, EmitIsland, Call, CallInd, ReturnCall, ReturnCallInd, LabelUse, PCRel32, marks_of, table_space, table_size, island_space, return_size, use_at}
-use Rattle.rv_emit.proofs.Terms.{Shape, CanReach, shape_of, bytes_of, allocated_of, named_of, EmitVState, PutsSlots, PutsParts, EmitsIn, Buffer, pending, IsFarUse, AppendsInst, IslandIfNeeded, IsSoundBuffer, CanEmit, Appends, upper_of, lower_of, inline_slots, number_slots, table_slots, parts_of}
-use Rattle.rv_emit.proofs.Terms.{tail_slots, t0_slots, Target, Label, Own, Ask, Slots, Slot, Op, Aim, Data, size_of, parts_size, names_of, GapStandsIn, PartsIn, far_jump, jump_slots, fine, IsPlain, IsAdded, Adds, plain_adds, added, lasts_after_slots, puts_bytes, puts_named, puts_constants, no_own}
-use Rattle.rv_emit.proofs.Terms.{table_long, table_short, ReturnCallInfo, ExternalName, jalr_sized, call_records, tail_contents, t0_contents, loads_unless, result_loads, unless_short, results_short}
+use Rattle.rv_emit.proofs.Terms.{Writable, number_of, low64, Addi, Ld, is_splittable, Context, inst_rule, short_lui, short_rri, short_jalr, Inst, BrTable, EmitIsland, Call, CallInd, ReturnCall, ReturnCallInd, LabelUse, PCRel32, table_space, table_size, island_space, return_size, use_at, Shape}
+use Rattle.rv_emit.proofs.Terms.{CanReach, shape_of, bytes_of, allocated_of, named_of, EmitVState, PutsSlots, PutsParts, EmitsIn, Buffer, pending, IsFarUse, AppendsInst, IslandIfNeeded, IsSoundBuffer, CanEmit, Appends, upper_of, lower_of, inline_slots, number_slots, table_slots, parts_of}
+use Rattle.rv_emit.proofs.Terms.{tail_slots, t0_slots, Target, Label, Own, Ask, Slots, Slot, Op, Aim, Data, size_of, parts_size, names_of, GapStandsIn, PartsIn, far_jump, jump_slots, fine, IsPlain, IsAdded, plain_adds, added, lasts_after_slots, puts_bytes, puts_named, puts_constants, no_own}
+use Rattle.rv_emit.proofs.Terms.{table_long, table_short, ReturnCallInfo, ExternalName, jalr_sized, call_records, tail_contents, t0_contents, unless_short, results_short}
 use Rattle.rv_code.specs.Slots.{uses_of, records_of}
-use Rattle.rv_emit.proofs.ReachAfterInst.{Each, each_none, each_more, bytes_put, pending_adds, calm_after, reach_within, reach_calm, reach_after_island}
+use Rattle.rv_emit.proofs.OwnPieces.{Each, each_none, each_more}
+use Rattle.rv_emit.proofs.ReachAfterInst.{bytes_put, pending_adds, calm_after, reach_within, reach_calm, reach_after_island}
 use Rattle.rv_emit.proofs.CallAppends.{reach_loading}
-use Rattle.rv_emit.proofs.CallSlots.{call_appends, call_ind_appends}
+use Rattle.rv_emit.proofs.CallSlots.{call_is, call_ind_is, call_adds}
 use Rattle.rv_emit.proofs.InstSlots.{appends_inst}
 
 -- A branch by a table: an island where one is needed, and then its words, whose uses reach everywhere.
@@ -37,37 +38,25 @@ far_both labels (Aim kind target ops ∷ slots) more a b = (a.0, far_both labels
 far_both labels (Data bytes ∷ slots) more a b = far_both labels slots more a b
 far_both labels (first ∷ slots) more a b = absurd a
 
-far_plain : (labels : List MachLabel) (slots : List Slot) → AreFar labels slots → IsPlain slots
-far_plain labels [] a = tt
-far_plain labels (Op d ∷ slots) a = far_plain labels slots a
-far_plain labels (Aim kind target ops ∷ slots) a = far_plain labels slots a.1
-far_plain labels (Data bytes ∷ slots) a = far_plain labels slots a
-far_plain labels (first ∷ slots) a = absurd a
-
 far_use : (labels : List MachLabel) (allocated at : ℕ) (label : MachLabel) (kind : LabelUse) → kind ≡ PCRel32 → IsIn labels label → IsFarUse labels (use_at at label kind)
 far_use labels allocated at label kind is i = subst (λ k. IsFarUse labels (use_at at label k)) (sym is) (record { far = refl; direct = refl; bare = refl; index = i.index; names = i.there })
 
-far_uses : (labels : List MachLabel) (allocated at : ℕ) (slots : List Slot) → AreFar labels slots → Each (IsFarUse labels) (uses_of allocated at slots)
-far_uses labels allocated at [] a = each_none _
-far_uses labels allocated at (Op d ∷ slots) a = far_uses labels allocated (at + d.len) slots a
-far_uses labels allocated at (Aim kind (Label label) ops ∷ slots) a = each_more (IsFarUse labels) _ (uses_of allocated (at + length (marks_of kind)) slots) (far_use labels allocated at label kind a.0.0 a.0.1) (far_uses labels allocated (at + length (marks_of kind)) slots a.1)
-far_uses labels allocated at (Aim kind (Own k) ops ∷ slots) a = absurd a.0
-far_uses labels allocated at (Data bytes ∷ slots) a = far_uses labels allocated (at + length bytes) slots a
-far_uses labels allocated at (first ∷ slots) a = absurd a
+-- what they add
+record AddFar (labels : List MachLabel) (slots : List Slot) : Type 0 where
+  plain : IsPlain slots
+  uses : (allocated at : ℕ) → Each (IsFarUse labels) (uses_of allocated at slots)
+  records : (at : ℕ) → records_of at slots ≡ []
+  names : (named : List VCodeConstant) → names_of slots named ≡ named
 
-far_records : (labels : List MachLabel) (at : ℕ) (slots : List Slot) → AreFar labels slots → records_of at slots ≡ []
-far_records labels at [] a = refl
-far_records labels at (Op d ∷ slots) a = far_records labels (at + d.len) slots a
-far_records labels at (Aim kind target ops ∷ slots) a = far_records labels (at + length (marks_of kind)) slots a.1
-far_records labels at (Data bytes ∷ slots) a = far_records labels (at + length bytes) slots a
-far_records labels at (first ∷ slots) a = absurd a
-
-far_names : (labels : List MachLabel) (named : List VCodeConstant) (slots : List Slot) → AreFar labels slots → names_of slots named ≡ named
-far_names labels named [] a = refl
-far_names labels named (Op d ∷ slots) a = far_names labels named slots a
-far_names labels named (Aim kind target ops ∷ slots) a = far_names labels named slots a.1
-far_names labels named (Data bytes ∷ slots) a = far_names labels named slots a
-far_names labels named (first ∷ slots) a = absurd a
+add_far : (labels : List MachLabel) (slots : List Slot) → AreFar labels slots → AddFar labels slots
+add_far labels [] a = record { plain = tt; uses = λ allocated at. each_none _; records = λ at. refl; names = λ named. refl }
+add_far labels (Op d ∷ slots) a = let r = add_far labels slots a in record { plain = r.plain; uses = λ allocated at. r.uses allocated _; records = λ at. r.records _; names = r.names }
+add_far labels (Aim kind (Label label) ops ∷ slots) a =
+    let r = add_far labels slots a.1 in
+    record { plain = r.plain; uses = λ allocated at. each_more (IsFarUse labels) _ _ (far_use labels allocated at label kind a.0.0 a.0.1) (r.uses allocated _); records = λ at. r.records _; names = r.names }
+add_far labels (Aim kind (Own k) ops ∷ slots) a = absurd a.0
+add_far labels (Data bytes ∷ slots) a = let r = add_far labels slots a in record { plain = r.plain; uses = λ allocated at. r.uses allocated _; records = λ at. r.records _; names = r.names }
+add_far labels (first ∷ slots) a = absurd a
 
 -- ---- those of a table
 
@@ -103,45 +92,33 @@ pub record AppendsAfter (context : Context) (inst : Inst) (space : ℕ) (old new
   pub words : AppendsInst context inst mid new
 
 appends_words : (context : Context) (index : Reg) (tmp1 tmp2 : Writable Reg) (targets : List MachLabel) (old new : Buffer) → 1 ≤ length targets → PutsSlots context.flags (table_slots context.flags (number_of index) (number_of tmp1.reg) (number_of tmp2.reg) targets) old new → AppendsInst context (BrTable index tmp1 tmp2 targets) old new
-appends_words context index tmp1 tmp2 targets old new some p = record {
-  code = a.code;
-  own = 0;
-  few = omega arith;
-  alone = λ asks. refl;
-  direct = uses_of allocated start slots;
-  adds = no_own a.code _ old new (record {
-    bytes = a.bytes;
-    uses = a.uses;
-    places = a.place;
-    labels = a.labels;
-    allocated = a.allocated;
-    registered = (lasts_after_slots flags allocated slots (shape_of old) (shape_of new) p.puts).registered;
-    constants = puts_constants flags allocated slots (shape_of old) (shape_of new) p.puts;
-    sound = p.sound;
-  });
-  each = λ j u h. inl (far_uses targets allocated start slots far j u h);
-  records = a.records ∙ ap (λ more. (shape_of old).records ++ more) (far_records targets start slots far);
-  named = puts_named flags allocated slots (shape_of old) (shape_of new) p.puts ∙ far_names targets (named_of old) slots far;
-  long = sym (table_long flags (number_of index) (number_of tmp1.reg) (number_of tmp2.reg) targets some) ∙ sym a.long;
-}
-  where
-    flags : IsaFlags
-    flags = context.flags
-
-    allocated : ℕ
-    allocated = allocated_of old
-
-    start : ℕ
-    start = length (bytes_of old)
-
-    slots : List Slot
-    slots = table_slots flags (number_of index) (number_of tmp1.reg) (number_of tmp2.reg) targets
-
-    far : AreFar targets slots
-    far = table_far flags (number_of index) (number_of tmp1.reg) (number_of tmp2.reg) targets
-
-    a : Adds (size_of slots) (uses_of allocated start slots) (records_of start slots) (shape_of old) (shape_of new)
-    a = plain_adds flags allocated slots (shape_of old) (shape_of new) (far_plain targets slots far) p.puts
+appends_words context index tmp1 tmp2 targets old new some p =
+    let flags = context.flags in
+    let start = length (bytes_of old) in
+    let slots = table_slots flags (number_of index) (number_of tmp1.reg) (number_of tmp2.reg) targets in
+    let far = add_far targets slots (table_far flags (number_of index) (number_of tmp1.reg) (number_of tmp2.reg) targets) in
+    let a = plain_adds flags (allocated_of old) slots (shape_of old) (shape_of new) far.plain p.puts in
+    record {
+      code = a.code;
+      own = 0;
+      few = omega arith;
+      alone = λ asks. refl;
+      direct = uses_of (allocated_of old) start slots;
+      adds = no_own a.code _ old new (record {
+        bytes = a.bytes;
+        uses = a.uses;
+        places = a.place;
+        labels = a.labels;
+        allocated = a.allocated;
+        registered = (lasts_after_slots flags (allocated_of old) slots (shape_of old) (shape_of new) p.puts).registered;
+        constants = puts_constants flags (allocated_of old) slots (shape_of old) (shape_of new) p.puts;
+        sound = p.sound;
+      });
+      each = λ j u h. inl (far.uses (allocated_of old) start j u h);
+      records = a.records ∙ ap (λ more. (shape_of old).records ++ more) (far.records start);
+      named = puts_named flags (allocated_of old) slots (shape_of old) (shape_of new) p.puts ∙ far.names (named_of old);
+      long = sym (table_long flags (number_of index) (number_of tmp1.reg) (number_of tmp2.reg) targets some) ∙ sym a.long;
+    }
 
 pub appends_table : (context : Context) (setting : EmitVState) (index : Reg) (tmp1 tmp2 : Writable Reg) (targets : List MachLabel) (old new : Buffer) → 1 ≤ length targets → EmitsIn context setting (BrTable index tmp1 tmp2 targets) old new → AppendsAfter context (BrTable index tmp1 tmp2 targets) (table_space (length targets)) old new
 appends_table context setting index tmp1 tmp2 targets old new some (mid, made, room, (last, p, same)) = record {
@@ -205,8 +182,8 @@ appends context setting (EmitIsland space) old new rule sound (mid, made, room, 
 appends context setting (BrTable index tmp1 tmp2 targets) old new rule sound e =
     let a = appends_table context setting index tmp1 tmp2 targets old new (table_some context index tmp1 tmp2 targets rule) e in
     (a.mid, a.made, a.room, a.words)
-appends context setting (Call info) old new rule sound e = call_appends context info old new e
-appends context setting (CallInd info) old new rule sound e = call_ind_appends context info old new e
+appends context setting (Call info) old new rule sound e = call_adds _ old new (call_is context info) e
+appends context setting (CallInd info) old new rule sound e = call_adds _ old new (call_ind_is context info) e
 appends context setting (ReturnCall info) old new rule sound e = let a = appends_tail context setting info old new e in (a.mid, a.made, a.room, a.words)
 appends context setting (ReturnCallInd info) old new rule sound e = let a = appends_t0 context setting info old new e in (a.mid, a.made, a.room, a.words)
 appends context setting inst old new rule sound e = appends_inst context setting inst old new rule sound refl e
@@ -232,11 +209,9 @@ reach_asking context setting (BrTable index tmp1 tmp2 targets) old new can asks 
     let room = can.room in
     reach_table context index tmp1 tmp2 targets old new some (omega arith) (appends_table context setting index tmp1 tmp2 targets old new some e)
 reach_asking context setting (Call info) old new can asks e =
-    reach_loading context (Call info) 8 info.callee_pop_size (loads_unless info.patchable info.defs) info.try_call_info old new
-    (unless_short context.flags info.patchable info.defs (fine context (Call info) can.rule).1) asks (λ start end. refl) (call_appends context info old new e)
+    reach_loading _ old new (call_is context info) (unless_short context.flags info.patchable info.defs (fine context (Call info) can.rule).1) asks (call_adds _ old new (call_is context info) e)
 reach_asking context setting (CallInd info) old new can asks e =
-    reach_loading context (CallInd info) (short_jalr context.flags 1 (number_of info.dest) (pos 0)).len info.callee_pop_size (result_loads info.defs) info.try_call_info old new
-    (results_short context.flags info.defs (fine context (CallInd info) can.rule).2) asks (λ start end. refl) (call_ind_appends context info old new e)
+    reach_loading _ old new (call_ind_is context info) (results_short context.flags info.defs (fine context (CallInd info) can.rule).2) asks (call_adds _ old new (call_ind_is context info) e)
 reach_asking context setting (ReturnCall info) old new can asks e = reach_tail context info _ old new (omega arith) (appends_tail context setting info old new e)
 reach_asking context setting (ReturnCallInd info) old new can asks e = reach_t0 context info _ old new (omega arith) (appends_t0 context setting info old new e)
 reach_asking context setting _ old new can asks e = absurd (cc)

@@ -1,11 +1,11 @@
 -- Calls, from where they are made and from where they return, and tail calls.
-use Rattle.std.proofs.Common.{◌≡◌, ℕ, ◌+◌, ◌*◌, ◌/◌, ◌^◌, ◌<◌, Bool, true, false, ℤ, pos, ◌-ℤ◌, List, [], ◌∷◌, ◌++◌, Some, arith, refl, sym, ap, subst, ◌∙◌, lit<, lit≤, if◌then◌else◌, ◌==◌, ◌||◌, zero, suc, ◌-◌, ◌%◌, ◌≤◌, length, Option, None}
-use Rattle.rv_runs.proofs.Words.{AddressOf, AreLoadable, AreOthers, Ask, Base, Call, CallInd, ComesOut, EmitVState, Enters, ExternalName, FrameLayout, GapIn, InCourse, Inst, Int, IsAs, IsAt, IsBeside, IsPlacedAt, IsRestorable, IsState, IsaFlags, Keeps, Ld, Leave, LinksFrom, Notes, Op, Part}
-use Rattle.rv_runs.proofs.Words.{PartsStand, Reg, RegClass, Resumes, ResumesIn, Return, ReturnCall, ReturnCallInd, Site, Slot, Slots, StackLoad, StandsIn, State, TailCall, TryCallInfo, UserStackMap, Values, Vector, Writable, address_sums, after_call, are_values_set, at, back_number, call_ind_kept}
-use Rattle.rv_runs.proofs.Words.{call_ind_slots, call_kept, call_parts, call_size, call_slots, call_to, code_after, comes_goes, comes_on, course_before, decoded, decoded_jalr, environment, fall, fallen, frame_above, frame_left, goes_first, goes_none, goes_second, inst_rule, integers_loadable}
-use Rattle.rv_runs.proofs.Words.{integers_other, is_bad_frame_for, is_float_class, is_float_load, is_restorable, jalr_acts, jalr_sized, keeps, led_on, list_any, loaded_other, loads_come, loads_float, loads_unless, low64, not_true, number_of, or_parts, patch_notes, plus_none, reads_back, reads_other}
-use Rattle.rv_runs.proofs.Words.{reg, restores_float, result_loads, resumed, return_notes, return_of, return_slots, same_Some, saved_load, saves_from, set_at, set_reg, set_twice, setup_loads, short_jalr, size_append, size_of, small_number, spare_set, stack_apart, stack_load_slots, stack_loaded}
-use Rattle.rv_runs.proofs.Words.{stack_step_slots, stands_split, step_at, step_comes, symbol_address, symbol_at, t0_other, tail_call_of, try_exit, try_slots, unless_loadable, upper_of, window_some, wrap}
+use Rattle.std.proofs.Common.{rules, not, ◌≡◌, ℕ, ◌+◌, ◌*◌, ◌/◌, ◌^◌, ◌<◌, Bool, true, false, ℤ, pos, ◌-ℤ◌, List, [], ◌∷◌, ◌++◌, Some, arith, refl, sym, ap, subst, ◌∙◌, lit<, if◌then◌else◌, ◌==◌, ◌||◌, zero, suc, ◌-◌, ◌%◌, ◌≤◌, length, Option, None}
+use Rattle.rv_runs.proofs.Words.{AreStackLoads, parts_of, try_call_of, AddressOf, AreLoadable, AreOthers, Ask, Base, Call, CallInd, ComesOut, EmitVState, Enters, ExternalName, FrameLayout, GapIn, InCourse, Inst, Int, IsAs, IsAt, IsBeside, IsPlacedAt, IsRestorable, IsState, IsaFlags, Keeps, Ld}
+use Rattle.rv_runs.proofs.Words.{Leave, LinksFrom, Notes, Op, Part, PartsStand, Reg, RegClass, Resumes, ResumesIn, Return, ReturnCall, ReturnCallInd, Site, Slot, Slots, StackLoad, StandsIn, State, TailCall, TryCallInfo, UserStackMap, Values, Vector, Writable, address_sums, after_call}
+use Rattle.rv_runs.proofs.Words.{are_values_set, at, back_number, call_ind_kept, call_ind_slots, call_kept, call_parts, call_slots, call_to, code_after, comes_goes, comes_on, course_before, decoded, decoded_jalr, environment, fall, fallen, frame_above, frame_left, goes_first, goes_none, goes_second}
+use Rattle.rv_runs.proofs.Words.{inst_rule, integers_loadable, integers_other, is_bad_frame_for, is_float_class, is_float_load, is_restorable, jalr_acts, jalr_sized, keeps, led_on, list_any, loaded_other, loads_come, loads_float, loads_unless, low64, not_true, number_of, or_parts, patch_notes}
+use Rattle.rv_runs.proofs.Words.{plus_none, reads_back, reads_other, reg, restores_float, result_loads, resumed, return_notes, return_of, return_slots, same_Some, saved_load, saves_from, set_at, set_reg, set_twice, setup_loads, short_jalr, size_append, size_of, small_number, spare_set, stack_apart}
+use Rattle.rv_runs.proofs.Words.{stack_load_slots, stack_loaded, stack_step_slots, stands_split, step_at, step_comes, symbol_address, symbol_at, t0_other, tail_call_of, try_exit, try_slots, unless_loadable, upper_of, window_some, wrap}
 use Rattle.rv_runs.proofs.Exits.{RunsHere, same_but, writes_beside, comes_out, but_then_same, goes_out}
 use Rattle.rv_base.specs.declared.call.ReturnCallInfo.{ReturnCallInfo}
 use Rattle.rv_base.specs.declared.regs.PReg.{PReg}
@@ -51,15 +51,9 @@ return_comes {site} {offset} {size} {v} {s} allocated arguments h loadable stand
 gap_comes : {site : Site} {from to size : ℕ} {u : Values} {s : State} → GapIn site from to → to + size ≤ length site.bytes → InCourse site from 0 (IsAs u) s → Comes site to size (IsAs u) s
 gap_comes {site} gap room k =
     let c = led_on gap.leads k.here.placed k.here.pc k.is_state in
-    record {
-      state = c.state;
-      goes = comes_goes c;
-      course = record {
-        here = record { even = gap.even k.here.even; room = room; placed = subst (IsPlacedAt site) (sym c.kept) k.here.placed; pc = c.pc };
-        is_state = c.is_state;
-        values = record { same = but_then_same k.values.same c.same; are_values = k.values.are_values };
-      };
-    }
+    let there = subst (IsPlacedAt site) (sym c.kept) k.here.placed in
+    let even = gap.even k.here.even in
+    record { state = c.state; goes = comes_goes c; course = search (rules, but_then_same, c, k, there, even) }
 
 -- what restores the frame stands where the machine comes, and the rest of the slots after it
 pub record IsEntered (site : Site) (arguments : ℕ) (rest : List Slot) (v : Values) (s : State) : Type 0 where
@@ -142,12 +136,8 @@ symbol_out {site} {w = w} name l =
     let t = l.comes.state in
     let f = l.stands.1.0 in
     let x = upper_sum t.pc f.distance in
-    comes_out (at (symbol_address site (AddressOf name (pos 0)) / 2 * 2) (set_reg t.values 31 x)) (goes_second l.comes.goes (call_goes 0 31 name (lit< tt) (lit< tt) c.is_state c.here f)) refl (record {
-      same = spare_set w t.values 31 x (lit≤ tt) c.values.same;
-      is_state = record { pc = omega arith; values = are_values_set t.values 31 x c.is_state.values (lit< tt) (omega arith) };
-      are_values = c.values.are_values;
-      placed = c.here.placed;
-    })
+    let values = are_values_set t.values 31 x c.is_state.values (lit< tt) (omega arith) in
+    comes_out (at (symbol_address site (AddressOf name (pos 0)) / 2 * 2) (set_reg t.values 31 x)) (goes_second l.comes.goes (call_goes 0 31 name (lit< tt) (lit< tt) c.is_state c.here f)) refl (search (rules, arith, spare_set, values, c))
 
 -- ---- to the address in t0
 
@@ -160,12 +150,7 @@ register_out {site} {w = w} x kept fits l =
     let t = l.comes.state in
     let there : wrap (reg t.values 5 + low64 (pos 0)) / 2 * 2 ≡ x / 2 * 2 = (λ i. wrap ((sym (c.values.same.regs 5 (lit< tt) refl) ∙ kept) i + low64 (pos 0)) / 2 * 2) ∙ ap (λ n. n / 2 * 2) (plus_none x fits) in
     let u = at (x / 2 * 2) t.values in
-    comes_out u (goes_second l.comes.goes (step_at (short_jalr flags 0 5 (pos 0)) [] u c.here (omega arith) l.stands.0 (jalr_acts flags 0 5 (pos 0) t c.is_state ∙ (λ i. Some (at (there i) t.values))))) refl (record {
-      same = c.values.same;
-      is_state = record { pc = omega arith; values = c.is_state.values };
-      are_values = c.values.are_values;
-      placed = c.here.placed;
-    })
+    comes_out u (goes_second l.comes.goes (step_at (short_jalr flags 0 5 (pos 0)) [] u c.here (omega arith) l.stands.0 (jalr_acts flags 0 5 (pos 0) t c.is_state ∙ (λ i. Some (at (there i) t.values))))) refl (search (rules, arith, c))
 
 t0_kept : (frame : FrameLayout) (arguments : ℕ) (v : Values) → AreOthers 5 (restores frame) → reg (frame_left frame arguments v) 5 ≡ reg v 5
 t0_kept frame arguments v others =
@@ -242,12 +227,7 @@ begins {site} start after call (l ∷ loads) t (allocated, stands, (mid, gap, (m
 
 -- before so many bytes of them
 begins_at : {site : Site} {start after : ℕ} {parts : List Part} {s : State} {v : Values} {call : List Slot → List Slot} (size : ℕ) → Enters site start after parts s v → (b : Begins site start after call) → size ≤ size_of (call b.last) → IsAt site start size s
-begins_at size e b le = record {
-  even = e.even;
-  room = let inside = e.within in let within = b.within in omega arith;
-  placed = e.placed;
-  pc = e.pc;
-}
+begins_at size e b le = search (rules, arith, e, b)
 
 -- to a symbol
 pub call_out : {site : Site} {start after : ℕ} {s : State} {v : Values} (info : CallInfo ExternalName) → Enters site start after (call_parts site.context.flags (call_slots site.context.flags site.context.frame info) (loads_unless info.patchable info.defs) info.try_call_info) s v →
@@ -307,12 +287,7 @@ continued_out {site} {s = s} allocated None h stands ends b = comes_out s (goes_
 continued_out {site} allocated (Some t) h stands ends b = jump_out t.continuation h (let some = window_some site.context.flags in omega arith) stands.0 b
 
 pub continues : {site : Site} {start after from : ℕ} {s : State} {u : Values} (allocated : ℕ) (t : Option TryCallInfo) → StandsIn site allocated from (try_slots site.context.flags t) → from + size_of (try_slots site.context.flags t) ≡ after → Comes site from (size_of (try_slots site.context.flags t)) (IsAs u) s → ComesOut site start after (try_exit t) [] u s
-continues allocated t stands ends c = goes_out c.goes (continued_out allocated t c.course.here stands ends (record {
-  same = c.course.values.same;
-  is_state = c.course.is_state;
-  are_values = c.course.values.are_values;
-  placed = c.course.here.placed;
-}))
+continues allocated t stands ends c = goes_out c.goes (continued_out allocated t c.course.here stands ends (search (rules, c.course)))
 
 -- what comes after the words of a call
 abbrev rest_of : IsaFlags → FrameLayout → ℕ → ℕ → Bool → Option UserStackMap → Option TryCallInfo → List Slot → List Slot
@@ -340,11 +315,7 @@ rest_split site allocated at popped n patchable entries t last h =
 
 -- the machine where a call returns, before so many bytes
 resumes_at : {site : Site} {start after from : ℕ} {parts : List Part} {s : State} {v : Values} (size : ℕ) → from % 2 ≡ 0 → from + size ≤ after → Resumes site start after from parts s v → InCourse site from size (IsAs v) s
-resumes_at size even room h = record {
-  here = record { even = even; room = let within = h.within in omega arith; placed = h.placed; pc = h.pc };
-  is_state = h.is_state;
-  values = record { same = same_but [] h.same; are_values = h.are_values };
-}
+resumes_at size even room h = search (rules, arith, same_but, h)
 
 -- the words of a call, after the first of which stands the rest
 pub record Opens (site : Site) (start offset popped n : ℕ) (patchable : Bool) (entries : Option UserStackMap) (t : Option TryCallInfo) (call : List Slot → List Slot) : Type 0 where
@@ -367,10 +338,7 @@ comes_to_loads {site} {start} {after} {s} {v} offset popped n patchable entries 
     let step = after_call flags popped in
     let jump = try_slots flags t in
     let allocated = h.stands.0 in
-    let ends = h.stands.2 in
     let rest = rest_long flags site.context.frame popped n patchable entries t jump in
-    let start_even = h.even in
-    let even = o.even in
     let both = rest_split site allocated (start + offset) popped n patchable entries t jump (o.rest allocated jump h.stands.1) in
     let there : start + offset + size_of step ≡ start + offset + size_of step + 0 = omega arith in
     record {
@@ -389,7 +357,6 @@ comes_to_loads {site} {start} {after} {s} {v} offset popped n patchable entries 
     let first = h.stands.0 in
     let mid = h.stands.2.0 in
     let second = h.stands.2.2.0 in
-    let ends = h.stands.2.2.2 in
     let rest = rest_long flags site.context.frame popped n patchable entries t [] in
     let sizes : size_of (all ++ jump) ≡ size_of all + size_of jump = size_append all jump in
     let there : start + size_of (call []) ≡ start + offset + size_of step = omega arith in
@@ -405,35 +372,32 @@ comes_to_loads {site} {start} {after} {s} {v} offset popped n patchable entries 
     }
 
 -- the stack pointer falls, results are loaded, past an island where one stands, and then control goes on
-resumes_out : {site : Site} {start after : ℕ} {s : State} {v : Values} (offset popped n : ℕ) (patchable : Bool) (entries : Option UserStackMap) (t : Option TryCallInfo) (call : List Slot → List Slot) (loads : List StackLoad) → popped < 2 ^ 31 → AreLoadable loads → Opens site start offset popped n patchable entries t call → Resumes site start after (start + offset) (call_parts site.context.flags call loads t) s v → ComesOut site start after (try_exit t) [] (resumed (record { offset = offset; popped = popped; loads = loads }) v) s
-resumes_out {v = v} offset popped n patchable entries t call loads few loadable o h =
+resumes_out : {site : Site} {start after : ℕ} {s : State} {v : Values} (offset popped n : ℕ) (patchable : Bool) (entries : Option UserStackMap) (t : Option TryCallInfo) (call : List Slot → List Slot) (loads : List StackLoad) → popped < 2 ^ 31 →
+    AreStackLoads loads → Opens site start offset popped n patchable entries t call → not (loads_float loads) ≡ true →
+    Resumes site start after (start + offset) (call_parts site.context.flags call loads t) s v → ComesOut site start after (try_exit t) [] (resumed (record { offset = offset; popped = popped; loads = loads }) v) s
+resumes_out {v = v} offset popped n patchable entries t call loads few loadable o core h =
     let u = fallen popped v in
     let a = comes_to_loads offset popped n patchable entries t call loads few o h in
-    continues a.allocated t a.jump a.ends (comes_on a.comes (λ s1 k1. loads_come a.allocated (reg u 2) loads a.offset u s1 loadable refl a.loaded k1))
+    continues a.allocated t a.jump a.ends (comes_on a.comes (λ s1 k1. loads_come a.allocated (reg u 2) loads a.offset u s1 (integers_loadable loads (not_true (loads_float loads) core) loadable) refl a.loaded k1))
 
--- what opens the two kinds of call
-pub call_opens : (site : Site) (start : ℕ) (info : CallInfo ExternalName) → Opens site start 8 info.callee_pop_size (call_size site.context.flags 8 info.callee_pop_size) info.patchable info.stack_map info.try_call_info (call_slots site.context.flags site.context.frame info)
-call_opens site start info = record { even = refl; rest = λ allocated last stands. stands.1; long = λ last. refl }
-
-pub call_ind_opens : (site : Site) (start : ℕ) (info : CallInfo Reg) → Opens site start (short_jalr site.context.flags 1 (number_of info.dest) (pos 0)).len info.callee_pop_size 0 false info.stack_map info.try_call_info (call_ind_slots site.context.flags site.context.frame info)
-call_ind_opens site start info = record { even = (jalr_sized site.context.flags 1 (number_of info.dest) (pos 0)).even; rest = λ allocated last stands. stands.1; long = λ last. refl }
-
-kept_resumes : (site : Site) (setting : EmitVState) (inst : Inst) (r : Return) → is_integer inst ≡ true → Keeps inst → return_of site.context.flags inst ≡ Some r → ResumesIn site setting inst r
-kept_resumes site setting (Call info) r core k is =
+-- what holds of every call and return, by what opens the two kinds of call, and of the integer core where no floating-point register is loaded
+pub by_call : (site : Site) (start : ℕ) (setting : EmitVState) (P : Return → List Part → Option TryCallInfo → Bool → Type 0) →
+    ((offset popped n : ℕ) (patchable : Bool) (entries : Option UserStackMap) (t : Option TryCallInfo) (call : List Slot → List Slot) (loads : List StackLoad) → popped < 2 ^ 31 → AreStackLoads loads → Opens site start offset popped n patchable entries t call →
+    P (record { offset = offset; popped = popped; loads = loads }) (call_parts site.context.flags call loads t) t (not (loads_float loads))) →
+    (inst : Inst) (r : Return) → Keeps inst → return_of site.context.flags inst ≡ Some r → P r (parts_of site.context setting inst) (try_call_of inst) (is_integer inst)
+by_call site start setting P on (Call info) r k is =
     let c = call_kept info k in
-    let loads = loads_unless info.patchable info.defs in
-    subst (ResumesIn site setting (Call info)) (same_Some _ r is) (record {
-      run = λ start after s v h. resumes_out 8 info.callee_pop_size _ info.patchable info.stack_map info.try_call_info (call_slots site.context.flags site.context.frame info) loads c.few
-          (integers_loadable loads (not_true (loads_float loads) core) (unless_loadable info.patchable info.defs c.loadable)) (call_opens site start info) h;
-    })
-kept_resumes site setting (CallInd info) r core k is =
+    subst (λ q. P q (parts_of site.context setting (Call info)) info.try_call_info (is_integer (Call info))) (same_Some _ r is)
+    (on 8 info.callee_pop_size _ info.patchable info.stack_map info.try_call_info (call_slots site.context.flags site.context.frame info) (loads_unless info.patchable info.defs)
+    c.few (unless_loadable info.patchable info.defs c.loadable) (record { even = refl; rest = λ allocated last stands. stands.1; long = λ last. refl }))
+by_call site start setting P on (CallInd info) r k is =
     let c = call_ind_kept info k in
-    let loads = result_loads info.defs in
-    subst (ResumesIn site setting (CallInd info)) (same_Some _ r is) (record {
-      run = λ start after s v h. resumes_out _ info.callee_pop_size 0 false info.stack_map info.try_call_info (call_ind_slots site.context.flags site.context.frame info) loads c.few (integers_loadable loads (not_true (loads_float loads) core) c.loadable) (call_ind_opens site start info) h;
-    })
-kept_resumes site setting _ r core k is = absurd (cc)
+    subst (λ q. P q (parts_of site.context setting (CallInd info)) info.try_call_info (is_integer (CallInd info))) (same_Some _ r is)
+    (on (short_jalr site.context.flags 1 (number_of info.dest) (pos 0)).len info.callee_pop_size 0 false info.stack_map info.try_call_info (call_ind_slots site.context.flags site.context.frame info) (result_loads info.defs)
+    c.few c.loadable (record { even = (jalr_sized site.context.flags 1 (number_of info.dest) (pos 0)).even; rest = λ allocated last stands. stands.1; long = λ last. refl }))
+by_call site start setting P on _ r k is = absurd (cc)
 
 -- every instruction of the integer core that breaks no rule and returns runs on as it means from where it does
 pub inst_resumes : (site : Site) (setting : EmitVState) (inst : Inst) (r : Return) → is_integer inst ≡ true → inst_rule site.context inst ≡ None → return_of site.context.flags inst ≡ Some r → ResumesIn site setting inst r
-inst_resumes site setting inst r core rule is = kept_resumes site setting inst r core (keeps site.context inst rule) is
+inst_resumes site setting inst r core rule is =
+    record { run = λ start after s v. by_call site start setting (λ q parts t integer. integer ≡ true → Resumes site start after (start + q.offset) parts s v → ComesOut site start after (try_exit t) [] (resumed q v) s) resumes_out inst r (keeps site.context inst rule) is core }

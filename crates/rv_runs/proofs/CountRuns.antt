@@ -1,12 +1,12 @@
 -- The ones and the zeros of a register are counted, bit by bit.
-use Rattle.std.proofs.Common.{◌≡◌, ℕ, ◌+◌, ◌-◌, ◌*◌, ◌/◌, ◌%◌, ◌^◌, ◌<◌, pos, negsuc, Bool, true, false, [], ◌∷◌, ◌++◌, List, length, Some, arith, refl, sym, ap, ◌∙◌, lit<, suc, if◌then◌else◌, not, bit_and, zero, ◌≤◌, subst, lit≤, nat_eq, ◌==◌}
-use Rattle.rv_runs.proofs.Words.{Addi, AluOPRRI, And, AreInRange, AreValues, Bind, Branch, Count, Counted, Do, Equal, InCount, IsCount, NotEqual, Piece, Rri, Rrr, SameBut, Site, Slli, Srli, State, TestsBit, Values, after, alu_rri, and_comm, and_pow, and_then, are_values_set, bit_at, bit_at-lt}
-use Rattle.rv_runs.proofs.Words.{bit_at-suc, bit_at_lowest, bit_shift, count_set, counted, evaluate, half_power, ints, low64, none_below, ones, point, pow_below, pow_pos, reads_set, reg, set_reg, signed_below, slots_of, small_shift, spare_kept, sum_set, wrap, zeros}
+use Rattle.std.proofs.Common.{rules, ◌≡◌, ℕ, ◌+◌, ◌-◌, ◌*◌, ◌/◌, ◌%◌, ◌^◌, ◌<◌, pos, negsuc, Bool, true, false, [], ◌∷◌, ◌++◌, List, Some, arith, refl, sym, ap, ◌∙◌, lit<, suc, if◌then◌else◌, not, bit_and, zero, ◌≤◌, subst, lit≤, nat_eq, ◌==◌}
+use Rattle.rv_runs.proofs.Words.{reads_other, temporary_set, Addi, AluOPRRI, And, AreInRange, AreValues, Bind, Branch, Count, Counted, Do, Equal, InCount, IsCount, NotEqual, Piece, Rri, Rrr, SameBut, Site, Slli, Srli, State, TestsBit, Values, after, alu_rri, and_comm, and_pow, and_then}
+use Rattle.rv_runs.proofs.Words.{are_values_set, bit_at, bit_at-lt, bit_at-suc, bit_at_lowest, bit_shift, count_set, counted, evaluate, half_power, ints, low64, none_below, ones, point, pow_below, pow_pos, reads_set, reg, set_reg, signed_below, slots_of, small_shift, spare_kept, wrap, zeros}
 use Rattle.rv_runs.proofs.Exits.{SlotsOut, Reaches, same_but, goes_on, reaches_such, pieces_out}
 use Rattle.rv_code.specs.Counts.{count_start, count_test, count_down, ones_pieces, ones_turn, zeros_pieces, zeros_turn}
 use Rattle.rv_code.specs.Evaluation.{to}
-use Rattle.rv_code.proofs.Registers.{written, source_kept, tmp_set, step_set, same_beside, not_zero}
-use Rattle.rv_code.proofs.ZeroNumbers.{index_of, power_of, zeros_left, power_is, power_next, in_range, zeros_more, none_to_count, zeros_all, zeros_few, ends_at, counts_on}
+use Rattle.rv_code.proofs.Registers.{written, source_kept, same_beside, not_zero}
+use Rattle.rv_code.proofs.ZeroNumbers.{index_of, power_of, zeros_left, power_is, power_next, zeros_more, none_to_count, zeros_all, zeros_few, ends_at, counts_on}
 
 -- What sequences that count bits of a register have in common: how their loop begins, tests the next bit, and goes on.
 
@@ -21,11 +21,8 @@ starts {c} {v} whole tail downward w h hw others =
     let w1 = set_reg w c.sum 0 in
     let y = alu_rri Addi 0 (pos c.bits) in
     let w2 = set_reg w1 c.step y in
-    let a1 : length w1.regs ≡ 31 = count_set w c.sum 0 hw.count in
-    let a2 : length w2.regs ≡ 31 = count_set w1 c.step y a1 in
-    let k = tmp_set 1 h a2 (step_set y h a1 (sum_set 0 h hw.count (record { step = refl; tmp = refl; sum = refl; others = others }))) in
     let full : y ≡ c.bits = omega (arith, ints) in
-    goes_on {Such = InCount c c.bits 1 0 v} (record { count = 3; values = set_reg w2 c.tmp 1; ran = refl; such = record { all = count_set w2 c.tmp 1 a2; holds = record { step = k.step ∙ full; tmp = k.tmp; sum = k.sum; others = k.others } } }) (by downward)
+    goes_on {Such = InCount c c.bits 1 0 v} (record { count = 3; values = set_reg w2 c.tmp 1; ran = refl; such = search (rules, reads_other, reads_set, count_set, h, hw, temporary_set, others, full) }) (by downward)
   where
     -- the lowest bit is the next, or one more shift goes to the highest
     by : (downward : Bool) (u : Values) → InCount c c.bits 1 0 v u → Reaches whole (point ((if downward then Do (Rri Slli c.tmp c.tmp (pos (c.bits - 1))) ∷ [] else []) ++ tail) u) tail (InCount c c.bits (first_power downward c.bits) 0 v)
@@ -36,8 +33,7 @@ starts {c} {v} whole tail downward w h hw others =
         let power = pow_below (c.bits - 1) 64 (omega arith) in
         let amount : low64 (pos (c.bits - 1)) % 64 ≡ c.bits - 1 = omega (arith, ints) in
         let highest : x ≡ 2 ^ c.bits / 2 = (λ i. wrap (k.holds.tmp i * 2 ^ amount i)) ∙ omega arith in
-        let last = tmp_set x h k.all k.holds in
-        record { count = 1; values = set_reg u c.tmp x; ran = refl; such = record { all = count_set u c.tmp x k.all; holds = record { step = last.step; tmp = last.tmp ∙ highest; sum = last.sum; others = last.others } } }
+        record { count = 1; values = set_reg u c.tmp x; ran = refl; such = search (rules, reads_other, reads_set, count_set, k, h, temporary_set, highest) }
     by false u k = record { count = 0; values = u; ran = refl; such = k }
 
 -- no bit is left
@@ -69,9 +65,8 @@ tests {c} {left} {count} {v} whole tail index w lt h k =
 pub counts_one : {c : Count} {left next count : ℕ} {v : Values} (whole tail : List Piece) (w : Values) → count < 2 ^ 32 → IsCount c → InCount c left next count v w → Reaches whole (point (Do (Rri Addi c.sum c.sum (pos 1)) ∷ tail) w) tail (InCount c left next (1 + count) v)
 counts_one {c} {count = count} whole tail w few h k =
     let x = alu_rri Addi (reg w c.sum) (pos 1) in
-    let one = sum_set x h k.all k.holds in
     let more : x ≡ 1 + count = (let sum = k.holds.sum in omega (arith, ints)) in
-    record { count = 1; values = set_reg w c.sum x; ran = refl; such = record { all = count_set w c.sum x k.all; holds = record { step = one.step; tmp = one.tmp; sum = one.sum ∙ more; others = one.others } } }
+    record { count = 1; values = set_reg w c.sum x; ran = refl; such = search (rules, reads_other, reads_set, count_set, k, h, temporary_set, more) }
 
 -- one bit less is left, another is the next, and a turn begins
 pub goes_down : {c : Count} {left next count : ℕ} {v : Values} (whole turn : List Piece) (shift : AluOPRRI) (shifted : ℕ) (w : Values) → left < 64 → after 0 whole ≡ Some turn → alu_rri shift next (pos 1) ≡ shifted → IsCount c → InCount c (suc left) next count v w → Reaches whole (point (count_down shift c.tmp c.step) w) turn (InCount c left shifted count v)
@@ -80,36 +75,14 @@ goes_down {c} {left} {next} whole turn shift shifted w lt loops is h k =
     let w1 = set_reg w c.step y in
     let z = alu_rri shift (reg w1 c.tmp) (pos 1) in
     let w2 = set_reg w1 c.tmp z in
-    let a1 : length w1.regs ≡ 31 = count_set w c.step y k.all in
-    let k1 = step_set y h k.all k.holds in
-    let k2 = tmp_set z h a1 k1 in
-    let step = k.holds.step in
     let less : y ≡ left = omega arith in
+    let next_is : z ≡ shifted = ap (λ n. alu_rri shift n (pos 1)) (reads_other w c.step c.tmp y h.tmp_step ∙ k.holds.tmp) ∙ is in
     record {
       count = 3;
       values = w2;
       ran = ap (λ o. and_then (to o w2 []) (evaluate 0 whole)) loops;
-      such = record { all = count_set w1 c.tmp z a1; holds = record { step = k2.step ∙ less; tmp = k2.tmp ∙ ap (λ n. alu_rri shift n (pos 1)) k1.tmp ∙ is; sum = k2.sum; others = k2.others } };
+      such = search (rules, reads_other, reads_set, count_set, k, h, temporary_set, less, next_is);
     }
-
--- registers of the machine and small numbers
-pub record IsLow (c : Count) : Type 0 where
-  pub sum : c.sum < 32
-  pub tmp : c.tmp < 32
-  pub step : c.step < 32
-
-pub is_low : (c : Count) → IsCount c → IsLow c
-is_low c h = record { sum = omega arith; tmp = omega arith; step = omega arith }
-
-pub start_range : (c : Count) → IsCount c → (downward : Bool) (more : List Piece) → AreInRange more → AreInRange (count_start downward c.sum c.tmp c.step c.bits ++ more)
-start_range c h downward more range = by downward
-  where
-    bits : c.bits < 2 ^ 64
-    bits = omega arith
-
-    by : (downward : Bool) → AreInRange (count_start downward c.sum c.tmp c.step c.bits ++ more)
-    by true = let l = is_low c h in ((l.sum, refl, lit< tt), ((l.step, refl, bits), ((l.tmp, refl, lit< tt), ((l.tmp, small_shift (c.bits - 1) (omega arith), omega arith), range))))
-    by false = let l = is_low c h in ((l.sum, refl, lit< tt), ((l.step, refl, bits), ((l.tmp, refl, lit< tt), range)))
 
 -- The ones of a register are counted, from the highest of its low bits on.
 
@@ -171,15 +144,12 @@ turns_of_ones {c} {v} (suc left) count w le h all k =
 
 -- ---- the whole sequence
 
-range_of_ones : (c : Count) → IsCount c → AreInRange (whole_ones c)
-range_of_ones c h = let l = is_low c h in start_range c h true (Bind 0 ∷ turn_of_ones c) (lit< tt, ((l.sum, refl, lit< tt), ((l.step, refl, lit< tt), ((l.tmp, refl, lit< tt), tt))))
-
 pub popcnt_out : {site : Site} {start after : ℕ} {s : State} {v : Values} (c : Count) → IsCount c → SlotsOut site start after (slots_of site.context.flags (whole_ones c)) s v (c.tmp ∷ c.step ∷ []) (set_reg v c.sum (ones c.bits (reg v c.rs)))
 popcnt_out {s = s} {v = v} c h e =
     let n = reg v c.rs in
     let whole = whole_ones c in
     let few = ones_few c.bits n in
-    pieces_out whole (c.tmp ∷ c.step ∷ []) (set_reg v c.sum (ones c.bits n)) (range_of_ones c h) e
+    pieces_out whole (c.tmp ∷ c.step ∷ []) (set_reg v c.sum (ones c.bits n)) (search (rules, arith, h, small_shift)) e
     (reaches_such (λ w k. same_beside h e.are_values k) (goes_on {Such = λ w. w ≡ s.values} (record { count = 3; values = s.values; ran = refl; such = refl })
     (λ w is. goes_on (starts whole (Bind 0 ∷ turn_of_ones c) true w h (subst (λ u. AreValues u) (sym is) e.is_state.values) (subst (λ u. SameBut (written c) v u) (sym is) (same_but (written c) e.same)))
     (λ w1 k1. goes_on (record { count = 1; values = w1; ran = refl; such = k1 })
@@ -247,7 +217,8 @@ turns {c} {v} leading (suc left) count w le h all k =
 -- ---- the whole sequence
 
 ranges : (leading : Bool) (c : Count) → IsCount c → AreInRange (whole_of leading c)
-ranges leading c h = let l = is_low c h in start_range c h leading (Bind 0 ∷ turn_of leading c) (lit< tt, ((l.sum, refl, lit< tt), ((l.step, refl, lit< tt), ((l.tmp, in_range leading, lit< tt), tt))))
+ranges true c h = search (rules, arith, h, small_shift)
+ranges false c h = search (rules, arith, h)
 
 -- the first bit's power is the next one's where all are left
 first_next : (leading : Bool) (bits : ℕ) → first_power leading bits ≡ power_of leading bits bits

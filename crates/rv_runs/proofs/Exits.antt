@@ -1,5 +1,5 @@
 -- How code comes out at an exit: from the end of a chain, at a trap, and by the evaluation of an instruction's pieces.
-use Rattle.std.proofs.Common.{refl, ◌≡◌, ℕ, ◌+◌, ◌<◌, Bool, true, false, List, [], ◌∷◌, arith, sym, subst, ◌∙◌, ap, ◌%◌, ◌^◌, ◌≤◌, length, lit<, if◌then◌else◌, zero, suc, Option, Some, None}
+use Rattle.std.proofs.Common.{rules, refl, ◌≡◌, ℕ, ◌+◌, ◌<◌, Bool, true, false, List, [], ◌∷◌, arith, sym, subst, ◌∙◌, ap, ◌%◌, ◌^◌, ◌≤◌, length, lit<, if◌then◌else◌, zero, suc, Option, Some, None}
 use Rattle.rv_runs.proofs.Words.{AreInRange, AreOutside, AreValues, Arrives, Base, Break, BytesAt, CodeHas, ComesOut, ComesToPoint, Decoded, EmitVState, Enters, Exit, GapIn, Inst, IsAt, IsBeside, IsPlacedAt, IsState, IsZeroHalf, IsaFlags, Leads, MachLabel, Next, Part, Piece, Point, Same, SameBut}
 use Rattle.rv_runs.proofs.Words.{Site, Slot, StandIn, State, To, TrapCode, Values, and_then, are_values_set, at, byte, comes_goes, decodes_at, environment, evaluate, fetch, goes_first, goes_none, goes_second, inst_effect, inst_exit, inst_temporaries, inst_writes, integer_decodes, least_steps}
 use Rattle.rv_runs.proofs.Words.{led_on, next, parts_of, pc_in_code, pieces_long, pieces_run, point, same_Some, same_set, set_reg, size_of, slots_alone, slots_of, trap_bytes, wrap}
@@ -41,36 +41,16 @@ starts_beside free e = record { same = same_but free e.same; is_state = e.is_sta
 
 -- elsewhere, once a register is written
 pub writes_beside : {site : Site} {start after : ℕ} {parts : List Part} {s : State} {v : Values} (pc n x : ℕ) → pc < 2 ^ 64 → n < 32 → x < 2 ^ 64 → Enters site start after parts s v → IsBeside site [] (set_reg v n x) (at pc (set_reg s.values n x))
-writes_beside {s = s} {v} pc n x there lt fits e = record {
-  same = same_but [] (same_set v s.values n x e.are_values e.is_state.values lt e.same);
-  is_state = record { pc = there; values = are_values_set s.values n x e.is_state.values lt fits };
-  are_values = are_values_set v n x e.are_values lt fits;
-  placed = e.placed;
-}
+writes_beside {s = s} {v} pc n x there lt fits e = search (rules, same_but, same_set, are_values_set, e)
 
 pub starts_at : {site : Site} {start after : ℕ} {s : State} {v : Values} (slots : List Slot) → Enters site start after (slots_alone slots) s v → IsAt site start (size_of slots) s
-starts_at slots e = record {
-  even = e.even;
-  room = let ends = e.stands.2 in let within = e.within in omega arith;
-  placed = e.placed;
-  pc = e.pc;
-}
+starts_at slots e = search (rules, arith, e, e.stands.2)
 
 -- ---- exits
 
 -- a chain that ends where an exit leads
 pub comes_out : {site : Site} {start after : ℕ} {exit : Exit} {free : List ℕ} {v : Values} {s : State} (t : State) → Goes site.context.flags (least_steps exit) s t → Arrives site start after exit t → IsBeside site free v t → ComesOut site start after exit free v s
-comes_out t g arrives b = record {
-  steps = g.steps;
-  state = t;
-  moved = g.moved;
-  ran = g.ran;
-  arrives = arrives;
-  same = b.same;
-  is_state = b.is_state;
-  are_values = b.are_values;
-  placed = b.placed;
-}
+comes_out t g arrives b = search (rules, g, b)
 
 -- a chain before
 pub goes_out : {site : Site} {start after least : ℕ} {exit : Exit} {free : List ℕ} {v : Values} {s t : State} → Goes site.context.flags least s t → ComesOut site start after exit free v t → ComesOut site start after exit free v s
@@ -80,12 +60,7 @@ goes_out {site} {start} {after} {least} {exit} {free} {v} {s} {t} g c =
 
 -- what leads on, where it comes out
 pub led_beside : {site : Site} {free : List ℕ} {v : Values} {s t : State} → IsBeside site free v s → Same s.values t.values → IsState t → t.values.mem ≡ s.values.mem → IsBeside site free v t
-led_beside {site} b same is_state kept = record {
-  same = but_then_same b.same same;
-  is_state = is_state;
-  are_values = b.are_values;
-  placed = subst (IsPlacedAt site) (sym kept) b.placed;
-}
+led_beside {site} b same is_state kept = let there = subst (IsPlacedAt site) (sym kept) b.placed in search (rules, but_then_same, b, there)
 
 -- a chain that ends where a use of a label aims
 pub label_out : {site : Site} {start after : ℕ} {free : List ℕ} {v : Values} {s : State} (veneers : Bool) (label : MachLabel) (to : ℕ) (t : State) → Leads site veneers label to → Goes site.context.flags 1 s t → t.pc ≡ wrap (site.base + to) → IsBeside site free v t → ComesOut site start after (To label.number) free v s
@@ -172,7 +147,6 @@ reaches_such so r = record { count = r.count; values = r.values; ran = r.ran; su
 pub comes : {site : Site} {start after : ℕ} {s : State} {v : Values} (whole ps : List Piece) (w : Values) (n : ℕ) → AreInRange whole → (e : Enters site start after (slots_alone (slots_of site.context.flags whole)) s v) → evaluate n whole (point whole s.values) ≡ Some (point ps w) → ComesToPoint n site e.stands.0 start after (point ps w) s
 comes {site} {start} {after} {s} whole ps w n ranges e ran =
     let long = pieces_long site.context.flags whole in
-    let ends = e.stands.2 in
     let within = e.within in
     let k : StandIn site e.stands.0 start after whole = record { stand = e.stands.1; even = e.even; ends = omega arith; room = within; ranges = ranges } in
     pieces_run site e.stands.0 start after whole k n (point whole s.values) (point ps w) s ran tt (record { offset = start; within = omega arith; here = record { even = e.even; room = omega arith; placed = e.placed; pc = e.pc }; stand = k; is_state = e.is_state; values = refl })
@@ -184,17 +158,9 @@ point_goes c = record { steps = c.steps; moved = omega arith; ran = c.ran }
 pub pieces_out : {site : Site} {start after : ℕ} {s : State} {v : Values} (whole : List Piece) (free : List ℕ) (made : Values) → AreInRange whole → Enters site start after (slots_alone (slots_of site.context.flags whole)) s v → (r : Reaches whole (point whole s.values) [] (SameBut free made)) → (AreValues r.values → AreValues made) → ComesOut site start after Next free made s
 pieces_out {site} {start} {after} {s} {v} whole free made ranges e r are_values =
     let c = comes whole [] r.values r.count ranges e r.ran in
-    record {
-      steps = c.steps;
-      state = c.state;
-      moved = omega arith;
-      ran = c.ran;
-      arrives = let pc = c.there.here.pc in let there = c.there.stand.ends in omega arith;
-      same = subst (SameBut free made) (sym c.there.values) r.such;
-      is_state = c.there.is_state;
-      are_values = are_values (subst AreValues c.there.values c.there.is_state.values);
-      placed = c.there.here.placed;
-    }
+    let same = subst (SameBut free made) (sym c.there.values) r.such in
+    let values = are_values (subst AreValues c.there.values c.there.is_state.values) in
+    comes_out c.state (point_goes c) (let pc = c.there.here.pc in let there = c.there.stand.ends in omega arith) (search (rules, c.there, same, values))
 
 -- and one whose pieces come to a trap
 pub pieces_trap : {site : Site} {start after : ℕ} {s : State} {v : Values} (whole ps : List Piece) (code : TrapCode) (free : List ℕ) (made : Values) → AreInRange whole → Enters site start after (slots_alone (slots_of site.context.flags whole)) s v → (r : Reaches whole (point whole s.values) (Trap code ∷ ps) (SameBut free made)) → (AreValues r.values → AreValues made) → ComesOut site start after (exit.Trap code) free made s

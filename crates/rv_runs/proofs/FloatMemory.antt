@@ -1,7 +1,7 @@
 -- Loads and stores of floating-point registers on the machine with all units, those of halves by integer registers, too.
-use Rattle.std.proofs.Common.{[], ◌≡◌, ℕ, ◌+◌, ◌^◌, ◌<◌, length, arith, refl, sym, ap, subst, ◌∙◌, ◌-◌, ◌*◌, ◌/◌, ◌%◌, ◌∷◌, Option, Some, lit≤, lit<, Bool, true, false, is_some, if◌then◌else◌}
-use Rattle.rv_runs.proofs.Words.{AllByRecursion, AreOutside, AreValues, Based, CodeHas, Decoded, Enters, FloatFormat, FloatLoad, FloatStore, FullComesOut, FullState, FullValues, H, IsAt, IsFullState, IsUsableAt, Lh, LoadOP, Location, Or, S, Same, SameBut, Sets, Sh, Site, StandsIn, State, StoreOP}
-use Rattle.rv_runs.proofs.Words.{TrapCode, Units, Values, act, act_on, address_at, addresses_from, are_values_set, at, boxed, boxing_slots, byte, eight_fit, environment, fiter_after, float_load, float_store, format_bytes, freg, goes_at_least, goes_both, goes_second, half_load_slots}
+use Rattle.std.proofs.Common.{None, rules, [], ◌≡◌, ℕ, ◌+◌, ◌^◌, ◌<◌, length, arith, refl, sym, ap, subst, ◌∙◌, ◌-◌, ◌*◌, ◌/◌, ◌%◌, ◌∷◌, Option, Some, lit≤, lit<, Bool, true, false, is_some, if◌then◌else◌}
+use Rattle.rv_runs.proofs.Words.{unit_row, AllByRecursion, AreOutside, AreValues, Based, CodeHas, Decoded, Enters, FloatFormat, FloatLoad, FloatStore, FullComesOut, FullState, FullValues, H, IsAt, IsFullState, IsUsableAt, Lh, LoadOP, Location, Or, S, Same, SameBut, Sets, Sh, Site, StandsIn, State}
+use Rattle.rv_runs.proofs.Words.{StoreOP, TrapCode, Units, Values, act, act_on, address_at, addresses_from, are_values_set, at, boxed, boxing_slots, byte, eight_fit, environment, fiter_after, float_load, float_store, format_bytes, freg, goes_at_least, goes_both, goes_second, half_load_slots}
 use Rattle.rv_runs.proofs.Words.{half_store_slots, has_load, has_store, integer_run, ints, is_float_load, label_base, le_or_r, load_bytes, load_fits, load_format, load_line_slots, load_slots, loaded_same, low64, low_bytes, low_part, lui_acts, lui_sized, moved_to_float, moved_to_integer, only_halves}
 use Rattle.rv_runs.proofs.Words.{or_block, or_lt, or_mod, placed_after, put, put_bytes, put_units, put_values, reads_back, reads_other, reg, row_of, rrr_acts, rrr_sized, set_at, set_freg, set_reg, sets_one, short_lui, short_rrr, shorter, sign_extend, size_append, size_of, slots_alone, spare_set}
 use Rattle.rv_runs.proofs.Words.{stands_split, step_at, store_format, store_line_slots, store_same, store_slots, wrap}
@@ -41,20 +41,26 @@ low_bytes_long format n = refl
 
 -- ---- what they do
 
+-- a load, by its row
+loaded_there : {site : Site} {start after : ℕ} {d : Decoded} {v : FullValues} {b : FullState} (format : FloatFormat) (register a : ℕ) (y : IsBefore site start after [] d v.ints b.state) → v.units ≡ b.units → AreValues v.ints → IsFullState b → register < 32 →
+    ((s : State) → act d s ≡ None) → unit_row d (before_values b.units y) ≡ Does (float_loaded format register a (before_values b.units y)) → DoesThere site d (float_loaded format register a v) b (before_values b.units y)
+loaded_there {v = v} {b} format register a y units are_values full lt none row = record {
+  none = none;
+  after = float_loaded format register a (before_values b.units y);
+  row = row;
+  same = record { ints = all_same y.same; units = λ i. set_freg (units i) register (boxed format (loaded_same v.ints.mem y.values.mem a (format_bytes format) y.same.mem i)) };
+  are_values = are_values;
+  written = y.written;
+  units = float_set b.units register (boxed format (load_bytes y.values.mem a (format_bytes format))) full.units lt (loaded_small format y.values.mem a y.written.bytes);
+  setting = refl;
+  placed = y.here.placed;
+}
+
 module _ {site : Site} {start after : ℕ} {d : Decoded} {v : FullValues} {b : FullState} (format : FloatFormat) (register a : ℕ) (y : IsBefore site start after [] d v.ints b.state) (address : wrap (reg y.values d.rs1 + low64 d.imm) ≡ a) (units : v.units ≡ b.units)
     (are_values : AreValues v.ints) (full : IsFullState b) where
   pub load_does : d.op ≡ FloatLoad format → d.rd ≡ register → register < 32 → DoesThere site d (float_loaded format register a v) b (before_values b.units y)
-  load_does is to lt = record {
-    none = λ s. ap (λ op. act_on op d s) is;
-    after = float_loaded format register a (before_values b.units y);
-    row = ap (λ op. row_of op d (before_values b.units y)) is ∙ (λ i. Does (float_loaded format (to i) (address i) (before_values b.units y)));
-    same = record { ints = all_same y.same; units = λ i. set_freg (units i) register (boxed format (loaded_same v.ints.mem y.values.mem a (format_bytes format) y.same.mem i)) };
-    are_values = are_values;
-    written = y.written;
-    units = float_set b.units register (boxed format (load_bytes y.values.mem a (format_bytes format))) full.units lt (loaded_small format y.values.mem a y.written.bytes);
-    setting = refl;
-    placed = y.here.placed;
-  }
+  load_does is to lt = loaded_there format register a y units are_values full lt (λ s. ap (λ op. act_on op d s) is)
+      (ap (λ op. row_of op d (before_values b.units y)) is ∙ (λ i. Does (float_loaded format (to i) (address i) (before_values b.units y))))
 
   pub store_does : d.op ≡ FloatStore format → d.rs2 ≡ register → AreOutside site.base (length site.bytes) (addresses_from a (format_bytes format)) → DoesThere site d (float_stored format register a v) b (before_values b.units y)
   store_does is from clear =
@@ -185,9 +191,7 @@ half_ready {site} {start} {after} {s} {v} rd loc trap based e =
     let over : wrap (t.pc + d.len) ≡ wrap (s.pc + size) = omega arith in
     let acts : act d t ≡ Some (at (wrap (t.pc + d.len)) w) = ap (λ o. act_on o d t) y.is ∙ (λ i. Some (at (wrap (t.pc + d.len)) (set_reg c.values (y.register i) (half_at c.values.mem (there i))))) in
     let goes = subst (λ n. Goes flags 0 s (at n w)) over (goes_at_least (lit≤ tt) (goes_second c.goes (step_at d [] (at (wrap (t.pc + d.len)) w) c.here c.some c.has acts))) in
-    let done = c.ends in
     let next : start + size_of slots ≡ start + size = omega arith in
-    let even = y.even in
     let here : IsAt site (start + size) (size_of last) (at (wrap (s.pc + size)) w) = record { even = let h = c.here.even in omega arith; room = omega arith; placed = c.here.placed; pc = let h = c.here.pc in omega arith } in
     boxed_at rd size e.stands.0 a w goes here (subst (λ n. StandsIn site e.stands.0 n last) next both.1) (omega arith) (spare_set v c.values 31 x (lit≤ tt) c.same) (are_values_set c.values 31 x c.written (lit< tt) fits) (reads_back c.values 31 x c.written (lit< tt) (lit< tt))
 
@@ -196,37 +200,16 @@ half_ready {site} {start} {after} {s} {v} rd loc trap based e =
 pub half_load_out : {site : Site} {start after : ℕ} {v : FullValues} {b : FullState} (rd : ℕ) (loc : Location) (trap : Option TrapCode) → rd < 32 → IsUsableAt loc → Enters site start after (slots_alone (half_load_slots site.context.flags rd trap loc)) b.state v.ints → v.units ≡ b.units → IsFullState b → FullComesOut site after [] (float_loaded H rd (address_at (environment site start after) v.ints loc) v) [] b
 half_load_out {site} {start} {after} {v} {b} rd loc trap lt based e units full =
     let z = half_ready rd loc trap based e in
-    let f = z.before in
-    let a = address_at (environment site start after) v.ints loc in
-    let here = before_values b.units f in
-    exact_out f (record {
-      none = λ s. refl;
-      after = float_loaded H rd a here;
-      row = ap (λ r. Does (put_units (set_freg b.units rd r) here)) z.value;
-      same = record { ints = all_same f.same; units = λ i. set_freg (units i) rd (boxed H (loaded_same v.ints.mem f.values.mem a 2 f.same.mem i)) };
-      are_values = e.are_values;
-      written = f.written;
-      units = float_set b.units rd (boxed H (load_bytes f.values.mem a 2)) full.units lt (loaded_small H f.values.mem a f.written.bytes);
-      setting = refl;
-      placed = f.here.placed;
-    }) full.answers
+    exact_out z.before (loaded_there H rd (address_at (environment site start after) v.ints loc) z.before units e.are_values full lt (λ s. refl) (ap (λ r. Does (put_units (set_freg b.units rd r) (before_values b.units z.before))) z.value)) full.answers
 
 -- A half that is stored by an integer register: the move into x30, which takes no answer, and then sh.
 
 -- the machine after the move, before the store
 store_enters : {site : Site} {start after z : ℕ} {s : State} {v : Values} (src : ℕ) (loc : Location) (trap : Option TrapCode) → z < 2 ^ 64 → Enters site start after (slots_alone (half_store_slots site.context.flags src trap loc)) s v → Enters site (start + 4) after (slots_alone (store_slots site.context.flags Sh 30 trap loc)) (at (wrap (s.pc + 4)) (set_reg s.values 30 z)) v
-store_enters {z = z} {s} {v} src loc trap fits e = record {
-  even = let even = e.even in omega arith;
-  within = e.within;
-  short = e.short;
-  labels = e.labels;
-  stands = (e.stands.0, e.stands.1.1, let ends = e.stands.2 in omega arith);
-  placed = e.placed;
-  pc = let pc = e.pc in omega arith;
-  is_state = record { pc = omega arith; values = are_values_set s.values 30 z e.is_state.values (lit< tt) fits };
-  are_values = e.are_values;
-  same = all_same (spare_set v s.values 30 z (lit≤ tt) (same_but [] e.same));
-}
+store_enters {z = z} {s} {v} src loc trap fits e =
+    let values = are_values_set s.values 30 z e.is_state.values (lit< tt) fits in
+    let same = all_same (spare_set v s.values 30 z (lit≤ tt) (same_but [] e.same)) in
+    search (rules, arith, e, values, same)
 
 pub half_store_out : {site : Site} {start after : ℕ} {v : FullValues} {b : FullState} (src : ℕ) (loc : Location) (trap : Option TrapCode) → IsUsableAt loc → Enters site start after (slots_alone (half_store_slots site.context.flags src trap loc)) b.state v.ints → v.units ≡ b.units → IsFullState b → AreOutside site.base (length site.bytes) (addresses_from (address_at (environment site start after) v.ints loc) 2) → FullComesOut site after [] (float_stored H src (address_at (environment site start after) v.ints loc) v) [] b
 half_store_out {site} {start} {after} {v} {b} src loc trap based e units full clear =

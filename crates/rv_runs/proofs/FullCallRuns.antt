@@ -1,17 +1,18 @@
 -- Calls and tail calls on the machine with all units, where registers of both files come from the stack.
-use Rattle.std.proofs.Common.{◌≡◌, ℕ, ◌+◌, ◌<◌, ◌≤◌, false, List, [], ◌∷◌, ◌++◌, length, Option, Some, None, arith, refl, sym, ap, subst, ◌∙◌, lit<, is_some, ◌^◌, Bool, pos, ◌*◌, ◌/◌, true}
+use Rattle.std.proofs.Common.{rules, ◌≡◌, ℕ, ◌+◌, ◌<◌, ◌≤◌, false, List, [], ◌∷◌, ◌++◌, length, Option, Some, None, arith, refl, sym, ap, subst, ◌∙◌, lit<, is_some, ◌^◌, Bool, pos, ◌*◌, ◌/◌, true}
 use Rattle.rv_runs.proofs.Words.{AreOthersAs, AreStackLoads, Ask, Based, Call, CallInd, ComesOut, EmitVState, Enters, Exit, FloatFormat, FrameLayout, FullComesOut, FullEnds, FullState, FullValues, InCourse, Inst, IsAs, IsAt, IsFullState, IsLoadableAs, IsOtherAs, IsRestorable, Keeps, Leave, Notes}
-use Rattle.rv_runs.proofs.Words.{Op, Resumes, Return, ReturnCall, ReturnCallInd, Site, Slot, Slots, StackLoad, StandsIn, State, TailCall, TryCallInfo, UserStackMap, Values, call_ind_kept, call_ind_slots, call_kept, call_parts, call_slots, call_to, call_usable, code_limit, comes_here, environment}
-use Rattle.rv_runs.proofs.Words.{fallen, fiter, fiter_after, fiter_none, frame_above, frame_left, full_loaded, inst_effect, inst_exit, inst_temporaries, integer_loaded, integer_other, integer_run, is_bad_frame_for, is_float_load, is_restorable, line_comes, load_format, load_line_slots, loaded}
-use Rattle.rv_runs.proofs.Words.{loaded_as, loads_float, loads_unless, low64, number_of, or_parts, parts_of, put, reads_other, reg, restores_float, result_loads, return_of, return_slots, same_Some, set_int, short_jalr, size_append, size_of, slots_alone, small_number, stack_load_slots, stack_loaded}
-use Rattle.rv_runs.proofs.Words.{stack_step_slots, stands_split, step_comes, t0_other, tail_call_of, target_fine, try_call_of, try_exit, unless_loadable, wrap}
+use Rattle.rv_runs.proofs.Words.{Op, Resumes, Return, ReturnCall, ReturnCallInd, Site, Slot, Slots, StackLoad, StandsIn, State, TailCall, TryCallInfo, UserStackMap, Values, call_parts, call_to, call_usable, code_limit, comes_here, environment, fallen, fiter_none, frame_above, frame_left}
+use Rattle.rv_runs.proofs.Words.{full_loaded, inst_effect, inst_exit, inst_temporaries, integer_loaded, integer_other, integer_run, is_bad_frame_for, is_float_load, is_restorable, line_comes, load_format, load_line_slots, loaded, loaded_as, loads_float, low64, or_parts, parts_of, put, reads_other}
+use Rattle.rv_runs.proofs.Words.{reg, restores_float, return_of, return_slots, same_Some, set_int, short_jalr, size_append, size_of, slots_alone, small_number, stack_load_slots, stack_loaded, stack_step_slots, stands_split, step_comes, t0_other, tail_call_of, target_fine, try_call_of, try_exit}
+use Rattle.rv_runs.proofs.Words.{wrap}
 use Rattle.rv_inst.specs.Returns.{restores}
 use Rattle.rv_runs.specs.FloatAccesses.{float_loaded}
 use Rattle.rv_runs.specs.FullReturns.{full_left, with_ints, full_resumed}
 use Rattle.rv_code.proofs.Courses.{Comes}
 use Rattle.rv_runs.proofs.Exits.{all_same}
+use Rattle.rv_runs.proofs.UnitRuns.{FullSteps, no_steps, more_steps}
 use Rattle.rv_runs.proofs.FloatMemory.{line_even, line_load}
-use Rattle.rv_runs.proofs.CallRuns.{restores_none, call_ind_out, call_out, Opens, call_ind_opens, call_opens, comes_to_loads, continues, IsLeft, frame_enters, register_out, symbol_out}
+use Rattle.rv_runs.proofs.CallRuns.{restores_none, call_ind_out, call_out, Opens, by_call, comes_to_loads, continues, IsLeft, frame_enters, register_out, symbol_out}
 use Rattle.mach_records.specs.declared.records.Event.TheVariants as event
 
 -- Registers of both files come from the stack, on the machine with all units: integer words are lifted, and each load of a floating-point
@@ -26,40 +27,21 @@ pub record FullCourse (site : Site) (offset size : ℕ) (v : FullValues) (b : Fu
   pub units : v.units ≡ b.units
   pub is_state : IsFullState b
 
--- in some steps it comes there, takes no answer, and leaves the setting
-pub record FullComes (site : Site) (offset size : ℕ) (v : FullValues) (b : FullState) : Type 0 where
-  pub steps : ℕ
-  pub state : FullState
-  pub ran : fiter site.context.flags steps b ≡ Some state
-  pub answers : b.answers ≡ state.answers
-  pub setting : state.units.setting ≡ b.units.setting
-  pub course : FullCourse site offset size v state
-
-pub full_on : {site : Site} {offset size offset' size' : ℕ} {v w : FullValues} {b : FullState} → FullComes site offset size v b → ((c : FullState) → FullCourse site offset size v c → FullComes site offset' size' w c) → FullComes site offset' size' w b
-full_on {site} {b = b} x on =
-    let y = on x.state x.course in
-    record { steps = y.steps + x.steps; state = y.state; ran = fiter_after site.context.flags y.steps x.steps b x.state x.ran ∙ y.ran; answers = x.answers ∙ y.answers; setting = y.setting ∙ x.setting; course = y.course }
-
-full_here : {site : Site} {offset size : ℕ} {v : FullValues} {b : FullState} → FullCourse site offset size v b → FullComes site offset size v b
-full_here {site} {b = b} k = record { steps = 0; state = b; ran = fiter_none site.context.flags b; answers = refl; setting = refl; course = k }
+-- it comes there
+abbrev pub FullComes : Site → ℕ → ℕ → FullValues → FullState → Type 0
+FullComes site offset size v b = FullSteps site (FullCourse site offset size v) b
 
 -- as the integer machine does by integer words
 pub integers_come : {site : Site} {offset size : ℕ} {u : Values} (v : FullValues) (b : FullState) → v.units ≡ b.units → IsFullState b → Comes site offset size (IsAs u) b.state → FullComes site offset size (with_ints u v) b
-integers_come {site} v b units full c = record {
-  steps = c.goes.steps;
-  state = put c.state b;
-  ran = integer_run site.context.flags c.goes.steps c.state b c.goes.ran;
-  answers = refl;
-  setting = refl;
-  course = record { here = c.course.here; ints = c.course.values; units = units; is_state = record { state = c.course.is_state; units = full.units; answers = full.answers } };
-}
+integers_come {site} v b units full c =
+    record { steps = c.goes.steps; state = put c.state b; ran = integer_run site.context.flags c.goes.steps c.state b c.goes.ran; answers = refl; setting = refl; there = search (rules, c.course, units, full) }
 
 pub in_course : {site : Site} {offset size : ℕ} {v : FullValues} {b : FullState} → FullCourse site offset size v b → InCourse site offset size (IsAs v.ints) b.state
 in_course k = record { here = k.here; is_state = k.is_state.state; values = k.ints }
 
 -- and ends where integer words come out from there
 pub ends_by : {site : Site} {start after offset size : ℕ} {exit : Exit} {made : FullValues} {b : FullState} (c : FullComes site offset size made b) → ComesOut site start after exit [] made.ints c.state.state → FullEnds site start after exit [] made [] b
-ends_by c out = record { steps = c.steps; state = c.state; ran = c.ran; last = out; units = c.course.units; is_state = c.course.is_state; answers = c.answers; setting = c.setting }
+ends_by c out = record { steps = c.steps; state = c.state; ran = c.ran; last = out; units = c.there.units; is_state = c.there.is_state; answers = c.answers; setting = c.setting }
 
 pub ends_at_once : {site : Site} {start after : ℕ} {exit : Exit} {free : List ℕ} {b : FullState} {w : Values} (v : FullValues) → v.units ≡ b.units → IsFullState b → ComesOut site start after exit free w b.state → FullEnds site start after exit free (with_ints w v) [] b
 ends_at_once {site} {b = b} v units full out = record { steps = 0; state = b; ran = fiter_none site.context.flags b; last = out; units = units; is_state = full; answers = refl; setting = refl }
@@ -109,35 +91,10 @@ module _ {site : Site} (short : length site.bytes < code_limit) (labels : (label
   float_comes {offset} {size} {v} {b} allocated l format is lt stands k =
       let slots = load_line_slots site.context.flags l.register l.op None (Based 2 l.offset) in
       let n = size_of slots in
-      let room = k.here.room in
-      let even = k.here.even in
-      let e : Enters site offset (offset + n) (slots_alone slots) b.state v.ints = record {
-        even = even;
-        within = omega arith;
-        short = short;
-        labels = labels;
-        stands = (allocated, stands, refl);
-        placed = k.here.placed;
-        pc = k.here.pc;
-        is_state = k.is_state.state;
-        are_values = k.ints.are_values;
-        same = all_same k.ints.same;
-      } in
+      let e : Enters site offset (offset + n) (slots_alone slots) b.state v.ints = search (rules, arith, short, labels, stands, k, all_same) in
       let own_even = line_even l.register l.op None (Based 2 l.offset) (ap is_some is) (lit< tt) e in
       let out : FullComesOut site (offset + n) [] (float_loaded format l.register (wrap (reg v.ints 2 + low64 l.offset)) v) [] b = line_load l.register l.op None (Based 2 l.offset) format is lt (lit< tt) e k.units k.is_state in
-      record {
-        steps = out.steps;
-        state = out.state;
-        ran = out.ran;
-        answers = out.answers;
-        setting = out.setting;
-        course = record {
-          here = record { even = omega arith; room = omega arith; placed = out.placed; pc = out.pc };
-          ints = record { same = out.same.ints; are_values = out.are_values };
-          units = out.same.units;
-          is_state = out.is_state;
-        };
-      }
+      record { steps = out.steps; state = out.state; ran = out.ran; answers = out.answers; setting = out.setting; there = search (rules, arith, out) }
 
   one_comes : {offset size : ℕ} {v : FullValues} {b : FullState} (allocated : ℕ) (l : StackLoad) (format : Option FloatFormat) → load_format l.op ≡ format → IsLoadableAs format l.register → StandsIn site allocated offset (load_line_slots site.context.flags l.register l.op None (Based 2 l.offset)) → FullCourse site offset (size_of (load_line_slots site.context.flags l.register l.op None (Based 2 l.offset)) + size) v b → FullComes site (offset + size_of (load_line_slots site.context.flags l.register l.op None (Based 2 l.offset))) size (loaded_as format l (wrap (reg v.ints 2 + low64 l.offset)) v) b
   one_comes {offset} {size} {v} {b} allocated l None is h stands k =
@@ -150,7 +107,7 @@ module _ {site : Site} (short : length site.bytes < code_limit) (labels : (label
   pub full_loads_come : {size : ℕ} (allocated sp : ℕ) (loads : List StackLoad) (offset : ℕ) (v : FullValues) (b : FullState) → AreStackLoads loads → reg v.ints 2 ≡ sp → StandsIn site allocated offset (stack_load_slots site.context.flags loads) → FullCourse site offset (size_of (stack_load_slots site.context.flags loads) + size) v b → FullComes site (offset + size_of (stack_load_slots site.context.flags loads)) size (full_loaded sp loads v) b
   full_loads_come {size} allocated sp [] offset v b h from stands k =
       let there : offset ≡ offset + 0 = omega arith in
-      subst (λ n. FullComes site n size v b) there (full_here (subst (λ n. FullCourse site offset n v b) (omega arith) k))
+      subst (λ n. FullComes site n size v b) there (no_steps (subst (λ n. FullCourse site offset n v b) (omega arith) k))
   full_loads_come {size} allocated sp (l ∷ loads) offset v b h from stands k =
       let flags = site.context.flags in
       let first = load_line_slots flags l.register l.op None (Based 2 l.offset) in
@@ -161,7 +118,7 @@ module _ {site : Site} (short : length site.bytes < code_limit) (labels : (label
       let a = wrap (sp + low64 l.offset) in
       let one = one_comes {size = size_of rest + size} allocated l (load_format l.op) refl h.0 both.0 (subst (λ n. FullCourse site offset n v b) (omega arith) k) in
       subst (λ n. FullComes site n size (full_loaded sp (l ∷ loads) v) b) over
-      (full_on (subst (λ r. FullComes site (offset + size_of first) (size_of rest + size) (loaded_as (load_format l.op) l (wrap (r + low64 l.offset)) v) b) from one)
+      (more_steps (subst (λ r. FullComes site (offset + size_of first) (size_of rest + size) (loaded_as (load_format l.op) l (wrap (r + low64 l.offset)) v) b) from one)
       (λ c k1. full_loads_come allocated sp loads (offset + size_of first) (loaded_as (load_format l.op) l a v) c h.1 (one_other l (load_format l.op) a 2 v (stack_other (load_format l.op) l.register h.0) ∙ from) both.1 k1))
 
 -- A call whose results are of both files: it leaves the code as any call does, and from where it returns it runs on as it means on the
@@ -179,20 +136,12 @@ module _ {site : Site} (short : length site.bytes < code_limit) (labels : (label
   loaded_out offset popped n patchable entries t call loads few loadable o h =
       let u = fallen popped v.ints in
       let a = comes_to_loads offset popped n patchable entries t call loads few o h in
-      let c = full_on (integers_come v b units full a.comes) (λ c k. full_loads_come short labels a.allocated (reg u 2) loads a.offset (with_ints u v) c loadable refl a.loaded k) in
-      ends_by c (continues a.allocated t a.jump a.ends (comes_here (in_course c.course)))
+      let c = more_steps (integers_come v b units full a.comes) (λ c k. full_loads_come short labels a.allocated (reg u 2) loads a.offset (with_ints u v) c loadable refl a.loaded k) in
+      ends_by c (continues a.allocated t a.jump a.ends (comes_here (in_course c.there)))
 
   pub full_resumes : (setting : EmitVState) (inst : Inst) (r : Return) → Keeps inst → return_of site.context.flags inst ≡ Some r → Resumes site start after (start + r.offset) (parts_of site.context setting inst) b.state v.ints →
       FullEnds site start after (try_exit (try_call_of inst)) [] (full_resumed r v) [] b
-  full_resumes setting (Call info) r k is =
-      let c = call_kept info k in
-      subst (λ (q : Return). Resumes site start after (start + q.offset) (parts_of site.context setting (Call info)) b.state v.ints → FullEnds site start after (try_exit info.try_call_info) [] (full_resumed q v) [] b) (same_Some _ r is)
-      (λ h. loaded_out 8 info.callee_pop_size _ info.patchable info.stack_map info.try_call_info (call_slots site.context.flags site.context.frame info) (loads_unless info.patchable info.defs) c.few (unless_loadable info.patchable info.defs c.loadable) (call_opens site start info) h)
-  full_resumes setting (CallInd info) r k is =
-      let c = call_ind_kept info k in
-      subst (λ (q : Return). Resumes site start after (start + q.offset) (parts_of site.context setting (CallInd info)) b.state v.ints → FullEnds site start after (try_exit info.try_call_info) [] (full_resumed q v) [] b) (same_Some _ r is)
-      (λ h. loaded_out (short_jalr site.context.flags 1 (number_of info.dest) (pos 0)).len info.callee_pop_size 0 false info.stack_map info.try_call_info (call_ind_slots site.context.flags site.context.frame info) (result_loads info.defs) c.few c.loadable (call_ind_opens site start info) h)
-  full_resumes setting _ r k is = absurd (cc)
+  full_resumes setting inst r k is = by_call site start setting (λ q parts t integer. Resumes site start after (start + q.offset) parts b.state v.ints → FullEnds site start after (try_exit t) [] (full_resumed q v) [] b) loaded_out inst r k is
 
 -- A tail call from a frame that saves registers of both files restores them, on the machine with all units, and leaves the code.
 
@@ -223,15 +172,15 @@ module _ {site : Site} (short : length site.bytes < code_limit) (labels : (label
       let rise : low64 (pos n) ≡ n = small_number n (let small = h.small in omega arith) in
       let kept : reg u.ints 2 ≡ reg v.ints 2 = full_other (reg v.ints 2) 2 loads v (stack_kept loads h.registers) in
       subst (λ m. FullComes site m size (full_left frame arguments v) b) over
-      (full_on (full_loads_come short labels allocated (reg v.ints 2) loads offset v b h.registers refl both.0 (subst (λ m. FullCourse site offset m v b) (omega arith) k))
+      (more_steps (full_loads_come short labels allocated (reg v.ints 2) loads offset v b h.registers refl both.0 (subst (λ m. FullCourse site offset m v b) (omega arith) k))
       (λ c k1. subst (λ w. FullComes site (offset + size_of first + size_of rest) size w c) (λ i. set_int u 2 (wrap (kept i + rise i))) (integers_come u c k1.units k1.is_state (step_comes {size = size} allocated (pos n) both.1 (in_course k1)))))
 
   frame_leaves : {start after : ℕ} {v : FullValues} {b : FullState} (space arguments : ℕ) (rest : List Slot) → IsRestorable site.context.frame → v.units ≡ b.units → IsFullState b → Enters site start after (Ask space ∷ Slots (return_slots site.context.flags site.context.frame arguments ++ rest) ∷ []) b.state v.ints → FullLeft site arguments rest v b
   frame_leaves {v = v} {b} space arguments rest h units full e =
       let y = frame_enters space arguments rest e in
       let n = y.offset + size_of (return_slots site.context.flags site.context.frame arguments) in
-      let c = full_on (integers_come v b units full y.comes) (λ c k. return_comes {size = size_of rest} y.allocated arguments h y.returns k) in
-      record { offset = n; comes = c; left = record { allocated = y.allocated; offset = n; stands = y.stands; comes = comes_here (in_course c.course) } }
+      let c = more_steps (integers_come v b units full y.comes) (λ c k. return_comes {size = size_of rest} y.allocated arguments h y.returns k) in
+      record { offset = n; comes = c; left = record { allocated = y.allocated; offset = n; stands = y.stands; comes = comes_here (in_course c.there) } }
 
   module _ {start after : ℕ} {v : FullValues} {b : FullState} (units : v.units ≡ b.units) (full : IsFullState b) where
     pub full_leaves : (setting : EmitVState) (inst : Inst) (tail : TailCall) → Keeps inst → tail_call_of inst ≡ Some tail → is_bad_frame_for site.context.frame (tail_call_of inst) ≡ false → Enters site start after (parts_of site.context setting inst) b.state v.ints →

@@ -1,16 +1,16 @@
 -- Registers of any class get values on the machine with all units, and one of two values is chosen for them.
-use Rattle.std.proofs.Common.{◌≡◌, ◌≢◌, ℕ, suc, arith, refl, sym, ap, ◌+◌, true, nat_eq, List, [], ◌∷◌, Some, ◌∙◌, ◌<◌, if◌then◌else◌, length, lit<, pos, Bool, false, ◌++◌, map, subst, eqb-true, slice_index, not, ◌&&◌, nat_le}
+use Rattle.std.proofs.Common.{rules, ◌≡◌, ◌≢◌, ℕ, suc, arith, refl, sym, ap, ◌+◌, true, nat_eq, List, [], ◌∷◌, Some, ◌∙◌, ◌<◌, if◌then◌else◌, length, lit<, pos, Bool, false, ◌++◌, map, subst, eqb-true, slice_index, not, ◌&&◌, nat_le}
 use Rattle.rv_runs.proofs.Words.{AVirtual, Addi, AllByRecursion, AnswerFits, AreInRange, AreMoves, AreUnits, AreValues, Bind, Branch, Copy, Do, EmitVState, Enters, FullComesOut, FullState, FullValues, Int, IntCC, IntegerCompare, IrType, IsAtPoint, IsFineChoice, IsFullState, IsInRange, IsIntRegister}
 use Rattle.rv_runs.proofs.Words.{IsUsableIn, Keeps, Piece, Real, Reg, RegClass, Rri, Same, SameFull, Select, SelectInfo, Site, Slot, StandIn, StandsIn, Values, Vector, Writable, after, all_of, alu_rri, and_parts, are_values_set, at, at_next, below_30, choice_pieces, chosen, class_of, complement_of}
-use Rattle.rv_runs.proofs.Words.{fiter, fiter_after, fiter_none, freg, full_at, holds, inputs_of, integer_run, is_int_class, is_movable, is_one_of, is_reserved, is_virtual, list_any, move_action, moves_then, nat_tests, next, number_below, number_of, number_row, one, op_of, or_parts, parts_of}
-use Rattle.rv_runs.proofs.Words.{pieces_long, pieces_size, plus_none, point, put, put_all, put_f, put_in, put_units, reads_other, reg, rest, row_next, same_class, same_numbers, same_register, same_set, select_fine, select_pieces, set_freg, set_own, set_reg, set_twice, set_vreg, size_of, slots_of}
-use Rattle.rv_runs.proofs.Words.{unit_row, value_in, value_of, values_of, vreg, wrap, written_in}
+use Rattle.rv_runs.proofs.Words.{freg, full_at, holds, inputs_of, integer_run, is_int_class, is_movable, is_one_of, is_reserved, is_virtual, list_any, move_action, moves_then, nat_tests, next, number_below, number_of, number_row, one, op_of, or_parts, parts_of, pieces_long, pieces_size, plus_none}
+use Rattle.rv_runs.proofs.Words.{point, put, put_all, put_f, put_in, put_units, reads_other, reg, rest, row_next, same_class, same_numbers, same_register, same_set, select_fine, select_pieces, set_freg, set_own, set_reg, set_twice, set_vreg, size_of, slots_of, unit_row, value_in, value_of}
+use Rattle.rv_runs.proofs.Words.{values_of, vreg, wrap, written_in}
 use Rattle.std.proofs.lemmas.List.{get_or-set_other, set-get_or, set-set, set_comm}
 use Rattle.rv_base.specs.declared.regs.RegClass.TheVariants.{Float}
 use Rattle.rv_ops.specs.declared.float_fields.FpuOPWidth.TheVariants.{D}
 use Rattle.rv_full.specs.Rows.{Does}
 use Rattle.rv_code.specs.Evaluation.{to}
-use Rattle.rv_runs.proofs.UnitRuns.{fiter_one, float_set, unit_next_at}
+use Rattle.rv_runs.proofs.UnitRuns.{FullSteps, no_steps, more_steps, fiter_one, float_set, unit_next_at}
 use Rattle.rv_base.specs.declared.value_regs.ValueRegs.{ValueRegs}
 use Rattle.rv_base.specs.declared.value_regs.ValueRegs.TheVariants.{One, Two}
 use Rattle.rv_inst.specs.Generators.{canonical_type}
@@ -87,24 +87,11 @@ pub record IsAtPieces (site : Site) (allocated start end : ℕ) (ps : List Piece
   pub units : b.units ≡ v.units
   pub are_units : AreUnits b.units
 
--- it comes there, takes no answer, and leaves the setting
-pub record ComesToPieces (site : Site) (allocated start end : ℕ) (ps : List Piece) (v : FullValues) (b : FullState) : Type 0 where
-  pub state : FullState
-  pub steps : ℕ
-  pub ran : fiter site.context.flags steps b ≡ Some state
-  pub there : IsAtPieces site allocated start end ps v state
-  pub answers : state.answers ≡ b.answers
-  pub setting : state.units.setting ≡ b.units.setting
+-- it comes there
+abbrev pub ComesToPieces : Site → ℕ → ℕ → ℕ → List Piece → FullValues → FullState → Type 0
+ComesToPieces site allocated start end ps v b = FullSteps site (IsAtPieces site allocated start end ps v) b
 
 module _ {site : Site} {allocated start end : ℕ} where
-  pub stays_there : {ps : List Piece} {v : FullValues} {b : FullState} → IsAtPieces site allocated start end ps v b → ComesToPieces site allocated start end ps v b
-  stays_there {b = b} h = record { state = b; steps = 0; ran = fiter_none site.context.flags b; there = h; answers = refl; setting = refl }
-
-  pub then_comes : {ps qs : List Piece} {v w : FullValues} {b : FullState} → ComesToPieces site allocated start end ps v b → ((c : FullState) → IsAtPieces site allocated start end ps v c → ComesToPieces site allocated start end qs w c) → ComesToPieces site allocated start end qs w b
-  then_comes {b = b} x on =
-      let y = on x.state x.there in
-      record { state = y.state; steps = y.steps + x.steps; ran = fiter_after site.context.flags y.steps x.steps b x.state x.ran ∙ y.ran; there = y.there; answers = y.answers ∙ x.answers; setting = y.setting ∙ x.setting }
-
   -- one piece that has a meaning on integers, and writes no memory
   pub piece_lifts : {b : FullState} {v : FullValues} (whole : List Piece) → StandIn site allocated start end whole → (ps qs : List Piece) (w : Values) → next whole ps v.ints [] ≡ Some (point qs w) → IsAtPieces site allocated start end ps v b → ComesToPieces site allocated start end qs (record { ints = w; units = v.units }) b
   piece_lifts {b} {v} whole k ps qs w e h =
@@ -122,20 +109,12 @@ module _ {site : Site} {allocated start end : ℕ} where
       let exact : nat_eq rs rs ≡ true = grind (arith, nat_tests) in
       let row : unit_row d (values_of b) ≡ Does after = ap (λ c. if c then Does after else number_row target.Float (inputs_of sources.Two d (values_of b)) d (values_of b)) exact in
       let some : 0 < pieces_size flags (Do (Copy D rd rs) ∷ ps) = omega arith in
-      let within = p.within in
       record {
         state = full_at pc after b.answers;
         steps = 1;
         ran = fiter_one flags b (full_at pc after b.answers) (unit_next_at b d [] refl p.here some p.stand.stand.0 ∙ ap (λ r. row_next pc r b.answers) row);
         there = record {
-          ints = record {
-            offset = p.offset + 4;
-            within = omega arith;
-            here = at_next 4 (at pc b.state.values) p.here refl refl p.here.placed;
-            stand = rest (Do (Copy D rd rs)) ps p.stand;
-            is_state = record { pc = omega arith; values = p.is_state.values };
-            values = p.values;
-          };
+          ints = record { offset = p.offset + 4; within = omega arith; here = at_next 4 (at pc b.state.values) p.here refl refl p.here.placed; stand = rest (Do (Copy D rd rs)) ps p.stand; is_state = search (rules, arith, p); values = p.values };
           units = ap (λ u. set_freg u rd (freg u rs)) h.units;
           are_units = float_set b.units rd (freg b.units rs) h.are_units p.stand.ranges.0 (h.are_units.float_fits rs);
         };
@@ -456,34 +435,16 @@ pub is_fair : (dst : ValueRegs (Writable Reg)) (condition : IntegerCompare) (x y
 is_fair (One r) condition (One a) (One b) k =
     let m = select_fine (One r) condition (One a) (One b) k in
     let all = are_free (r.reg ∷ condition.rs1 ∷ condition.rs2 ∷ a ∷ b ∷ []) k.real k.free in
-    record {
-      fine = m;
-      results = (all.0, tt);
-      x_free = (all.1.1.1.0, tt);
-      y_free = all.1.1.1.1;
-      x_ordered = (tt, tt);
-      y_ordered = (tt, tt);
-      over = λ e v. moved_over v (r.reg ∷ []) (a ∷ []) (b ∷ []) (tt, tt) (tt, tt) (tt, tt) ((other_number r.reg b e m.y.0.class, tt), tt) refl;
-      compared_free = (all.1.0, (all.1.1.0, tt));
-      compared_apart = (is_apart r.reg (condition.rs1 ∷ condition.rs2 ∷ []) all.0 (all.1.0, (all.1.1.0, tt)) k.apart, tt);
-    }
+    let apart = is_apart r.reg (condition.rs1 ∷ condition.rs2 ∷ []) all.0 (all.1.0, (all.1.1.0, tt)) k.apart in
+    search (rules, m, all, apart, moved_over, other_number)
 is_fair (Two r s) condition (Two a b) (Two e f) k =
     let inputs = condition.rs1 ∷ condition.rs2 ∷ a ∷ b ∷ e ∷ f ∷ [] in
     let all = are_free (r.reg ∷ s.reg ∷ inputs) k.real k.free in
     let clashes = or_parts (is_one_of r.reg (s.reg ∷ inputs)) _ k.apart in
     let of_r = is_apart r.reg (s.reg ∷ inputs) all.0 all.1 clashes.0 in
     let of_s = is_apart s.reg inputs all.1.0 all.1.1 (or_parts (is_one_of s.reg inputs) _ clashes.1).0 in
-    record {
-      fine = select_fine (Two r s) condition (Two a b) (Two e f) k;
-      results = (all.0, (all.1.0, tt));
-      x_free = (all.1.1.1.1.0, (all.1.1.1.1.1.0, tt));
-      y_free = all.1.1.1.1.1.1;
-      x_ordered = ((of_r.1.1.1.1.0, tt), (tt, tt));
-      y_ordered = ((of_r.1.1.1.1.1.1.0, tt), (tt, tt));
-      over = λ test v. moved_over v (r.reg ∷ s.reg ∷ []) (a ∷ b ∷ []) (e ∷ f ∷ []) ((of_r.0, tt), (tt, tt)) ((of_r.1.1.1.1.0, tt), (tt, tt)) ((of_r.1.1.1.1.1.1.0, tt), (tt, tt)) (of_r.1.1.1.1.1, (of_s.1.1.1.1, tt)) refl;
-      compared_free = (all.1.1.0, (all.1.1.1.0, tt));
-      compared_apart = ((of_r.1.0, (of_r.1.1.0, tt)), ((of_s.0, (of_s.1.0, tt)), tt));
-    }
+    let fine = select_fine (Two r s) condition (Two a b) (Two e f) k in
+    search (rules, fine, all, of_r, of_s, moved_over) depth 8
 is_fair dst condition x y k = absurd (cc)
 
 -- ---- the instruction
@@ -518,8 +479,8 @@ full_select {site} setting info {start} {after} {v} {b} k e units is_state =
       pc = let pc = p.here.pc in let ends = p.stand.ends in omega arith;
       same = record { ints = same_but [] (subst (Same (chosen info v).ints) (sym p.values) made.ints); units = made.units ∙ sym c.there.units };
       are_values = chosen_fits info h v e.are_values;
-      is_state = record { state = p.is_state; units = c.there.are_units; answers = subst (AllByRecursion AnswerFits) (sym c.answers) is_state.answers };
-      answers = sym c.answers;
+      is_state = record { state = p.is_state; units = c.there.are_units; answers = subst (AllByRecursion AnswerFits) c.answers is_state.answers };
+      answers = c.answers;
       setting = c.setting;
       placed = p.here.placed;
     }
@@ -548,9 +509,8 @@ full_select {site} setting info {start} {after} {v} {b} k e units is_state =
     c : ComesToPieces site e.stands.0 start after [] (chosen info w) b
     c =
         let ends = stand.ends in
-        let within = e.within in
         choice_comes info h (λ c. Unit {0}) (λ ps u. (x : FullState) → IsAtPieces site e.stands.0 start after ps u x → ComesToPieces site e.stands.0 start after [] (chosen info w) x)
-        (λ ps qs u z step on x at. then_comes (piece_lifts whole stand ps qs z step at) on) (λ rd rs ps u allowed on x at. then_comes (piece_copies rd rs ps at) on) w (all_allowed (written_in info.dst)) e.is_state.values (λ x at. stays_there at) b (record {
+        (λ ps qs u z step on x at. more_steps (piece_lifts whole stand ps qs z step at) on) (λ rd rs ps u allowed on x at. more_steps (piece_copies rd rs ps at) on) w (all_allowed (written_in info.dst)) e.is_state.values (λ x at. no_steps at) b (record {
           ints = record { offset = start; within = omega arith; here = record { even = e.even; room = omega arith; placed = e.placed; pc = e.pc }; stand = stand; is_state = e.is_state; values = refl };
           units = refl;
           are_units = is_state.units;

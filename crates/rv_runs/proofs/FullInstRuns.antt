@@ -105,12 +105,11 @@ module _ {e f : Environment} (v : FullValues) where
   memory_same entry Nop0 a = integers_same entry Nop0 a
   memory_same entry inst a = integers_same entry inst a
 
+  operation_same : (inst : Inst) → AgreeOn (named_labels (Put inst)) e f → operation_of (context_by e.flags e.frame []) inst ≡ operation_of (context_by f.flags f.frame []) inst
+  operation_same inst a = λ i. operation_of (context_by (a.flags i) (a.frame i) []) inst
+
   move_same : (inst : Inst) → AgreeOn (named_labels (Put inst)) e f → MeansSame (of_float_move inst) e f v
-  move_same inst a = record {
-    takes = λ answers. (λ i. row_takes (move_row (operation_of (context_by (a.flags i) (a.frame i) []) inst) v) answers);
-    writes = λ answers. refl;
-    own = λ i. answers_of (move_row (operation_of (context_by (a.flags i) (a.frame i) []) inst) v);
-  }
+  move_same inst a = record { takes = λ answers. ap (λ o. row_takes (move_row o v) answers) (operation_same inst a); writes = λ answers. refl; own = ap (λ o. answers_of (move_row o v)) (operation_same inst a) }
 
   integer_same : (entry : Entry) (inst : Inst) → AgreeOn (named_labels (Put inst)) e f → MeansSame (of_integer entry inst) e f v
   integer_same entry (Mov rd rm type) a = either_same (is_float rd.reg) (of_float_move (Mov rd rm type)) (of_integers entry (Put (Mov rd rm type))) (move_same (Mov rd rm type) a) (integers_same entry (Mov rd rm type) a)
@@ -127,11 +126,7 @@ module _ {e f : Environment} (v : FullValues) where
   call_same AtReturn inst a = record { takes = λ answers. (λ i. Some (call_returned (return_of (a.flags i) inst) v, answers)); writes = λ answers. refl; own = refl }
 
   unit_same : (entry : Entry) (inst : Inst) → AgreeOn (named_labels (Put inst)) e f → MeansSame (of_unit entry inst) e f v
-  unit_same AtStart inst a = record {
-    takes = λ answers. (λ i. row_takes (operation_row (operation_of (context_by (a.flags i) (a.frame i) []) inst) v) answers);
-    writes = λ answers. refl;
-    own = λ i. answers_of (operation_row (operation_of (context_by (a.flags i) (a.frame i) []) inst) v);
-  }
+  unit_same AtStart inst a = record { takes = λ answers. ap (λ o. row_takes (operation_row o v) answers) (operation_same inst a); writes = λ answers. refl; own = ap (λ o. answers_of (operation_row o v)) (operation_same inst a) }
   unit_same AtReturn inst a = record { takes = λ answers. refl; writes = λ answers. refl; own = refl }
 
   by_family : (family : Family) (entry : Entry) (inst : Inst) → AgreeOn (named_labels (Put inst)) e f → MeansSame (meaning_by family entry inst) e f v

@@ -1,12 +1,13 @@
 -- Loads, stores, addresses and constants: where the code before an access comes, and what comes of the access.
-use Rattle.std.proofs.Common.{◌≢◌, ◌≤◌, ◌%◌, lit<, lit≤, append-nil, ◌≡◌, ℕ, ◌+◌, ◌<◌, ℤ, pos, List, [], ◌∷◌, ◌++◌, Option, arith, refl, sym, ap, subst, ◌∙◌, Bool, true, false, Some, None, nat_eq, if◌then◌else◌, zero, suc, eqb-true, ◌^◌, length, ◌||◌, ◌/◌}
-use Rattle.rv_runs.proofs.Words.{AMode, Aim, AllByRecursion, AnswerFits, AreOutside, AreShort, AreUnits, AreValues, AtConstant, AtLabel, Based, BytesAt, CodeHas, ComesOut, Decoded, EmitVState, Enters, FullComesOut, FullState, FullValues, HasSize, IrType, IsApartAt, IsAt, IsIntegerLoad}
-use Rattle.rv_runs.proofs.Words.{IsIntegerStore, IsPlacedAt, IsRealAt, IsUsable, IsUsableAt, IsaFlags, Label, Load, LoadInlineConst, LoadOP, Location, MachLabel, MemFlagsData, Names, Next, Op, PCRelLo12I, Part, PartsStand, Reg, SameBut, SameFull, Sets, Site, Slot, StandsIn, State, Store, StoreOP}
-use Rattle.rv_runs.proofs.Words.{TrapCode, Units, Values, Writable, access_slots, act, act_on, address_at, address_even, address_fits, address_goes, address_same, address_slots, addresses_from, are_values_set, at, between, byte, cast_signed, decoded_load, decoded_store, eight_there, environment}
-use Rattle.rv_runs.proofs.Words.{extend_word, fiter_after, fnext, full_at, goes_at_least, goes_none, goes_second, half_load_slots, half_store_slots, has_integer_load, has_integer_store, inline_goes, inline_size, inline_slots, integer_load, integer_run, integer_store, is_among, is_near, is_word_type}
-use Rattle.rv_runs.proofs.Words.{jump_size, label_address, label_base, label_load_slots, load_bytes, load_fits, load_op, load_result, load_row, load_same, load_sized, load_slots, location_of, low64, lower_of_distance, nat_tests, number_of, or_parts, placed_after, plus_none, put, put_bytes}
-use Rattle.rv_runs.proofs.Words.{put_values, reads_back, reads_other, reg, row_next, set_at, set_reg, short_load, short_load_either, short_store, short_store_either, shorter, size_append, size_of, slots_alone, spare_set, stands_split, step_at, store_bytes, store_op, store_row, store_size}
-use Rattle.rv_runs.proofs.Words.{store_sized, store_slots, stored_bytes, stored_length, to_le_bytes, unit_row, upper_goes, wrap}
+use Rattle.std.proofs.Common.{◌≢◌, ◌≤◌, ◌%◌, lit<, lit≤, append-nil, ◌≡◌, ℕ, ◌+◌, ◌<◌, ℤ, pos, List, [], ◌∷◌, ◌++◌, Option, arith, refl, sym, ap, subst, ◌∙◌, Bool, true, false, Some, None, nat_eq, if◌then◌else◌, zero, suc, ◌^◌, length, ◌||◌, ◌/◌}
+use Rattle.rv_runs.proofs.Words.{equals_itself, temporary_set, AMode, Aim, AllByRecursion, AnswerFits, AreOutside, AreShort, AreUnits, AreValues, AtConstant, AtLabel, Based, BytesAt, CodeHas, ComesOut, Decoded, EmitVState, Enters, FullComesOut, FullState, FullValues, HasSize, IrType, IsApartAt}
+use Rattle.rv_runs.proofs.Words.{IsAt, IsIntegerLoad, IsIntegerStore, IsPlacedAt, IsRealAt, IsUsable, IsUsableAt, IsaFlags, Label, Load, LoadInlineConst, LoadOP, Location, MachLabel, MemFlagsData, Names, Next, Op, PCRelLo12I, Part, PartsStand, Reg, SameBut, SameFull, Sets, Site, Slot, StandsIn}
+use Rattle.rv_runs.proofs.Words.{State, Store, StoreOP, TrapCode, Units, Values, Writable, access_slots, act, act_on, address_at, address_even, address_fits, address_goes, address_same, address_slots, addresses_from, are_values_set, at, between, byte, cast_signed, decoded_load, decoded_store}
+use Rattle.rv_runs.proofs.Words.{eight_there, environment, extend_word, fiter_after, fnext, full_at, goes_at_least, goes_none, goes_second, half_load_slots, half_store_slots, has_integer_load, has_integer_store, inline_goes, inline_size, inline_slots, integer_load, integer_run, integer_store}
+use Rattle.rv_runs.proofs.Words.{is_among, is_near, is_word_type, jump_size, label_address, label_base, label_load_slots, load_bytes, load_fits, load_op, load_result, load_row, load_same, load_sized, load_slots, location_of, low64, lower_of_distance, nat_tests, number_of, or_parts, placed_after}
+use Rattle.rv_runs.proofs.Words.{plus_none, put, put_bytes, put_values, reads_back, reads_other, reg, row_next, set_at, set_reg, short_load, short_load_either, short_store, short_store_either, shorter, size_append, size_of, slots_alone, spare_set, stands_split, step_at, store_bytes, store_op}
+use Rattle.rv_runs.proofs.Words.{store_row, store_size, store_sized, store_slots, stored_bytes, stored_length, to_le_bytes, unit_row, upper_goes, wrap}
+use Rattle.rv_code.proofs.Registers.{own_set as set_beside}
 use Rattle.rv_runs.proofs.Exits.{SlotsOut, RunsHere, writes_beside, same_but, starts_at, comes_out}
 use Rattle.rv_machine.specs.State.{Memory}
 use Rattle.rv_machine.specs.declared.ops.MOp.{MOp}
@@ -83,9 +84,6 @@ near_ready : {site : Site} {start after : ℕ} {s : State} {v : Values} (free : 
 near_ready {site} {start} {s = s} free trap d r o x size based e =
     let long = access_size trap (Op d ∷ []) in
     let h = starts_at (access_slots trap ++ Op d ∷ []) e in
-    let pc = e.is_state.pc in
-    let room = h.room in
-    let ends = e.stands.2 in
     let stays : s.pc ≡ wrap (s.pc + 0) = omega arith in
     let none : start ≡ start + 0 = omega arith in
     record {
@@ -123,7 +121,6 @@ far_ready {site} {start} {after} {s} {v} free loc trap d four x based e =
     let long : size_of (access_after site.context.flags loc trap d) ≡ k + 4 = size_append (slots ++ access_slots trap) (Op d ∷ []) ∙ (λ i. before i + (four i + 0)) in
     let whole : IsAt site start (k + 4) s = shorter (k + 4) (starts_at (access_after site.context.flags loc trap d) e) (omega arith) in
     let both = stands_split site e.stands.0 start (slots ++ access_slots trap) (Op d ∷ []) e.stands.1 in
-    let ends = e.stands.2 in
     let fits = address_fits site start after s.values loc in
     record {
       operation = d;
@@ -177,7 +174,6 @@ label_ready {site} {start} {s = s} free rd op r l trap base e =
     let last = Aim PCRelLo12I (Label l) (λ z. decoded_load op rd r (lower_of_distance z) ∷ []) ∷ [] in
     let slots = label_load_slots r rd op trap l in
     let long : 8 ≡ size_of slots = (let rest = access_size trap last in omega arith) in
-    let ends = e.stands.2 in
     let h = shorter 8 (starts_at slots e) (omega arith) in
     let a = e.stands.1.0 in
     let b = (after_access site e.stands.0 (start + 4) trap last e.stands.1.1).0 in
@@ -287,22 +283,18 @@ last_out : {site : Site} {start after : ℕ} {free : List ℕ} {d : Decoded} {v 
     AreValues made → AreValues w → IsPlacedAt site w.mem → ComesOut site start after Next [] made s
 last_out {d = d} {s = s} y w acts same are_values written placed =
     let t = at (wrap (wrap (s.pc + y.size) + d.len)) w in
-    let pc = y.here.pc in
     comes_out t (goes_at_least (lit≤ tt) (goes_second y.goes (step_at d [] t y.here y.some y.has acts))) (omega arith) (record { same = same; is_state = record { pc = omega arith; values = written }; are_values = are_values; placed = placed })
 
 -- ---- loads
 
 -- what a register held that is loaded
-own_set : (v w : Values) (n x : ℕ) → AreValues v → AreValues w → n < 32 → SameBut (n ∷ []) v w → SameBut [] (set_reg v n x) (set_reg w n x)
-own_set v w n x hv hw lt same = record { regs = λ m below other. read n m x lt (nat_eq n m) refl (λ test. same.regs m below (λ i. test i || false)); mem = same.mem }
+own_set : (v w : Values) (n x : ℕ) → AreValues v → AreValues w → n < 30 → SameBut (n ∷ []) v w → SameBut [] (set_reg v n x) (set_reg w n x)
+own_set v w zero x hv hw lt same = record { regs = zero_same; mem = same.mem }
   where
-    differ : (n m : ℕ) → nat_eq n m ≡ false → m ≢ n
-    differ n m test = grind (arith, nat_tests)
-
-    read : (n m x : ℕ) → n < 32 → (own : Bool) → nat_eq n m ≡ own → (nat_eq n m ≡ false → reg v m ≡ reg w m) → reg (set_reg v n x) m ≡ reg (set_reg w n x) m
-    read zero m x lt true test e = subst (λ k. reg v k ≡ reg w k) (eqb-true 0 m test) refl
-    read (suc n) m x lt true test e = subst (λ k. reg (set_reg v (suc n) x) k ≡ reg (set_reg w (suc n) x) k) (eqb-true (suc n) m test) (reads_back v (suc n) x hv (omega arith) lt ∙ sym (reads_back w (suc n) x hw (omega arith) lt))
-    read n m x lt false test e = let other : m ≢ n = differ n m test in reads_other v n m x other ∙ e test ∙ sym (reads_other w n m x other)
+    zero_same : (m : ℕ) → m < 30 → is_among [] m ≡ false → reg v m ≡ reg w m
+    zero_same zero below other = refl
+    zero_same (suc m) below other = same.regs (suc m) below (grind (arith, nat_tests))
+own_set v w (suc n) x hv hw lt same = set_beside v (set_reg w (suc n) x) (suc n) x hv (omega arith) lt (reads_back w (suc n) x hw (omega arith) (omega arith)) (temporary_set v w (suc n) x (λ i. equals_itself (suc n) i || false) same)
 
 load_out : {site : Site} {start after : ℕ} {s : State} {v : Values} (rd : ℕ) (op : LoadOP) (loc : Location) (trap : Option TrapCode) → IsIntegerLoad op → rd < 30 → IsUsableAt loc → IsRealAt rd loc →
     SlotsOut site start after (load_slots site.context.flags rd op trap loc) s v [] (set_reg v rd (load_result (load_op op) v.mem (address_at (environment site start after) v loc)))
@@ -316,7 +308,7 @@ load_out {site} {start} {after} {s} {v} rd op loc trap integer usable based real
     let fits : x < 2 ^ 64 = load_fits (load_op op) v.mem a e.are_values.bytes in
     let same = sym (load_same (load_op op) v.mem b.values.mem a b.same.mem) in
     last_out b (set_reg b.values rd x) (ap (λ o. act_on o d t) (y.is ∙ integer_load op integer) ∙ (λ i. Some (at (wrap (t.pc + d.len)) (set_reg b.values (y.register i) (load_result (load_op op) b.values.mem (y.address i))))) ∙ ap (λ n. Some (at (wrap (t.pc + d.len)) (set_reg b.values rd n))) same)
-    (own_set v b.values rd x e.are_values b.written (omega arith) b.same) (are_values_set v rd x e.are_values (omega arith) fits) (are_values_set b.values rd x b.written (omega arith) fits) b.here.placed
+    (own_set v b.values rd x e.are_values b.written usable b.same) (are_values_set v rd x e.are_values (omega arith) fits) (are_values_set b.values rd x b.written (omega arith) fits) b.here.placed
 
 pub load_runs : (site : Site) (setting : EmitVState) (start after : ℕ) (s : State) (v : Values) (rd : Writable Reg) (op : LoadOP) (flags : MemFlagsData) (from : AMode) → IsIntegerLoad op → IsUsable rd.reg → IsUsableAt (location_of site.context.frame from) →
     IsRealAt (number_of rd.reg) (location_of site.context.frame from) → RunsHere site setting (Load rd op flags from) start after s v
@@ -384,9 +376,6 @@ four_there mem a w fits at =
 
 -- ---- the code
 
-word_fits : (n : ℕ) → extend_word n < 2 ^ 64
-word_fits n = extended_fits w32 (n % 2 ^ 32) tt
-
 -- what the load reads is what it leaves in the register
 inline_out : {site : Site} {start after : ℕ} {s : State} {v : Values} (n size x : ℕ) (op : LoadOP) (bytes : List ℕ) → IsIntegerLoad op → 0 < n → n < 30 → x < 2 ^ 64 → 0 < size → size < 16 → length bytes ≡ size →
     ((mem : Memory) (a : ℕ) → BytesAt mem a bytes → load_result (load_op op) mem a ≡ x) → SlotsOut site start after (inline_slots site.context.flags n op size bytes) s v [] (set_reg v n x)
@@ -397,7 +386,7 @@ inline_out {site} n size x op bytes integer some usable fits filled little long 
 
 pub constant_runs : (site : Site) (setting : EmitVState) (start after : ℕ) (s : State) (v : Values) (rd : Writable Reg) (type : IrType) (imm : ℕ) → IsUsable rd.reg → 0 < number_of rd.reg → is_word_type type ≡ true → RunsHere site setting (LoadInlineConst rd type imm) start after s v
 constant_runs site setting start after s v rd I32 imm h some word e clear =
-    inline_out (number_of rd.reg) 4 (extend_word imm) loads.Lw (to_le_bytes w32 (imm % 2 ^ 32)) refl some h.1 (word_fits imm) (lit< tt) (lit< tt) refl
+    inline_out (number_of rd.reg) 4 (extend_word imm) loads.Lw (to_le_bytes w32 (imm % 2 ^ 32)) refl some h.1 (extended_fits w32 (imm % 2 ^ 32) tt) (lit< tt) (lit< tt) refl
     (λ mem a there. ap (λ m. low64 (cast_signed w32 m)) (four_there mem a (imm % 2 ^ 32) (omega arith) there)) e
 constant_runs site setting start after s v rd I64 imm h some word e clear = inline_out (number_of rd.reg) 8 (wrap imm) loads.Ld (to_le_bytes w64 imm) refl some h.1 (omega arith) (lit< tt) (lit< tt) refl (λ mem a there. eight_there mem a imm there) e
 constant_runs site setting start after s v rd _ imm h some word e clear = absurd (cc)

@@ -1,12 +1,12 @@
 -- Instructions that become one operation, on either machine.
-use Rattle.std.proofs.Common.{⊎_elim, ◌≡◌, ℕ, ◌+◌, Bool, true, false, List, [], ◌∷◌, ◌++◌, Option, Some, None, pos, refl, ap, subst, lit<, nat_eq, if◌then◌else◌, not, ◌&&◌, sym, ◌∙◌, ◌⊎◌, ◌*◌, ◌<◌, arith, inl, inr, lit≤, unwrap_or}
-use Rattle.rv_runs.proofs.Words.{Action, Addi, AluRRImm12, AluRRR, Andi, Answer, AreUsableIn, AtStart, Auipc, Based, CodeHas, Context, Decoded, Do, EBreak, EmitVState, EndsAsMeant, Enters, Exit, Extend, Faults, FullComesOut, FullEnds, FullMeaning, FullState, FullValues, FullyAsks, Inst, Int, IrType}
-use Rattle.rv_runs.proofs.Words.{IsAt, IsFullState, IsIntegerLoad, IsIntegerStore, IsPlacedAt, IsUnit, IsaFlags, Jalr, Load, LoadAddr, LoadOP, Location, Lui, Mov, MovFromPReg, Next, Nop4, Op, Part, PartsStand, Piece, Put, Reg, RegClass, Ret, Row, RowAsks, RowGoes, RowsAgree, Rri, SameFull, Sign}
-use Rattle.rv_runs.proofs.Words.{Site, Slot, State, Store, StoreOP, TrapCode, UnitWord, Vector, Writable, access_slots, act, acts_integer, address_operation, address_slots, answers_of, are_usable_in, class_of, context_by, environment, family_of, fetch, fiter_none, fnext, format_of, full_at}
-use Rattle.rv_runs.proofs.Words.{has_load, has_store, inst_exit, inst_meaning, inst_rule, inst_temporaries, integer_decodes, is_byte, is_float, is_float_class, is_float_load, is_float_store, is_integer_family, is_integer_op, is_near, is_reserved, is_unit, is_virtual, keeps, list_any}
-use Rattle.rv_runs.proofs.Words.{load_line_operation, load_line_slots, load_operation, load_slots, location_of, meaning_by, move_action, move_op, move_operation, move_pieces, move_row, not_true, number_below, number_of, of_float_move, of_integers, op_of, operands_of, operation_of, operation_row}
-use Rattle.rv_runs.proofs.Words.{parts_of, row_next, row_takes, same_Some, short_ebreak_is, short_jalr_does, short_load_does, short_lui_does, short_rri_does, short_rrr_does, short_store_does, slots_alone, slots_of, store_line_operation, store_line_slots, store_operation, store_slots, unit_parts}
-use Rattle.rv_runs.proofs.Words.{unit_row, values_of, width_of, wrap, zero_at}
+use Rattle.std.proofs.Common.{rules, ⊎_elim, ◌≡◌, ℕ, ◌+◌, Bool, true, false, List, [], ◌∷◌, ◌++◌, Option, Some, None, pos, refl, ap, subst, lit<, nat_eq, if◌then◌else◌, not, ◌&&◌, sym, ◌∙◌, ◌⊎◌, ◌*◌, ◌<◌, arith, inl, inr, unwrap_or}
+use Rattle.rv_runs.proofs.Words.{Environment, goes_none, Action, Addi, AluRRImm12, AluRRR, Andi, Answer, AreUsableIn, AtStart, Auipc, Based, CodeHas, Context, Decoded, Do, EBreak, EmitVState, EndsAsMeant, Enters, Exit, Extend, Faults, FullComesOut, FullEnds, FullMeaning, FullState, FullValues}
+use Rattle.rv_runs.proofs.Words.{FullyAsks, Inst, Int, IrType, IsAt, IsFullState, IsIntegerLoad, IsIntegerStore, IsPlacedAt, IsUnit, IsaFlags, Jalr, Load, LoadAddr, LoadOP, Location, Lui, Mov, MovFromPReg, Next, Nop4, Op, Part, PartsStand, Piece, Put, Reg, RegClass, Ret, Row, RowAsks, RowGoes}
+use Rattle.rv_runs.proofs.Words.{RowsAgree, Rri, SameFull, Sign, Site, Slot, State, Store, StoreOP, TrapCode, UnitWord, Vector, Writable, access_slots, act, acts_integer, address_operation, address_slots, answers_of, are_usable_in, class_of, context_by, environment, family_of, fetch, fiter_none}
+use Rattle.rv_runs.proofs.Words.{fnext, format_of, full_at, has_load, has_store, inst_exit, inst_meaning, inst_rule, inst_temporaries, integer_decodes, is_byte, is_float, is_float_class, is_float_load, is_float_store, is_integer_family, is_integer_op, is_near, is_reserved, is_unit, is_virtual}
+use Rattle.rv_runs.proofs.Words.{keeps, list_any, load_line_operation, load_line_slots, load_operation, load_slots, location_of, meaning_by, move_action, move_op, move_operation, move_pieces, move_row, not_true, number_below, number_of, of_float_move, of_integers, op_of, operands_of, operation_of}
+use Rattle.rv_runs.proofs.Words.{operation_row, parts_of, row_next, row_takes, same_Some, short_ebreak_is, short_jalr_does, short_load_does, short_lui_does, short_rri_does, short_rrr_does, short_store_does, slots_alone, slots_of, store_line_operation, store_line_slots, store_operation, store_slots}
+use Rattle.rv_runs.proofs.Words.{unit_parts, unit_row, values_of, width_of, wrap, zero_at}
 use Rattle.rv_base.specs.declared.regs.RegClass.TheVariants.{Float}
 use Rattle.rv_machine.specs.State.{Memory}
 use Rattle.rv_machine.specs.Decode.{decode, int_decode}
@@ -15,8 +15,9 @@ use Rattle.rv_inst.specs.Core.{is_integer}
 use Rattle.rv_runs.proofs.UnitRuns.{parts_are, fiter_one, row_comes, shape_agrees, unit_next_at, unit_operation}
 use Rattle.rv_code.proofs.OperationActs.{Does}
 use Rattle.rv_ops.specs.declared.float_fields.FpuOPWidth.TheVariants.{D}
-use Rattle.rv_runs.proofs.Exits.{same_but}
-use Rattle.rv_code.proofs.Steps.{iter_none}
+use Rattle.rv_runs.proofs.PlainRuns.{nothing_out}
+use Rattle.rv_runs.proofs.FullCallRuns.{ends_at_once}
+use Rattle.rv_runs.proofs.Exits.{same_but, comes_out}
 
 -- An instruction of one machine word becomes one operation, which is read where it starts.
 
@@ -149,17 +150,7 @@ out_at_end {site} {after} {made} {took} {b} start inst v g exit takes = record {
     steps = g.steps;
     state = g.state;
     ran = g.ran;
-    last = record {
-      steps = 0;
-      state = g.state.state;
-      moved = lit≤ tt;
-      ran = iter_none site.context.flags g.state.state;
-      arrives = g.pc;
-      same = g.same.ints;
-      is_state = g.is_state.state;
-      are_values = g.are_values;
-      placed = g.placed;
-    };
+    last = comes_out g.state.state (goes_none site.context.flags g.state.state) g.pc (search (rules, g));
     units = g.same.units;
     is_state = g.is_state;
     answers = g.answers;
@@ -169,14 +160,12 @@ out_at_end {site} {after} {made} {took} {b} start inst v g exit takes = record {
 
 -- ---- rows
 
--- an instruction that means what one operation's row does
+-- an instruction that means what a row does, and one operation's
+abbrev of_row : (Environment → FullValues → Row) → FullMeaning
+of_row row = record { takes = λ env v answers. row_takes (row env v) answers; writes = λ env v answers. []; own_answers = λ env v. answers_of (row env v); own_of = λ took. took }
+
 abbrev of_operation : Decoded → FullMeaning
-of_operation d = record {
-  takes = λ env v answers. row_takes (unit_row d v) answers;
-  writes = λ env v answers. [];
-  own_answers = λ env v. answers_of (unit_row d v);
-  own_of = λ took. took;
-}
+of_operation d = of_row (λ env v. unit_row d v)
 
 -- The operation is all of the instruction's code, none of integers, and its rows agree; the instruction means its row, and goes on.
 record IsRow (site : Site) (start after : ℕ) (inst : Inst) (d : Decoded) (v : FullValues) (b : FullState) : Type 0 where
@@ -254,12 +243,7 @@ unit_runs {site} {start} {after} {v} {b} setting inst u rule e same full =
       ends = unit_ends site start after u.word operation.long parts;
       none = operation.none b.state;
       agree = operation.agrees v (values_of b) same e.are_values full.state.values full.units usable;
-      means = ap (λ f. meaning_by f AtStart inst) u.family ∙ (λ k. record {
-        takes = λ env v answers. row_takes (operation_row (u.code (context_by env.flags env.frame []) k).operation v) answers;
-        writes = λ env v answers. [];
-        own_answers = λ env v. answers_of (operation_row (u.code (context_by env.flags env.frame []) k).operation v);
-        own_of = λ took. took;
-      });
+      means = ap (λ f. meaning_by f AtStart inst) u.family ∙ (λ k. of_row (λ env v. operation_row (u.code (context_by env.flags env.frame []) k).operation v));
       temporaries = u.temporaries;
       exit = u.exit (environment site start after) v.ints;
     })
@@ -300,20 +284,12 @@ module _ {site : Site} {start after : ℕ} {v : FullValues} {b : FullState} (set
       by : (own : Bool) → nat_eq to from ≡ own → ComesAsMeant site start after inst v b
       by true test =
           let p = parts true test in
-          let out : FullComesOut site after [] v [] b = record {
-            steps = 0;
-            state = b;
-            ran = fiter_none site.context.flags b;
-            pc = let here = e.pc in let ends = p.2 in omega arith;
-            same = record { ints = same_but [] same.ints; units = same.units };
-            are_values = e.are_values;
-            is_state = full;
-            answers = refl;
-            setting = refl;
-            placed = e.placed;
-          } in
-          inl (out_at_end start inst v out refl
-          (ap (λ (m : FullMeaning). m.takes (environment site start after) v (m.own_of [])) means ∙ ap (λ c. row_takes (move_row (if c then None else Some (move_op site.context.flags (class_of rd.reg) type to from)) v) []) test))
+          inl (record {
+            took = [];
+            made = v;
+            takes = ap (λ (m : FullMeaning). m.takes (environment site start after) v (m.own_of [])) means ∙ ap (λ c. row_takes (move_row (if c then None else Some (move_op site.context.flags (class_of rd.reg) type to from)) v) []) test;
+            ends = ends_at_once v same.units full (nothing_out (let ends = p.2 in omega arith) e);
+          })
       by false test =
           let p = parts false test in
           row_runs inst e full d (record {
@@ -322,12 +298,7 @@ module _ {site : Site} {start after : ℕ} {v : FullValues} {b : FullState} (set
             ends = let ends = p.2 in omega arith;
             none = refl;
             agree = shape_agrees d v (values_of b) same e.are_values full.state.values full.units Sign (format_of (unwrap_or (width_of type) D)) (number_below rd.reg);
-            means = means ∙ (λ k. record {
-              takes = λ env v answers. row_takes (move_row (if test k then None else Some (move_op env.flags (class k) type to from)) v) answers;
-              writes = λ env v answers. [];
-              own_answers = λ env v. answers_of (move_row (if test k then None else Some (move_op env.flags (class k) type to from)) v);
-              own_of = λ took. took;
-            });
+            means = means ∙ (λ k. of_row (λ env v. move_row (if test k then None else Some (move_op env.flags (class k) type to from)) v));
             temporaries = refl;
             exit = refl;
           })

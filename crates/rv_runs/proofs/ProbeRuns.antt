@@ -1,8 +1,8 @@
 -- The stack is probed, from the farthest guard on.
-use Rattle.std.proofs.Common.{◌≡◌, ℕ, zero, suc, ◌+◌, ◌-◌, ◌*◌, ◌%◌, ◌^◌, ◌<◌, ◌≤◌, pos, Bool, true, false, List, [], ◌∷◌, ◌++◌, map, length, Some, arith, refl, sym, ap, subst, ◌∙◌, lit<, lit≤, eqb-true, nat_lt, if◌then◌else◌, not, ◌==◌, ◌-ℤ◌}
+use Rattle.std.proofs.Common.{rules, ◌≡◌, ℕ, zero, suc, ◌+◌, ◌-◌, ◌*◌, ◌%◌, ◌^◌, ◌<◌, ◌≤◌, pos, Bool, true, false, List, [], ◌∷◌, ◌++◌, map, length, Some, arith, refl, sym, ap, subst, ◌∙◌, lit<, lit≤, eqb-true, nat_lt, if◌then◌else◌, not, ◌==◌, ◌-ℤ◌}
 use Rattle.rv_runs.proofs.Words.{AreOutside, AreValues, CodeHas, ComesOut, Decoded, Enters, InCourse, IsAt, IsProbe, IsaFlags, Next, Op, SameBut, Sb, Site, Slot, StandsIn, State, Sub, Values, at, at_next, back_number, bits_back, cast_signed, comes_on, decoded_bgeu, goes_ahead, goes_at_least}
 use Rattle.rv_runs.proofs.Words.{goes_back, jump_acts, jump_len, jump_size, least_even, least_few, least_some, low64, mul-lt, mul_comm, nat_tests, not_below, number_comes, number_slots, placed_after, probe_slots, probes_from, probes_of, put_bytes, put_values, reads_back, reads_other, reg}
-use Rattle.rv_runs.proofs.Words.{rrr_writes, set_reg, short_jump, size_append, size_of, slots_alone, small_number, spare_set, stands_split, step_at, store_acts, temporary_set, wrap, zero_bytes}
+use Rattle.rv_runs.proofs.Words.{rrr_writes, short_jump, size_append, size_of, slots_alone, small_number, spare_set, stands_split, step_at, store_acts, temporary_set, wrap, zero_bytes}
 use Rattle.std.specs.Int.{w64}
 use Rattle.std.proofs.lemmas.Bool.{lt-ltb}
 use Rattle.rv_code.specs.Probes.{probe_op, zero_op, nearer_op, probe_turn, probe_turn_size}
@@ -40,42 +40,11 @@ record Ends (tmp : ℕ) (u w : Values) : Type 0 where
 stack_kept : {tmp guard left : ℕ} {u w : Values} → IsProbe tmp → Holds tmp guard left u w → reg w 2 ≡ reg u 2
 stack_kept {tmp} h k = let other = h.other in sym (k.others.regs 2 (lit< tt) (grind (arith, nat_tests)))
 
-address_set : {tmp guard left : ℕ} {u w : Values} (a : ℕ) → IsProbe tmp → AreValues w → Holds tmp guard left u w → Aims tmp guard left a u (set_reg w 30 a)
-address_set {tmp} {u = u} {w = w} a h hw k = record {
-  holds = record {
-    distance = reads_other w 30 31 a (λ e. absurd (omega arith)) ∙ k.distance;
-    size = reads_other w 30 tmp a (λ e. let u = h.usable in absurd (omega arith)) ∙ k.size;
-    others = spare_set u w 30 a (lit≤ tt) k.others;
-    are_values = k.are_values;
-  };
-  address = reads_back w 30 a hw (lit< tt) (lit< tt);
-}
-
-left_set : {tmp guard left : ℕ} {u w : Values} (x : ℕ) → IsProbe tmp → AreValues w → Holds tmp guard left u w → Holds tmp guard x u (set_reg w 31 x)
-left_set {tmp} {u = u} {w = w} x h hw k = record {
-  distance = reads_back w 31 x hw (lit< tt) (lit< tt);
-  size = reads_other w 31 tmp x (λ e. let u = h.usable in absurd (omega arith)) ∙ k.size;
-  others = spare_set u w 31 x (lit≤ tt) k.others;
-  are_values = k.are_values;
-}
-
--- a byte 0 goes to the same address of both
-zero_put : {tmp guard left : ℕ} {u w : Values} (a : ℕ) → Holds tmp guard left u w → Holds tmp guard left (put_bytes u a (0 ∷ [])) (put_bytes w a (0 ∷ []))
-zero_put {u = u} {w = w} a k = record {
-  distance = k.distance;
-  size = k.size;
-  others = put_same u w a (0 ∷ []) k.others;
-  are_values = put_values u a (0 ∷ []) k.are_values (lit< tt, tt);
-}
-
 -- ---- a byte 0 at an address outside the code
 
 first_outside : (from size a : ℕ) (more : List ℕ) → AreOutside from size (a ∷ more) → AreOutside from size (a ∷ [])
 first_outside from size a more out zero lt = out 0 (omega arith)
 first_outside from size a more out (suc k) lt = absurd (omega arith)
-
-rest_outside : (from size a : ℕ) (more : List ℕ) → AreOutside from size (a ∷ more) → AreOutside from size more
-rest_outside from size a more out k lt = out (suc k) (omega arith)
 
 zeroes : {site : Site} {offset size : ℕ} {Such : Values → Type 0} {s : State} (After : Values → Type 0) (a : ℕ) → CodeHas site offset (zero_op site.context.flags ∷ []) → reg s.values 30 ≡ a → a < 2 ^ 64 → AreOutside site.base (length site.bytes) (a ∷ []) → InCourse site offset ((zero_op site.context.flags).len + size) Such s → After (put_bytes s.values a (0 ∷ [])) → Comes site (offset + (zero_op site.context.flags).len) size After s
 zeroes {site} {s = s} After a has address fits out k after =
@@ -87,11 +56,7 @@ zeroes {site} {s = s} After a has address fits out k after =
     record {
       state = t;
       goes = goes_at_least (lit≤ tt) (step_at d [] t k.here (omega arith) has (store_acts flags Sb 30 0 (pos 0) s refl k.is_state ∙ ap (λ n. Some (at (wrap (s.pc + d.len)) (put_bytes s.values n (0 ∷ [])))) there));
-      course = record {
-        here = at_next d.len t k.here size.even refl (placed_after site s.values.mem a (0 ∷ []) k.here.placed out);
-        is_state = record { pc = omega arith; values = put_values s.values a (0 ∷ []) k.is_state.values (lit< tt, tt) };
-        values = after;
-      };
+      course = record { here = at_next d.len t k.here size.even refl (placed_after site s.values.mem a (0 ∷ []) k.here.placed out); is_state = record { pc = omega arith; values = put_values s.values a (0 ∷ []) k.is_state.values (lit< tt, tt) }; values = after };
     }
 
 -- ---- a turn
@@ -112,23 +77,17 @@ abbrev end_of : IsaFlags → ℕ → Decoded
 end_of flags tmp = decoded_bgeu tmp 31 (pos (probe_turn_size flags tmp + jump_size flags))
 
 -- a turn's size is even and small
-record IsShortTurn (flags : IsaFlags) (tmp : ℕ) : Type 0 where
-  even : probe_turn_size flags tmp % 2 ≡ 0
-  few : probe_turn_size flags tmp ≤ 16
-
-short_turn : (flags : IsaFlags) (tmp : ℕ) → IsShortTurn flags tmp
+short_turn : (flags : IsaFlags) (tmp : ℕ) → (probe_turn_size flags tmp % 2 ≡ 0) × (probe_turn_size flags tmp ≤ 16)
 short_turn flags tmp =
     let p = probe_sized flags in
     let z = zero_sized flags in
     let n = nearer_sized flags tmp in
-    record {
-      even = let pe = p.even in let ze = z.even in let ne = n.even in omega arith;
-      few = let pf = p.few in let zf = z.few in let nf = n.few in omega arith;
-    }
+    (omega (arith, p.even, z.even, n.even), omega (arith, p.few, z.few, n.few))
 
--- at most one guard is left
-none_left : {site : Site} {loop tmp guard left : ℕ} {u : Values} {s : State} (allocated : ℕ) → left ≤ guard → StandsIn site allocated loop (turn_slots site.context.flags tmp) → InCourse site loop (4 + rest_of site.context.flags tmp) (Holds tmp guard left u) s → Comes site (loop + (4 + rest_of site.context.flags tmp)) 0 (Holds tmp guard left u) s
-none_left {site} {loop} {tmp} {guard} {left} {s = s} allocated le stands k =
+-- the end, where at most one guard is left
+ended : {site : Site} {loop tmp guard left : ℕ} {u : Values} {s : State} (allocated : ℕ) → left ≤ guard → StandsIn site allocated loop (turn_slots site.context.flags tmp) →
+    InCourse site loop (4 + rest_of site.context.flags tmp) (Holds tmp guard left u) s → Comes site (loop + (4 + rest_of site.context.flags tmp)) 0 (Ends tmp u) s
+ended {site} {loop} {tmp} {guard} {left} {s = s} allocated le stands k =
     let flags = site.context.flags in
     let n = probe_turn_size flags tmp + jump_size flags in
     let short = short_turn flags tmp in
@@ -137,7 +96,7 @@ none_left {site} {loop} {tmp} {guard} {left} {s = s} allocated le stands k =
     let e : nat_lt (reg s.values tmp) (reg s.values 31) ≡ false = (λ i. nat_lt (k.values.size i) (k.values.distance i)) ∙ not_below guard left le in
     goes_ahead (end_of flags tmp) n (loop + (4 + rest_of flags tmp)) 0 stands.0
     (ap (λ b. Some (at (if not b then wrap (s.pc + low64 (pos n)) else wrap (s.pc + 4)) s.values)) e ∙ ap (λ m. Some (at (wrap (s.pc + m)) s.values)) (small_number n (omega arith)))
-    (omega arith) (omega arith) (omega arith) (omega arith) k
+    (omega arith) (omega arith) (omega arith) (omega arith) (record { here = k.here; is_state = k.is_state; values = record { same = k.values.others; are_values = k.values.are_values } })
 
 -- more than one is left
 more_left : {site : Site} {loop tmp guard left : ℕ} {u : Values} {s : State} (allocated : ℕ) → guard < left → StandsIn site allocated loop (turn_slots site.context.flags tmp) → InCourse site loop (4 + rest_of site.context.flags tmp) (Holds tmp guard left u) s → Comes site (loop + 4) (rest_of site.context.flags tmp) (Holds tmp guard left u) s
@@ -156,7 +115,7 @@ back : {site : Site} {loop tmp : ℕ} {Such : Values → Type 0} {s : State} (al
 back {site} {loop} {tmp} {s = s} allocated even room stands k =
     let flags = site.context.flags in
     let n = probe_turn_size flags tmp in
-    let few = (short_turn flags tmp).few in
+    let few = (short_turn flags tmp).1 in
     let d = pos 0 -ℤ pos n in
     goes_back (short_jump flags d) n loop (4 + rest_of flags tmp) stands.1.1.1.1.0 (jump_acts flags d s ∙ ap (λ x. Some (at (wrap (s.pc + x)) s.values)) (back_number n (omega arith) (omega arith)))
     (omega arith) (omega arith) even room (least_some flags) k
@@ -169,17 +128,11 @@ turn {tmp = tmp} {guard} {left} {u} allocated h some fits out stands k =
     let a = probe_at (reg u 2) (left + guard) in
     let v = put_bytes u a (0 ∷ []) in
     comes_on (more_left allocated (omega arith) stands k) (λ t1 k1.
-    comes_on (rrr_writes (Aims tmp guard (left + guard) a u) Sub 30 2 31 a stands.1.0 (λ i. probe_at (stack_kept h k1.values i) (k1.values.distance i)) (lit< tt) k1 (address_set a h k1.is_state.values k1.values)) (λ t2 k2.
-    comes_on (zeroes (Holds tmp guard (left + guard) v) a stands.1.1.0 k2.values.address (omega arith) out k2 (zero_put a k2.values.holds)) (λ t3 k3.
-    comes_on (rrr_writes (Holds tmp guard left v) Sub 31 31 tmp left stands.1.1.1.0 ((λ i. wrap (k3.values.distance i + (2 ^ 64 - k3.values.size i))) ∙ omega arith) (lit< tt) k3 (left_set left h k3.is_state.values k3.values)) (λ t4 k4. back allocated even room stands k4))))
+    comes_on (rrr_writes (Aims tmp guard (left + guard) a u) Sub 30 2 31 a stands.1.0 (λ i. probe_at (stack_kept h k1.values i) (k1.values.distance i)) (lit< tt) k1 (search (rules, arith, reads_other, reads_back, k1, h, spare_set))) (λ t2 k2.
+    comes_on (zeroes (Holds tmp guard (left + guard) v) a stands.1.1.0 k2.values.address (omega arith) out k2 (search (rules, k2, put_same, put_values))) (λ t3 k3.
+    comes_on (rrr_writes (Holds tmp guard left v) Sub 31 31 tmp left stands.1.1.1.0 ((λ i. wrap (k3.values.distance i + (2 ^ 64 - k3.values.size i))) ∙ omega arith) (lit< tt) k3 (search (rules, arith, reads_other, reads_back, k3, h, spare_set))) (λ t4 k4. back allocated even room stands k4))))
 
 -- ---- all turns
-
--- the end, where at most one guard is left
-ended : {site : Site} {loop tmp guard left : ℕ} {u : Values} {s : State} (allocated : ℕ) → left ≤ guard → StandsIn site allocated loop (turn_slots site.context.flags tmp) → InCourse site loop (4 + rest_of site.context.flags tmp) (Holds tmp guard left u) s → Comes site (loop + (4 + rest_of site.context.flags tmp)) 0 (Ends tmp u) s
-ended {tmp = tmp} {u = u} allocated le stands k =
-    let c = none_left allocated le stands k in
-    record { state = c.state; goes = c.goes; course = record { here = c.course.here; is_state = c.course.is_state; values = record { same = c.course.values.others; are_values = c.course.values.are_values } } }
 
 -- turns until at most one guard is left, by how many are
 turns : {site : Site} {loop tmp guard : ℕ} (allocated count : ℕ) (u : Values) (s : State) → IsProbe tmp → 0 < guard → count * guard < 2 ^ 64 → AreOutside site.base (length site.bytes) (probes_from (reg u 2) guard count) → StandsIn site allocated loop (turn_slots site.context.flags tmp) → InCourse site loop (4 + rest_of site.context.flags tmp) (Holds tmp guard (count * guard) u) s → Comes site (loop + (4 + rest_of site.context.flags tmp)) 0 (Ends tmp (zero_bytes u (probes_from (reg u 2) guard count))) s
@@ -195,7 +148,7 @@ turns {site} {loop} {tmp} {guard} allocated (suc (suc n)) u s h some fits out st
     let k1 = subst (λ m. InCourse site loop (4 + rest_of site.context.flags tmp) (Holds tmp guard m u) s) more k in
     let t = turn allocated h (omega arith) (omega arith) (subst (λ b. AreOutside site.base (length site.bytes) (b ∷ [])) (sym same) first) stands k1 in
     comes_on (subst (λ b. Comes site loop (4 + rest_of site.context.flags tmp) (Holds tmp guard left (put_bytes u b (0 ∷ []))) s) same t) (λ t2 k2.
-    turns allocated (suc n) (put_bytes u a (0 ∷ [])) t2 h some (omega arith) (rest_outside site.base (length site.bytes) a rest out) stands k2)
+    turns allocated (suc n) (put_bytes u a (0 ∷ [])) t2 h some (omega arith) (λ i lt. out (suc i) (omega arith)) stands k2)
 
 -- ---- before the first turn
 
@@ -217,19 +170,9 @@ loop_at flags tmp guard count start = start + size_of (far_slots flags guard cou
 starts : {site : Site} {start tmp guard size : ℕ} {v : Values} {s : State} (allocated count : ℕ) → IsProbe tmp → guard < 2 ^ 32 → guard * count < 2 ^ 64 → AreValues v → SameBut [] v s.values → StandsIn site allocated start (far_slots site.context.flags guard count) → StandsIn site allocated (start + size_of (far_slots site.context.flags guard count)) (guard_slots site.context.flags tmp guard) →
     InCourse site start (size_of (far_slots site.context.flags guard count) + (size_of (guard_slots site.context.flags tmp guard) + size)) (λ w. SameBut [] v w) s → Comes site (loop_at site.context.flags tmp guard count start) size (Holds tmp guard (guard * count) v) s
 starts {site} {start} {tmp} {guard} {size} {v} {s} allocated count h few fits hv same first second k =
-    comes_on (number_comes (Starts (guard * count) v) allocated 31 (guard * count) (cast_signed w64 (guard * count)) (lit< tt) (lit< tt) (bits_back (guard * count) fits) first k (record {
-      distance = reads_back s.values 31 (guard * count) k.is_state.values (lit< tt) (lit< tt);
-      others = spare_set v s.values 31 (guard * count) (lit≤ tt) same;
-    })) held
-  where
-    held : (t : State) → InCourse site (start + size_of (far_slots site.context.flags guard count)) (size_of (guard_slots site.context.flags tmp guard) + size) (Starts (guard * count) v) t → Comes site (loop_at site.context.flags tmp guard count start) size (Holds tmp guard (guard * count) v) t
-    held t k =
-        number_comes (Holds tmp guard (guard * count) v) allocated tmp guard (pos guard) h.written (omega arith) (let e = small_number guard (omega arith) in omega arith) second k (record {
-          distance = reads_other t.values tmp 31 guard (λ e. absurd (omega arith)) ∙ k.values.distance;
-          size = reads_back t.values tmp guard k.is_state.values h.written (omega arith);
-          others = temporary_set v t.values tmp guard (grind (arith, nat_tests)) (same_but (tmp ∷ []) (all_same k.values.others));
-          are_values = hv;
-        })
+    comes_on (number_comes (Starts (guard * count) v) allocated 31 (guard * count) (cast_signed w64 (guard * count)) (lit< tt) (lit< tt) (bits_back (guard * count) fits) first k (search (rules, arith, reads_back, spare_set, k, same)))
+    (λ t k1. number_comes (Holds tmp guard (guard * count) v) allocated tmp guard (pos guard) h.written (omega arith) (let e = small_number guard (omega arith) in omega arith) second k1
+    (let others = temporary_set v t.values tmp guard (grind (arith, nat_tests)) (same_but (tmp ∷ []) (all_same k1.values.others)) in search (rules, arith, reads_back, reads_other, k1, h, hv, others)))
 
 -- ---- the whole sequence
 
@@ -267,9 +210,4 @@ probe_out {site} {start} {after} {s} {v} tmp guard count h small few e out =
     let same : SameBut [] v s.values = same_but [] e.same in
     let first : InCourse site start (size_of a + (size_of b + (4 + rest_of flags tmp))) (λ w. SameBut [] v w) s = record { here = subst (λ size. IsAt site start size s) long (starts_at (probe_slots flags tmp guard count) e); is_state = e.is_state; values = same } in
     let r = comes_on (starts e.stands.0 count h small fits e.are_values same both.0 both.1 first) (λ t k. probed e.stands.0 count v t h fits out (subst (λ n. StandsIn site e.stands.0 n (turn_slots flags tmp)) there split.1) k) in
-    comes_out r.state r.goes (let pc = r.course.here.pc in let ends = e.stands.2 in omega arith) (record {
-      same = r.course.values.same;
-      is_state = r.course.is_state;
-      are_values = r.course.values.are_values;
-      placed = r.course.here.placed;
-    })
+    comes_out r.state r.goes (let pc = r.course.here.pc in let ends = e.stands.2 in omega arith) (search (rules, r.course))

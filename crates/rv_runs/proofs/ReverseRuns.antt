@@ -1,7 +1,7 @@
 -- The bits of a register's bytes are set in reverse order, from the highest bit on.
-use Rattle.std.proofs.Common.{◌≡◌, ℕ, zero, suc, ◌+◌, ◌-◌, ◌*◌, ◌/◌, ◌%◌, ◌^◌, ◌<◌, ◌≤◌, pos, negsuc, true, false, [], ◌∷◌, List, length, Some, arith, refl, sym, ap, subst, ◌∙◌, lit<, nat_eq, if◌then◌else◌, not, bit_or, bit_and, int_rem}
-use Rattle.rv_runs.proofs.Words.{Addi, And, AreInRange, AreValues, Bind, Branch, Do, Equal, Jump, Or, Piece, Rem, Rri, Rrr, SameBut, Site, Slli, Srli, State, Values, alu_rri, alu_rrr, and_comm, and_pow, and_then, are_values_set, bit_at, bit_at-lt, count_set, evaluate, half_power, ints, low64}
-use Rattle.rv_runs.proofs.Words.{nat_tests, none_below, point, pow_below, pow_pos, reg, reversed_bytes, set_reg, signed64, signed_below, slots_of, small_number, small_shift, wrap}
+use Rattle.std.proofs.Common.{rules, ◌≡◌, ℕ, zero, suc, ◌+◌, ◌-◌, ◌*◌, ◌/◌, ◌%◌, ◌^◌, ◌<◌, ◌≤◌, pos, negsuc, true, false, [], ◌∷◌, List, length, Some, arith, refl, sym, ap, subst, ◌∙◌, nat_eq, if◌then◌else◌, not, bit_or, bit_and, int_rem}
+use Rattle.rv_runs.proofs.Words.{reads_other, reads_set, temporary_set, Addi, And, AreValues, Bind, Branch, Do, Equal, Jump, Or, Piece, Rem, Rri, Rrr, SameBut, Site, Slli, Srli, State, Values, alu_rri, alu_rrr, and_comm, and_pow, and_then, are_values_set, bit_at, bit_at-lt, count_set, evaluate}
+use Rattle.rv_runs.proofs.Words.{half_power, ints, low64, nat_tests, none_below, point, pow_below, pow_pos, reg, reversed_bytes, set_reg, signed64, signed_below, slots_of, small_number, small_shift, wrap}
 use Rattle.rv_runs.proofs.Exits.{SlotsOut, same_but, Reaches, goes_on, reaches_such, pieces_out}
 use Rattle.rv_code.specs.Reversals.{reverse_turn, reverse_down, reverse_move, reverse_pieces}
 use Rattle.rv_code.proofs.Registers.{not_zero}
@@ -99,13 +99,12 @@ by_bit {c} {left} {next} {place} {got} {v} power zero w lt some plus h k =
     record { count = 1; values = w; ran = ap (λ b. and_then (if b then Some (point (down_of c) w) else Some (point (setting_of c) w)) (evaluate 0 (whole_of c))) e; such = subst (λ n. InReversal c left next place n v w) same k.now }
 by_bit {c} {left} {next} {place} {got} {v} power (suc zero) w lt some plus h k =
     let x = bit_or (reg w c.rd) (reg w c.tmp2) in
-    let one = rd_set x h k.now.all k.now.holds in
     let more : x ≡ got + 1 * place = (λ i. bit_or (k.now.holds.rd i) (k.now.holds.tmp2 i)) ∙ plus ∙ omega arith in
     record {
       count = 3;
       values = set_reg w c.rd x;
       ran = ap (λ b. and_then (if b then Some (point (down_of c) w) else Some (point (setting_of c) w)) (evaluate 2 (whole_of c))) (not_zero (reg w 30) (omega arith));
-      such = record { all = count_set w c.rd x k.now.all; holds = record { step = one.step; tmp = one.tmp; tmp2 = one.tmp2; rd = one.rd ∙ more; others = one.others } };
+      such = search (rules, reads_other, reads_set, count_set, k, h, temporary_set, more);
     }
 by_bit power (suc (suc b)) w lt some plus h k = absurd (omega arith)
 
@@ -130,7 +129,6 @@ goes_down {c} {left} {next} {place} {got} {v} w lt h k =
     let a1 : length w1.regs ≡ 31 = count_set w c.step y k.all in
     let k1 = step_set y h k.all k.holds in
     let k2 = tmp_set z h a1 k1 in
-    let step = k.holds.step in
     let less : y ≡ left = omega arith in
     let k2' : Holds c left (next / 2) place got v w2 = record { step = k2.step ∙ less; tmp = k2.tmp ∙ (ap (λ n. n / 2) k1.tmp); tmp2 = k2.tmp2; rd = k2.rd; others = k2.others } in
     let t3 = spare_tests 8 h (count_set w1 c.tmp z a1) k2' in
@@ -143,26 +141,24 @@ by_rest : {c : Reversal} {left next got : ℕ} {v : Values} (rest : ℕ) (w : Va
 by_rest {c} {left} {next} {got} {v} zero w rest lt h k =
     let e : nat_eq (reg w 30) 0 ≡ true = ap (λ m. nat_eq m 0) (k.spare ∙ rest) in
     let x = alu_rri Srli (reg w c.tmp2) (pos 15) in
-    let one = tmp2_set x h k.now.all k.now.holds in
+    let lower : x ≡ place_of left = ap (λ y. y / 2 ^ 15) k.now.holds.tmp2 ∙ place_down left rest in
     record {
       count = 4;
       values = set_reg w c.tmp2 x;
       ran = ap (λ b. and_then (if not b then Some (point (higher_of c) w) else Some (point (lower_of c) w)) (evaluate 3 (whole_of c))) e;
-      such = record { all = count_set w c.tmp2 x k.now.all; holds = record { step = one.step; tmp = one.tmp; tmp2 = one.tmp2 ∙ ap (λ y. y / 2 ^ 15) k.now.holds.tmp2 ∙ place_down left rest; rd = one.rd; others = one.others } };
+      such = search (rules, reads_other, reads_set, count_set, k, h, temporary_set, lower);
     }
 by_rest {c} {left} {next} {got} {v} (suc r) w rest lt h k =
     let e : nat_eq (reg w 30) 0 ≡ false = (let held = k.spare ∙ rest in grind (arith, nat_tests)) in
     let x = alu_rri Slli (reg w c.tmp2) (pos 1) in
-    let one = tmp2_set x h k.now.all k.now.holds in
     let there = place_up left (λ none. omega arith) in
     let fits = place_fits left (omega arith) in
-    let tmp2 = k.now.holds.tmp2 in
     let higher : x ≡ place_of left = omega arith in
     record {
       count = 4;
       values = set_reg w c.tmp2 x;
       ran = ap (λ b. and_then (if not b then Some (point (higher_of c) w) else Some (point (lower_of c) w)) (evaluate 3 (whole_of c))) e;
-      such = record { all = count_set w c.tmp2 x k.now.all; holds = record { step = one.step; tmp = one.tmp; tmp2 = one.tmp2 ∙ higher; rd = one.rd; others = one.others } };
+      such = search (rules, reads_other, reads_set, count_set, k, h, temporary_set, higher);
     }
 
 -- ---- all turns
@@ -188,25 +184,12 @@ turns {c} {v} (suc left) got w le clear h all k =
 
 -- ---- the whole sequence
 
-ranges : (c : Reversal) → IsReversal c → AreInRange (whole_of c)
-ranges c h =
-    let rd : c.rd < 32 = omega arith in
-    let tmp : c.tmp < 32 = omega arith in
-    let tmp2 : c.tmp2 < 32 = omega arith in
-    let step : c.step < 32 = omega arith in
-    let bits : c.bits < 2 ^ 64 = omega arith in
-    let highest : c.bits - 1 < 2 ^ 64 = omega arith in
-    let byte : c.bits - 8 < 2 ^ 64 = omega arith in
-    let down : AreInRange (down_of c) = ((step, refl, lit< tt), ((tmp, refl, lit< tt), ((lit< tt, refl, lit< tt), (lit< tt, ((tmp2, refl, lit< tt), ((tmp2, refl, lit< tt), tt)))))) in
-    let turn : AreInRange (turn_of c) = (lit< tt, (rd, down)) in
-    ((rd, refl, lit< tt), ((step, refl, bits), ((tmp, refl, lit< tt), ((tmp, small_shift (c.bits - 1) (omega arith), highest), ((tmp2, refl, lit< tt), ((tmp2, small_shift (c.bits - 8) (omega arith), byte), turn))))))
-
 pub reverse_out : {site : Site} {start after : ℕ} {s : State} {v : Values} (c : Reversal) → IsReversal c → SlotsOut site start after (slots_of site.context.flags (whole_of c)) s v (c.step ∷ c.tmp ∷ c.tmp2 ∷ []) (set_reg v c.rd (made_of c v))
 reverse_out {s = s} {v = v} c h e =
     let n = reg v c.rs in
     let bytes : c.bits ≡ 8 * (c.bits / 8) = omega arith in
     let all : 0 + mirrored_bits c.bits n ≡ made_of c v = (let w = ap (λ m. mirrored_bits m n) bytes ∙ whole_bytes (c.bits / 8) n in omega arith) in
     let r = goes_on (starts s.values h e.is_state.values (same_but (written c) e.same)) (λ w k. turns c.bits 0 w h.few (all_clear c.bits) h all k) in
-    pieces_out (whole_of c) (c.step ∷ c.tmp ∷ c.tmp2 ∷ []) (set_reg v c.rd (made_of c v)) (ranges c h) e
+    pieces_out (whole_of c) (c.step ∷ c.tmp ∷ c.tmp2 ∷ []) (set_reg v c.rd (made_of c v)) (search (rules, arith, h, small_shift)) e
     (record { count = r.count; values = r.values; ran = r.ran; such = same_beside h e.are_values r.such })
     (λ values. are_values_set v c.rd (made_of c v) e.are_values (let a = h.rd_usable in omega arith) (subst (λ x. x < 2 ^ 64) r.such.rd (values.fits c.rd)))

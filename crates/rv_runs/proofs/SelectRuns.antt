@@ -1,8 +1,8 @@
 -- Of integer registers, one of two values is chosen, and the low bits are extended.
 use Rattle.std.proofs.Common.{◌≡◌, ℕ, Bool, true, false, [], ◌∷◌, ◌++◌, List, map, refl, sym, ap, subst, ◌∙◌, if◌then◌else◌, not, zero, suc, ◌+◌, ◌-◌, ◌*◌, ◌/◌, ◌%◌, ◌^◌, ◌<◌, ◌≤◌, pos, negsuc, nat_lt, arith, lit<, eqb-true, mod-lt, mul-le-mul}
-use Rattle.rv_runs.proofs.Words.{Andi, AreInRange, AreValues, ComesOut, Do, EmitVState, Enters, FullValues, Int, Keeps, Next, Piece, Reg, RegClass, Rri, Same, SameBut, SameFull, Select, SelectInfo, Site, Slli, State, Values, all_of, alu_result_fits, alu_rri, and_mask, and_then, are_values_set}
-use Rattle.rv_runs.proofs.Words.{choice_pieces, chosen, class_of, compares, div-mul-add, evaluate, extend_pieces, immediate_of, inst_registers, ints, is_beyond, is_byte, is_int_class, is_other_class, list_any, low64, mod-pow-add, mul-div_cancel, mul-mod_left, mul_assoc, nat_tests, none_of_both}
-use Rattle.rv_runs.proofs.Words.{number_of, or_parts, point, pow-add, pow-suc, pow_pos, put_all, put_in, reads_back, reg, right_shift, rri_op, same_set, set_reg, set_regs, set_twice, shift_limit, signed, signed64, slots_alone, slots_of, to_z-of_z, value_in, value_of, wrap, written_in}
+use Rattle.rv_runs.proofs.Words.{small_shift, Andi, AreInRange, AreValues, ComesOut, Do, EmitVState, Enters, FullValues, Int, Keeps, Next, Piece, Reg, RegClass, Rri, Same, SameBut, SameFull, Select, SelectInfo, Site, Slli, State, Values, all_of, alu_result_fits, alu_rri, and_mask, and_then}
+use Rattle.rv_runs.proofs.Words.{are_values_set, choice_pieces, chosen, class_of, compares, div-mul-add, evaluate, extend_pieces, immediate_of, inst_registers, ints, is_beyond, is_byte, is_int_class, is_other_class, list_any, low64, mod-pow-add, mul-div_cancel, mul-mod_left, mul_assoc, nat_tests}
+use Rattle.rv_runs.proofs.Words.{none_of_both, number_of, or_parts, point, pow-add, pow-suc, pow_pos, put_all, put_in, reads_back, reg, right_shift, rri_op, same_set, set_reg, set_regs, set_twice, shift_limit, signed, signed64, slots_alone, slots_of, to_z-of_z, value_in, value_of, wrap, written_in}
 use Rattle.rv_runs.proofs.Exits.{SlotsOut, RunsHere, same_but, Reaches, goes_on, reaches_such, pieces_out}
 use Rattle.rv_base.specs.declared.regs.RegClass.TheVariants.{Float}
 use Rattle.rv_full.specs.View.{zero_units}
@@ -143,11 +143,8 @@ twice_same v w (suc n) x back hv hw lt same =
     subst (Same (set_reg v (suc n) (back x))) (sym (set_twice w (suc n) x (back (reg (set_reg w (suc n) x) (suc n))) ∙ ap (λ y. set_reg w (suc n) (back y)) read)) (same_set v w (suc n) (back x) hv hw lt same)
 
 not_beyond : (sign : Bool) (k : ℕ) → k < 64 → is_beyond (shift_limit (immediate_of (right_shift sign))) (pos k) ≡ false
-not_beyond true k lt = grind (arith, nat_tests)
-not_beyond false k lt = grind (arith, nat_tests)
-
-not_beyond_left : (k : ℕ) → k < 64 → is_beyond (shift_limit (immediate_of Slli)) (pos k) ≡ false
-not_beyond_left k lt = grind (arith, nat_tests)
+not_beyond true k lt = small_shift k lt
+not_beyond false k lt = small_shift k lt
 
 -- pieces that give the register such a number
 gives : {site : Site} {start after : ℕ} {s : State} {v : Values} (whole : List Piece) (rd x y : ℕ) → AreInRange whole → rd < 32 → x < 2 ^ 64 → x ≡ y → Enters site start after (slots_alone (slots_of site.context.flags whole)) s v → Reaches whole (point whole s.values) [] (Same (set_reg v rd x)) → ComesOut site start after Next [] (set_reg v rd y) s
@@ -177,5 +174,5 @@ extend_out {site} {start} {after} {s} {v} rd rn bits sign below read some few e 
         let x = alu_rri Slli (reg v rn) (pos k) in
         let back = λ (y : ℕ). alu_rri (right_shift sign) y (pos k) in
         let fits : x < 2 ^ 64 = alu_result_fits (rri_op Slli) (reg v rn) 0 (low64 (pos k)) (e.are_values.fits rn) (lit< tt) low in
-        gives (Do (Rri Slli rd rn (pos k)) ∷ Do (Rri (right_shift sign) rd rd (pos k)) ∷ []) rd (back x) _ ((lt, not_beyond_left k small, low), ((lt, not_beyond sign k small, low), tt)) lt (alu_result_fits (rri_op (right_shift sign)) x 0 (low64 (pos k)) fits (lit< tt) low) (extended_by (reg v rn) bits sign some few) e
+        gives (Do (Rri Slli rd rn (pos k)) ∷ Do (Rri (right_shift sign) rd rd (pos k)) ∷ []) rd (back x) _ ((lt, small_shift k small, low), ((lt, not_beyond sign k small, low), tt)) lt (alu_result_fits (rri_op (right_shift sign)) x 0 (low64 (pos k)) fits (lit< tt) low) (extended_by (reg v rn) bits sign some few) e
         (record { count = 2; values = _; ran = refl; such = subst (λ z. let w1 = set_reg w rd (alu_rri Slli z (pos k)) in Same (set_reg v rd (back x)) (set_reg w1 rd (back (reg w1 rd)))) (e.same.regs rn read) (twice_same v w rd x back e.are_values e.is_state.values lt e.same) })

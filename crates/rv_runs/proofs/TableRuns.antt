@@ -1,8 +1,9 @@
 -- A branch by a table goes to the label of the index, or to the default.
-use Rattle.std.proofs.Common.{lt-ltb, ◌≡◌, ℕ, zero, suc, ◌+◌, ◌*◌, ◌/◌, ◌^◌, ◌<◌, ◌≤◌, Bool, true, false, List, [], ◌∷◌, ◌++◌, map, length, Option, Some, None, pos, arith, refl, sym, ap, subst, ◌∙◌, lit<, lit≤, ◌||◌, nat_eq, nat_lt, unwrap_or, slice_get, if◌then◌else◌}
-use Rattle.rv_runs.proofs.Words.{Add, AimsFrom, AreShort, Ask, Base, ComesOut, Decoded, Enters, IsAt, IsBeside, IsState, IsTable, Label, MachLabel, Op, PCRel32, Sets, Site, Slli, Slot, Slots, Srli, StandsIn, State, To, Values, address_sums, are_values_set, at, at_next, between, code_after}
-use Rattle.rv_runs.proofs.Words.{code_limit, comes_goes, decoded, decoded_jalr, decoded_rri, decoded_rrr, equals_itself, extend_pieces, goes_at_least, goes_first, goes_second, ints, is_among, led_on, low64, low_word, not_below, number_even, number_goes, number_slots, or_true, reads_back}
-use Rattle.rv_runs.proofs.Words.{reads_other, reg, rri_acts, rri_sized, same_Some, set_at, set_reg, sets_both, sets_one, short_rri, shorter, size_append, size_of, slice_get_within, slots_of, small_number, spare_set, stands_split, step_at, table_exit, table_slots, temporary_set, upper_of, wrap}
+use Rattle.std.proofs.Common.{rules, lt-ltb, ◌≡◌, ℕ, zero, suc, ◌+◌, ◌*◌, ◌/◌, ◌^◌, ◌<◌, ◌≤◌, Bool, true, false, List, [], ◌∷◌, ◌++◌, map, length, Option, Some, None, pos, arith, refl, sym, ap, subst, ◌∙◌, lit<, lit≤, ◌||◌, nat_eq, nat_lt, unwrap_or, slice_get, if◌then◌else◌}
+use Rattle.rv_runs.proofs.Words.{AimsFrom, AreShort, Ask, Base, ComesOut, Decoded, Enters, IsAt, IsBeside, IsState, IsTable, Label, MachLabel, Op, PCRel32, Sets, Site, Slli, Slots, Srli, StandsIn, State, To, Values, address_sums, are_values_set, at, at_next, between, code_after, code_limit}
+use Rattle.rv_runs.proofs.Words.{comes_goes, decoded, decoded_jalr, equals_itself, extend_pieces, goes_first, goes_second, ints, is_among, led_on, low64, low_word, not_below, number_even, number_goes, number_slots, or_true, reads_back, reads_other, reg, rri_acts, rri_sized, same_Some, set_at}
+use Rattle.rv_runs.proofs.Words.{set_reg, sets_both, sets_one, short_rri, shorter, size_append, size_of, slice_get_within, slots_of, small_number, spare_set, stands_split, step_at, table_exit, table_slots, temporary_set, upper_of, wrap}
+use Rattle.std.proofs.lemmas.Option.{slice_get_cases}
 use Rattle.rv_code.specs.Chains.{Goes}
 use Rattle.rv_code.specs.Immediates.{lower_of}
 use Rattle.rv_code.specs.Tables.{far_jump, enter_ops, bound_op, jump_slots}
@@ -23,21 +24,11 @@ second_among m n = (λ i. nat_eq m n || (equals_itself n i || false)) ∙ or_tru
 
 -- a temporary is written
 beside_temporary : {site : Site} {free : List ℕ} {v : Values} {s : State} (pc n x : ℕ) → is_among free n ≡ true → n < 32 → pc < 2 ^ 64 → x < 2 ^ 64 → IsBeside site free v s → IsBeside site free v (at pc (set_reg s.values n x))
-beside_temporary {v = v} {s = s} pc n x among lt fits_pc fits b = record {
-  same = temporary_set v s.values n x among b.same;
-  is_state = record { pc = fits_pc; values = are_values_set s.values n x b.is_state.values lt fits };
-  are_values = b.are_values;
-  placed = b.placed;
-}
+beside_temporary {v = v} {s = s} pc n x among lt fits_pc fits b = search (rules, temporary_set, are_values_set, b)
 
 -- x30 or x31 is written
 beside_spare : {site : Site} {free : List ℕ} {v : Values} {s : State} (pc n x : ℕ) → 30 ≤ n → n < 32 → pc < 2 ^ 64 → x < 2 ^ 64 → IsBeside site free v s → IsBeside site free v (at pc (set_reg s.values n x))
-beside_spare {v = v} {s = s} pc n x high lt fits_pc fits b = record {
-  same = spare_set v s.values n x high b.same;
-  is_state = record { pc = fits_pc; values = are_values_set s.values n x b.is_state.values lt fits };
-  are_values = b.are_values;
-  placed = b.placed;
-}
+beside_spare {v = v} {s = s} pc n x high lt fits_pc fits b = search (rules, spare_set, are_values_set, b)
 
 -- ---- a jump in eight bytes
 
@@ -80,23 +71,16 @@ far_at {site} {allocated} tmp offset (suc index) (first ∷ labels) label e stan
 
 -- ---- the jump into the table
 
--- in some steps the machine comes to an offset, and only temporaries differ
-record ComesBeside (site : Site) (offset : ℕ) (free : List ℕ) (v : Values) (s : State) : Type 0 where
-  state : State
-  goes : Goes site.context.flags 0 s state
-  pc : state.pc ≡ wrap (site.base + offset)
-  beside : IsBeside site free v state
-
--- past the four words that make it, and by eight bytes for each label before that of the index
-enters : {site : Site} {offset : ℕ} {v : Values} {s : State} (allocated source tmp1 tmp2 index : ℕ) (more : List Slot) → IsTable source tmp1 tmp2 → index < 2 ^ 32 → reg s.values 31 ≡ index → IsAt site offset 16 s → StandsIn site allocated offset (map Op (enter_ops tmp1 tmp2) ++ more) → IsBeside site (tmp1 ∷ tmp2 ∷ []) v s → ComesBeside site (offset + 4 + 4 + 4 + 4 + 8 * index) (tmp1 ∷ tmp2 ∷ []) v s
-enters {site} {offset} {s = s} allocated source tmp1 tmp2 index more r few held h stands b =
-    let here = decoded (Base base.Auipc) tmp1 0 0 (pos 0) in
-    let eights = decoded_rri Slli tmp2 31 (pos 3) in
-    let sum = decoded_rrr Add tmp1 tmp1 tmp2 in
-    let jump = decoded_jalr 0 tmp1 (pos 16) in
+-- past the four words that make it, and by eight bytes for each label before that of the index; and from there to the label
+entered_out : {site : Site} {start after offset : ℕ} {v : Values} {s : State} (allocated source tmp1 tmp2 index : ℕ) (labels : List MachLabel) (label : MachLabel) → AreShort site → IsTable source tmp1 tmp2 → index < 2 ^ 32 → reg s.values 31 ≡ index → slice_get labels index ≡ Some label →
+    IsAt site offset (16 + 8 * length labels) s → StandsIn site allocated offset (map Op (enter_ops tmp1 tmp2) ++ map (far_jump tmp2) labels) → IsBeside site (tmp1 ∷ tmp2 ∷ []) v s →
+    ComesOut site start after (To label.number) (tmp1 ∷ tmp2 ∷ []) v s
+entered_out {site} {offset = offset} {s = s} allocated source tmp1 tmp2 index labels label within r few held e h stands b =
+    let below = slice_get_within labels index label e in
+    let h0 = shorter 16 h (omega arith) in
     let p = wrap (s.pc + low64 (pos 0) * 2 ^ 12) in
     let s1 = at (wrap (s.pc + 4)) (set_reg s.values tmp1 p) in
-    let h1 : IsAt site (offset + 4) 12 s1 = set_at 4 tmp1 p h refl in
+    let h1 : IsAt site (offset + 4) 12 s1 = set_at 4 tmp1 p h0 refl in
     let b1 = beside_temporary (wrap (s.pc + 4)) tmp1 p (first_among tmp1 tmp2) (omega arith) (omega arith) (omega arith) b in
     let y = 8 * index in
     let shifted : wrap (reg s1.values 31 * 2 ^ 3) ≡ y = (λ i. wrap ((reads_other s.values tmp1 31 p (λ e. omega arith) ∙ held) i * 2 ^ 3)) ∙ omega arith in
@@ -110,40 +94,17 @@ enters {site} {offset} {s = s} allocated source tmp1 tmp2 index more r few held 
     let b3 = beside_temporary (wrap (s2.pc + 4)) tmp1 q (first_among tmp1 tmp2) (omega arith) (omega arith) (omega arith) b2 in
     let both : reg s3.values tmp1 ≡ q = reads_back s2.values tmp1 q b2.is_state.values r.tmp1_written (omega arith) in
     let to = wrap (site.base + (offset + 4 + 4 + 4 + 4 + 8 * index)) in
-    let pc = h.pc in
     let jumped : wrap (reg s3.values tmp1 + low64 (pos 16)) / 2 * 2 ≡ to = (λ i. wrap (both i + low64 (pos 16)) / 2 * 2) ∙ omega arith in
     let s4 = at to s3.values in
-    record {
-      state = s4;
-      goes = goes_second (step_at here [] s1 h (omega arith) stands.0 refl)
-          (goes_second (step_at eights [] s2 h1 (omega arith) stands.1.0 (λ i. Some (at (wrap (s1.pc + 4)) (set_reg s1.values tmp2 (shifted i)))))
-          (goes_second (step_at sum [] s3 h2 (omega arith) stands.1.1.0 (λ i. Some (at (wrap (s2.pc + 4)) (set_reg s2.values tmp1 (wrap (address i + (reads_back s1.values tmp2 y b1.is_state.values r.tmp2_written (omega arith)) i))))))
-          (goes_at_least (lit≤ tt) (step_at jump [] s4 h3 (omega arith) stands.1.1.1.0 (λ i. Some (at (jumped i) s3.values))))));
-      pc = refl;
-      beside = moved_beside to (omega arith) b3;
-    }
-
--- and from there to the label
-entered_out : {site : Site} {start after offset : ℕ} {v : Values} {s : State} (allocated source tmp1 tmp2 index : ℕ) (labels : List MachLabel) (label : MachLabel) → AreShort site → IsTable source tmp1 tmp2 → index < 2 ^ 32 → reg s.values 31 ≡ index → slice_get labels index ≡ Some label →
-    IsAt site offset (16 + 8 * length labels) s → StandsIn site allocated offset (map Op (enter_ops tmp1 tmp2) ++ map (far_jump tmp2) labels) → IsBeside site (tmp1 ∷ tmp2 ∷ []) v s →
-    ComesOut site start after (To label.number) (tmp1 ∷ tmp2 ∷ []) v s
-entered_out {site} {offset = offset} allocated source tmp1 tmp2 index labels label within r few held e h stands b =
-    let below = slice_get_within labels index label e in
-    let c = enters allocated source tmp1 tmp2 index (map (far_jump tmp2) labels) r few held (shorter 16 h (omega arith)) stands b in
-    let h1 : IsAt site (offset + 4 + 4 + 4 + 4 + 8 * index) 8 c.state = record {
-      even = let even = h.even in omega arith;
-      room = let room = h.room in omega arith;
-      placed = c.beside.placed;
-      pc = c.pc;
-    } in
-    goes_out c.goes (far_out tmp2 label within (second_among tmp1 tmp2) r.tmp2_written r.tmp2_usable h1 (far_at tmp2 (offset + 4 + 4 + 4 + 4) index labels label e stands.1.1.1.1) c.beside)
+    let b4 = moved_beside to (omega arith) b3 in
+    let h4 : IsAt site (offset + 4 + 4 + 4 + 4 + 8 * index) 8 s4 = search (rules, arith, h, b4) in
+    goes_out (goes_second (step_at _ [] s1 h (omega arith) stands.0 refl)
+    (goes_second (step_at _ [] s2 h1 (omega arith) stands.1.0 (λ i. Some (at (wrap (s1.pc + 4)) (set_reg s1.values tmp2 (shifted i)))))
+    (goes_second (step_at _ [] s3 h2 (omega arith) stands.1.1.0 (λ i. Some (at (wrap (s2.pc + 4)) (set_reg s2.values tmp1 (wrap (address i + (reads_back s1.values tmp2 y b1.is_state.values r.tmp2_written (omega arith)) i))))))
+    (step_at _ [] s4 h3 (omega arith) stands.1.1.1.0 (λ i. Some (at (jumped i) s3.values))))))
+    (far_out tmp2 label within (second_among tmp1 tmp2) r.tmp2_written r.tmp2_usable h4 (far_at tmp2 (offset + 4 + 4 + 4 + 4) index labels label e stands.1.1.1.1) b4)
 
 -- ---- the jumps
-
-not_found : (labels : List MachLabel) (index : ℕ) → slice_get labels index ≡ None → length labels ≤ index
-not_found [] index e = omega arith
-not_found (label ∷ labels) zero e = absurd (cc)
-not_found (label ∷ labels) (suc index) e = let rest = not_found labels index e in omega arith
 
 jumps_out : {site : Site} {start after offset : ℕ} {v : Values} {s : State} (allocated source tmp1 tmp2 index : ℕ) (default : MachLabel) (labels : List MachLabel) → AreShort site → IsTable source tmp1 tmp2 → index < 2 ^ 32 → reg s.values 31 ≡ index → reg s.values tmp2 ≡ length labels →
     IsAt site offset (28 + 8 * length labels) s → StandsIn site allocated offset (jump_slots tmp1 tmp2 default labels) → IsBeside site (tmp1 ∷ tmp2 ∷ []) v s →
@@ -160,16 +121,12 @@ jumps_out {site} {start} {after} {offset} {v} {s} allocated source tmp1 tmp2 ind
     by None e =
         let s1 = at (wrap (s.pc + 4)) s.values in
         let h1 : IsAt site (offset + 4) 8 s1 = at_next 4 s1 (shorter 12 h (omega arith)) refl refl h.placed in
-        goes_out (steps false (not_below index (length labels) (not_found labels index e)))
+        goes_out (steps false (not_below index (length labels) (grind (arith, slice_get_cases))))
         (far_out tmp2 default within (second_among tmp1 tmp2) r.tmp2_written r.tmp2_usable h1 stands.1.0 (moved_beside (wrap (s.pc + 4)) (omega arith) b))
     by (Some label) e =
         let s1 = at (wrap (s.pc + low64 (pos 12))) s.values in
-        let h1 : IsAt site (offset + 4 + 8) (16 + 8 * length labels) s1 = record {
-          even = let even = h.even in omega arith;
-          room = let room = h.room in omega arith;
-          placed = h.placed;
-          pc = let pc = h.pc in let ahead : low64 (pos 12) ≡ 12 = refl in omega arith;
-        } in
+        let ahead : low64 (pos 12) ≡ 12 = refl in
+        let h1 : IsAt site (offset + 4 + 8) (16 + 8 * length labels) s1 = search (rules, arith, h, ahead) in
         goes_out (steps true (lt-ltb index (length labels) (slice_get_within labels index label e)))
         (entered_out allocated source tmp1 tmp2 index labels label within r few held e h1 stands.1.1 (moved_beside (wrap (s.pc + low64 (pos 12))) (omega arith) b))
 
@@ -202,7 +159,6 @@ table_out {site} {start} {after} {s} {v} space index tmp1 tmp2 default labels r 
     let mid = e.stands.0 in
     let gap = e.stands.1 in
     let allocated = e.stands.2.0 in
-    let short = e.short in
     let n = length labels in
     let extend = slots_of flags (extend_pieces 31 index false 32) in
     let number = number_slots flags tmp2 (pos n) in

@@ -1,9 +1,10 @@
 -- What the machine with all units does at an operation of a unit, and which instructions are one.
-use Rattle.std.proofs.Common.{◌≡◌, ◌≢◌, ◌⊎◌, inl, inr, ℕ, ◌+◌, ◌%◌, ◌^◌, ◌<◌, Bool, true, false, List, [], ◌∷◌, length, Some, None, arith, refl, sym, ap, subst, ◌∙◌, ⊎_elim, FitsSigned, T, leb, w16, w32, w64, lt_of_le_of_lt, ◌-◌, nat_eq, if◌then◌else◌, slice_index, slice_set, unwrap_or, Option}
-use Rattle.rv_runs.proofs.Words.{Absent, Agree, AllByRecursion, Answer, AnswerFits, Answered, AreUnits, AreUsableIn, AreValues, Asks, CodeHas, Context, CsrImm, CsrReg, Decoded, EmitVState, Fli, FloatFormat, FpuRR, FpuRRR, FpuRRRR, FullState, FullValues, H, Halts, Inst, IsAt, IsUsableCsr, IsUsableIn}
-use Rattle.rv_runs.proofs.Words.{IsUsableShape, IsUsableSource, IsUsableTarget, IsaFlags, Nop0, OneNumber, Row, RowAsks, RowGoes, RowsAgree, S, SameFull, Sign, Site, State, Takes, ToFloat, ToInteger, UnitWord, Units, Width, act, and_le_l, are_values_set, bits_of, boxed, cases_eq, cast_signed}
-use Rattle.rv_runs.proofs.Words.{decoded_csr_imm, decoded_csr_reg, decodes_at, entry_of, fits, float_shape, format_of, freg, full_at, inputs_of, ints, is_move, low64, low_part, next_by, noted, number_of, number_row, or_lt, parts_of, put_f, put_number, put_units, row_next, same_set, same_step}
-use Rattle.rv_runs.proofs.Words.{set_freg, set_frm, shape_row, step_on, stepped, unit_on, unit_parts, unit_row, unit_word, values_of, wrap, x_of}
+use Rattle.std.proofs.Common.{rules, ◌≡◌, ◌≢◌, ◌⊎◌, inl, inr, ℕ, ◌+◌, ◌%◌, ◌^◌, ◌<◌, Bool, true, false, List, [], ◌∷◌, length, Some, None, arith, refl, sym, ap, subst, ◌∙◌, ⊎_elim, FitsSigned, T, leb, w16, w32, w64, lt_of_le_of_lt, ◌-◌, nat_eq, if◌then◌else◌, slice_index, slice_set, unwrap_or}
+use Rattle.std.proofs.Common.{Option}
+use Rattle.rv_runs.proofs.Words.{fiter_after, fiter_none, Absent, Agree, AllByRecursion, Answer, AnswerFits, Answered, AreUnits, AreUsableIn, AreValues, Asks, CodeHas, Context, CsrImm, CsrReg, Decoded, EmitVState, Fli, FloatFormat, FpuRR, FpuRRR, FpuRRRR, FullState, FullValues, H, Halts, Inst, IsAt}
+use Rattle.rv_runs.proofs.Words.{IsUsableCsr, IsUsableIn, IsUsableShape, IsUsableSource, IsUsableTarget, IsaFlags, Nop0, OneNumber, Row, RowAsks, RowGoes, RowsAgree, S, SameFull, Sign, Site, State, Takes, ToFloat, ToInteger, UnitWord, Units, Width, act, and_le_l, are_values_set, bits_of, boxed}
+use Rattle.rv_runs.proofs.Words.{cases_eq, cast_signed, decoded_csr_imm, decoded_csr_reg, decodes_at, entry_of, fits, float_shape, format_of, freg, full_at, inputs_of, ints, is_move, low64, low_part, next_by, noted, number_of, number_row, or_lt, parts_of, put_f, put_number, put_units, row_next}
+use Rattle.rv_runs.proofs.Words.{same_set, same_step, set_freg, set_frm, shape_row, step_on, stepped, unit_on, unit_parts, unit_row, unit_word, values_of, wrap, x_of}
 use mir.Val.{hbits}
 use Rattle.std.proofs.Math.Facts.{sfits_widen, Fits-of_z, Fits-lt-pow}
 use Rattle.std.proofs.Math.Seq.{get_or-set_other}
@@ -13,7 +14,6 @@ use Rattle.rv_machine.specs.declared.ops.FloatFormat.TheVariants.{D}
 use Rattle.rv_machine.specs.declared.ops.CsrOp.{CsrOp}
 use Rattle.rv_machine.specs.declared.ops.CsrOp.TheVariants.{Csrrw, Csrrs, Csrrc, Csrrwi, Csrrsi, Csrrci}
 use Rattle.rv_full.specs.declared.answer.Answer.TheVariants.{Bits}
-use Rattle.rv_full.specs.declared.answer.Entry.{Entry}
 use Rattle.rv_full.specs.declared.shapes.Sources.{Sources}
 use Rattle.rv_full.specs.declared.shapes.Target.{Target}
 use Rattle.rv_full.specs.declared.shapes.FloatShape.{FloatShape}
@@ -55,6 +55,23 @@ pub fiter_one : (flags : IsaFlags) (b c : FullState) → fnext flags b ≡ Goes 
 unfolding fiter
 fiter_one flags b c next = ap stepped next
 
+-- in some steps it comes where such things hold, takes no answer, and leaves the setting
+pub record FullSteps (site : Site) (There : FullState → Type 0) (b : FullState) : Type 0 where
+  pub steps : ℕ
+  pub state : FullState
+  pub ran : fiter site.context.flags steps b ≡ Some state
+  pub there : There state
+  pub answers : b.answers ≡ state.answers
+  pub setting : state.units.setting ≡ b.units.setting
+
+pub no_steps : {site : Site} {There : FullState → Type 0} {b : FullState} → There b → FullSteps site There b
+no_steps {site} {b = b} h = record { steps = 0; state = b; ran = fiter_none site.context.flags b; there = h; answers = refl; setting = refl }
+
+pub more_steps : {site : Site} {There There' : FullState → Type 0} {b : FullState} → FullSteps site There b → ((c : FullState) → There c → FullSteps site There' c) → FullSteps site There' b
+more_steps {site} {b = b} x on =
+    let y = on x.state x.there in
+    record { steps = y.steps + x.steps; state = y.state; ran = fiter_after site.context.flags y.steps x.steps b x.state x.ran ∙ y.ran; there = y.there; answers = x.answers ∙ y.answers; setting = y.setting ∙ x.setting }
+
 -- ---- what comes of a row
 
 pub row_comes : (pc : ℕ) (w : FullValues) (x y : Row) (answers : List Answer) → RowsAgree w x y → AllByRecursion AnswerFits answers → RowGoes pc w x y answers ⊎ RowAsks pc x y answers
@@ -79,9 +96,6 @@ float_set_fits xs n m x long lt small h =
     (λ (here : m ≡ n). let e = get_or-set_at xs n m x 0 here (omega arith) in omega arith)
     (λ (other : m ≢ n). let e = get_or-set_other xs n m x 0 other in omega arith)
     (cases_eq m n)
-
-units_noted : (e : Entry) (u : Units) → AreUnits u → AreUnits (noted e u)
-units_noted e u h = record { float_count = h.float_count; float_fits = h.float_fits; vector_count = h.vector_count; vector_fits = h.vector_fits; frm_fits = h.frm_fits; reserved_fits = h.reserved_fits; avl_fits = h.avl_fits; vtype_fits = h.vtype_fits }
 
 pub float_set : (u : Units) (n x : ℕ) → AreUnits u → n < 32 → x < 2 ^ 64 → AreUnits (set_freg u n x)
 float_set u n x h lt small = record { float_count = length-set u.floats n x ∙ h.float_count; float_fits = λ m. float_set_fits u.floats n m x h.float_count lt small (h.float_fits m); vector_count = h.vector_count; vector_fits = h.vector_fits; frm_fits = h.frm_fits; reserved_fits = h.reserved_fits; avl_fits = h.avl_fits; vtype_fits = h.vtype_fits }
@@ -113,9 +127,6 @@ csr_small Csrrwi old x imm lt = omega arith
 csr_small Csrrsi old x imm lt = or_lt 3 old (imm % 8) lt (omega arith)
 csr_small Csrrci old x imm lt = lt_of_le_of_lt (and_le_l old (7 - imm % 8)) lt
 
-frm_set : (u : Units) (x : ℕ) → AreUnits u → x < 8 → AreUnits (set_frm u x)
-frm_set u x h lt = record { float_count = h.float_count; float_fits = h.float_fits; vector_count = h.vector_count; vector_fits = h.vector_fits; frm_fits = lt; reserved_fits = h.reserved_fits; avl_fits = h.avl_fits; vtype_fits = h.vtype_fits }
-
 -- ---- rows of float operations, and of those on frm
 
 module _ (d : Decoded) (v w : FullValues) (same : SameFull v w) (are_values : AreValues v.ints) (is_values : AreValues w.ints) (are_units : AreUnits w.units) where
@@ -128,22 +139,8 @@ module _ (d : Decoded) (v w : FullValues) (same : SameFull v w) (are_values : Ar
 
   -- a number is put into rd, beside units that are equal
   put_same : (to : Target) (x : ℕ) (t u : Units) → IsUsableTarget to d → x < 2 ^ 64 → t ≡ u → AreUnits u → u.setting ≡ w.units.setting → Agree w (put_number to d x (put_units t v)) (put_number to d x (put_units u w))
-  put_same target.Integer x t u low small equal h setting = record {
-    same = record { ints = same_set v.ints w.ints d.rd x are_values is_values (omega arith) same.ints; units = equal };
-    mem = refl;
-    setting = setting;
-    are_values = are_values_set v.ints d.rd x are_values (omega arith) small;
-    is_values = are_values_set w.ints d.rd x is_values (omega arith) small;
-    units = h;
-  }
-  put_same target.Float x t u low small equal h setting = record {
-    same = record { ints = same.ints; units = ap (λ y. set_freg y d.rd x) equal };
-    mem = refl;
-    setting = setting;
-    are_values = are_values;
-    is_values = is_values;
-    units = float_set u d.rd x h low small;
-  }
+  put_same target.Integer x t u low small equal h setting = search (rules, arith, same_set, are_values_set, same, h, equal, setting)
+  put_same target.Float x t u low small equal h setting = let put = ap (λ y. set_freg y d.rd x) equal in search (rules, same, put, setting, float_set)
 
   put_agree : (to : Target) (x y : ℕ) (t u : Units) → IsUsableTarget to d → x ≡ y → y < 2 ^ 64 → t ≡ u → AreUnits u → u.setting ≡ w.units.setting → Agree w (put_number to d x (put_units t v)) (put_number to d y (put_units u w))
   put_agree to x y t u low is small equal h setting = subst (λ z. Agree w (put_number to d z (put_units t v)) (put_number to d y (put_units u w))) (sym is) (put_same to y t u low small equal h setting)
@@ -155,7 +152,7 @@ module _ (d : Decoded) (v w : FullValues) (same : SameFull v w) (are_values : Ar
     λ a fit answer.
         put_same to (unwrap_or (bits_of a) 0) (noted (entry_of d v.units (inputs_of from d v) [] a) v.units) (noted (entry_of d w.units (inputs_of from d w) [] a) w.units) low (number_fits a fit answer)
         (λ i. noted (entry_of d (same.units i) (inputs_same from source i) [] a) (same.units i))
-        (units_noted (entry_of d w.units (inputs_of from d w) [] a) w.units are_units) refl,
+        (search (rules, are_units)) refl,
   )
 
   -- a sign's operation is a copy where both sources are one register
@@ -169,7 +166,7 @@ module _ (d : Decoded) (v w : FullValues) (same : SameFull v w) (are_values : Ar
   -- frm gets the same of what is the same, and its old value goes to an integer register
   frm_agrees : (op : CsrOp) → d.rd < 30 → csr_result op v.units.frm (x_of d v) d.rs1 ≡ csr_result op w.units.frm (x_of d w) d.rs1 → RowsAgree w (csr_row op d v) (csr_row op d w)
   frm_agrees op low equal = put_agree target.Integer v.units.frm w.units.frm (set_frm v.units (csr_result op v.units.frm (x_of d v) d.rs1)) (set_frm w.units (csr_result op w.units.frm (x_of d w) d.rs1)) low (ap (λ u. u.frm) same.units) (let f = are_units.frm_fits in omega arith)
-      (λ i. set_frm (same.units i) (equal i)) (frm_set w.units _ are_units (csr_small op w.units.frm (x_of d w) d.rs1 are_units.frm_fits)) refl
+      (λ i. set_frm (same.units i) (equal i)) (search (rules, are_units, csr_small)) refl
 
   pub csr_agrees : (op : CsrOp) → IsUsableCsr op d → RowsAgree w (csr_row op d v) (csr_row op d w)
   csr_agrees Csrrw usable = frm_agrees Csrrw usable.0 (λ i. csr_result Csrrw (same.units i).frm (same.ints.regs d.rs1 usable.1 i) d.rs1)

@@ -1,16 +1,16 @@
 use Rattle.rv_emit.proofs.Terms.{ap, ◌∙◌, on_ok_weaker, context_by, fine_try, fine_ind, with_map}
 use Rattle.rv_emit.proofs.StackMaps.{space_given}
-use Rattle.rv_emit.proofs.CallSlots.{call_emits, call_ind_emits}
+use Rattle.rv_emit.proofs.CallSlots.{call_is, call_ind_is, call_emits}
 use Rattle.rv_emit.proofs.sequence.put_calls.Goals as goal
 
 pub returns-in-Call-clause-parts : goal.returns-in-Call-clause-parts
 returns-in-Call-clause-parts c =
-    λ family constants asks. on_ok_weaker c.put_call.result (call_emits (context_by c.args.flags c.args.frame.now constants) _ _ _ _ (ap (with_map c.args.stack_map.now) c.in-Call.is)
+    λ family constants asks. on_ok_weaker c.put_call.result (call_emits _ _ _ (call_is (context_by c.args.flags c.args.frame.now constants) _) (ap (with_map c.args.stack_map.now) c.in-Call.is)
     (space_given c.args.stack_map.now (context_by c.args.flags c.args.frame.now constants) c.args.inst.now ∙ asks)) (rw c.as_ref.ensures at c.put_call.ensures.slots)
 
 pub returns-in-CallInd-clause-parts : goal.returns-in-CallInd-clause-parts
 returns-in-CallInd-clause-parts c =
-    λ family constants asks. on_ok_weaker c.put_call_ind.result (call_ind_emits (context_by c.args.flags c.args.frame.now constants) _ _ _ _ (ap (with_map c.args.stack_map.now) c.in-CallInd.is)
+    λ family constants asks. on_ok_weaker c.put_call_ind.result (call_emits _ _ _ (call_ind_is (context_by c.args.flags c.args.frame.now constants) _) (ap (with_map c.args.stack_map.now) c.in-CallInd.is)
     (space_given c.args.stack_map.now (context_by c.args.flags c.args.frame.now constants) c.args.inst.now ∙ asks)) (rw c.as_ref-in-CallInd.ensures at c.put_call_ind.ensures.slots)
 
 pub put_call-requires-clause-fine : goal.put_call-requires-clause-fine
