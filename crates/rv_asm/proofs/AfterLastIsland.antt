@@ -1,20 +1,12 @@
 -- What is pending since the last island, by the lines and their spans, where islands end, and that none is early or too long.
-use Rattle.std.proofs.Common.{[], ap, arith, Bool, cond, drop, false, inl, inr, length, List, map, None, Option, refl, Some, subst, suc, sym, take, true, ℕ, ⊎_elim, ◌++◌, ◌+◌, ◌-◌, ◌<◌, ◌∙◌, ◌∷◌, ◌≡◌, ◌≤◌, ◌⊎◌}
-use Rattle.std.proofs.lemmas.Bool.{cases_Bool}
-use Rattle.std.proofs.lemmas.List.{append-nil}
-use Rattle.std.specs.Prelude.{slice_get}
-use Rattle.rv_inst.specs.Operands.{labels_of}
-use Rattle.std.proofs.lemmas.Bool.Decides.{nat_tests}
-use Rattle.rv_asm.proofs.Words.{After, AfterLastIsland, aligned, append_each, Appends, AppendsBy, AppendsInst, AppendsIsland, AppendsSequence, Around, before_or_last, Bind, BindPut, both_lists, bound_by, bound_kept, bound_pending, broken_rule, Buffer, bytes_of, bytes_put, cases_eq, or_left}
-use Rattle.rv_asm.proofs.Words.{cases_lt, constants_end, constants_named, constants_of, constants_taken, constants_waiting, Context, deadline, deadlines, deadlines_as, direct_never_pending, Each, each_none, emitted_keeps, end_before, end_of, EndsIn, Extent, extent_of, or_right, false_from_ne_true}
-use Rattle.rv_asm.proofs.Words.{first_after_island, first_inner, forward_of, has_veneer_of, Inst, inst_rule, is_buffer_label, is_island, is_island_of, is_pending, IsDue, IsDueOf, Island, island_after, island_end, IslandDue, IslandIfNeeded, Jal20, keeps, label_kinds, LabelUse, Lacks, lacks, le-ltb}
-use Rattle.rv_asm.proofs.Words.{length-append, length-drop, length-take-le, Line, line_space, LineSpan, LinesStand, lt-ltb, MachLabel, named_of, no_own, none_pending, NotEarly, or_place, passing, pending, pending_at, pending_still, place_of, Put, registered_of, room_keeps, shape_of}
-use Rattle.rv_asm.proofs.Words.{slice_get_within, start_of, take-append-le, take_all, targets_of, true≢false, try_call_of, try_labels, unplaced_of, Use, uses_after_island, uses_from, uses_in, uses_of, VCodeConstant, waiting, Words, words_in, words_long, words_pending, leb-false, both_ways}
-use Rattle.rv_asm.proofs.LinesInBuffer.{InstAppends, LineAppends}
-use Rattle.rv_asm.proofs.Spans.{bound_by_append, bound_by_more, end_last, end_more, ends_more, get_drop, open_low, open_more, open_on, open_own, OpenAfter, own_uses, start_last, start_more, uses_more, of_cond}
-use Rattle.rv_asm.proofs.RefusalOrder.{all_at, all_both, none_any}
-use Rattle.rv_asm.proofs.LabelNames.{uses_labels}
-use Rattle.std.proofs.lemmas.Option.{none-some}
+use Rattle.{rv_asm.proofs.LabelNames.uses_labels, rv_asm.proofs.LinesInBuffer.{InstAppends, line_gap, LineAppends}, rv_asm.proofs.RefusalOrder.{all_at, all_both, none_any}}
+use Rattle.rv_asm.proofs.Spans.{bound_by_append, bound_by_more, ends_more, get_drop, open_low, open_more, open_on, open_own, OpenAfter, own_uses, uses_more, of_cond, read_last, read_more}
+use Rattle.rv_asm.proofs.Words.{[], AfterLastIsland, aligned, ap, append_each, Appends, AppendsIsland, AppendsSequence, arith, before_or_last, Bind, BindPut, Bool, both_lists, both_ways, bound_by, bound_kept, bound_pending, broken_rule, Buffer, bytes_of, cases_Bool, cases_eq, cases_lt, cond}
+use Rattle.rv_asm.proofs.Words.{constants_end, constants_named, constants_of, constants_taken, constants_waiting, Context, deadline, deadlines, deadlines_as, direct_never_pending, drop, Each, each_none, emitted_keeps, end_before, end_of, EndsIn, false, false_from_ne_true, first_after_island}
+use Rattle.rv_asm.proofs.Words.{first_inner, forward_of, from_of, Gap, has_veneer_of, inl, inr, Inst, inst_rule, is_buffer_label, is_pending, IsDue, island_after, island_end, IslandAsked, IslandIfNeeded, Jal20, keeps, label_kinds, LabelUse, le-ltb, leb-false, length, length-append, length-drop}
+use Rattle.rv_asm.proofs.Words.{length-take-le, Line, line_space, LineSpan, LinesStand, List, listed_try, lt-ltb, MachLabel, map, named_of, nat_lt, nat_tests, no_own, None, none-some, none_pending, NotEarly, Option, or_left, or_place, or_right, passing, pending, pending_at, pending_still, place_of}
+use Rattle.rv_asm.proofs.Words.{Put, refl, registered_of, request_of, room_keeps, same_Some, shape_of, slice_get, slice_get_within, Some, space_in, start_of, still_pending, subst, suc, sym, take, take-append-le, take_all, target_names as labels_of, targets_of, to_of, true, true≢false, try_call_of}
+use Rattle.{rv_asm.proofs.Words.{try_labels, unplaced_of, Use, uses_after_island, uses_from, uses_in, uses_of, VCodeConstant, waiting, ℕ, ⊎_elim, ◌++◌, ◌+◌, ◌-◌, ◌<◌, ◌||◌, ◌∙◌, ◌∷◌, ◌≡◌, ◌≤◌, ◌⊎◌}, std.proofs.lemmas.List.append-nil}
 
 -- ---- what is pending
 
@@ -24,10 +16,10 @@ deadlines_passing test [] = refl
 deadlines_passing test (u ∷ uses) = (λ j. cond (test u) (deadline label_kinds u ∷ deadlines_passing test uses j) (deadlines_passing test uses j)) ∙ sym (of_cond (map (deadline label_kinds)) (test u) (u ∷ passing test uses) (passing test uses))
 
 -- of the open uses alone
-pub pending_open : (context : Context) (lines : List Line) (spans : List LineSpan) (b : Buffer) → AfterLastIsland context lines spans b → pending b ≡ deadlines (pending_at (place_of b)) label_kinds (uses_after_island context lines spans)
-pending_open context lines spans b s =
+pub pending_open : (context : Context) (lines : List Line) (spans : List LineSpan) (gaps : List Gap) (b : Buffer) → AfterLastIsland context lines spans gaps b → pending b ≡ deadlines (pending_at (place_of b)) label_kinds (uses_after_island context lines spans gaps)
+pending_open context lines spans gaps b s =
     let test = pending_at (place_of b) in
-    deadlines_passing test (uses_of b) ∙ ap (map (deadline label_kinds)) s.ends.same ∙ sym (deadlines_passing test (uses_after_island context lines spans))
+    deadlines_passing test (uses_of b) ∙ ap (map (deadline label_kinds)) s.ends.same ∙ sym (deadlines_passing test (uses_after_island context lines spans gaps))
 
 -- ==== Where islands end, and what follows the last line, by the lines and their spans.
 
@@ -43,8 +35,7 @@ low_uses context start end inst rule j u h served =
     let none = all_both (λ l. is_buffer_label l ≡ false) (try_labels (try_call_of inst)) (labels_of (targets_of inst)) (none_any is_buffer_label _ k.listed_try) (none_any is_buffer_label _ k.listed) in
     ⊎_elim
     (λ o. subst (λ n. n < first_inner) o.is (leb-false first_inner o.label.number (all_at (λ l. is_buffer_label l ≡ false) _ none o.place o.label o.names)))
-    (λ high. absurd (both_ways _ high.1 served))
-    (uses_labels context start end inst j u h)
+    (λ high. absurd (both_ways _ high.1 served)) (uses_labels context start end inst j u h)
 
 low_from : (context : Context) (spans : List LineSpan) (first : ℕ) (lines : List Line) → ((i : ℕ) (line : Line) → slice_get lines i ≡ Some line → broken_rule context line ≡ None) → Each Low (uses_from context spans first lines)
 low_from context spans first [] ruled = each_none _
@@ -64,53 +55,52 @@ pub record WaitsAs (b other : Buffer) : Type 0 where
   pub named : named_of b ≡ named_of other
   pub registered : registered_of b ≡ registered_of other
 
-pub waits_same : (b : Buffer) → WaitsAs b b
-waits_same b = record { waits = refl; stand = refl; named = refl; registered = refl }
-
-module _ (context : Context) (lines : List Line) (spans : List LineSpan) (b : Buffer) (built : LinesStand context lines spans b) (since : AfterLastIsland context lines spans b) where
+module _ (context : Context) (lines : List Line) (spans : List LineSpan) (gaps : List Gap) (b : Buffer) (built : LinesStand context lines spans gaps b) (since : AfterLastIsland context lines spans gaps b) where
   -- the uses
-  pub uses_waiting : waiting context lines spans ≡ pending b
+  pub uses_waiting : waiting context lines spans gaps ≡ pending b
   uses_waiting =
-      let uses = uses_after_island context lines spans in
+      let uses = uses_after_island context lines spans gaps in
       let test = is_pending label_kinds (bound_by spans 0 lines) in
       let same : deadlines (pending_at (place_of b)) label_kinds uses ≡ deadlines test label_kinds uses = deadlines_as (pending_at (place_of b)) test label_kinds uses (λ j u h.
-      let k = first_after_island context lines spans (length lines) in
+      let k = first_after_island spans gaps (length lines) in
       same_test (place_of b) (bound_by spans 0 lines) u (λ served. since.places u.label.number (low_from context spans k (drop k lines) (λ i line e. since.ruled (k + i) line (sym (get_drop lines k i) ∙ e)) j u h served))) in
-      sym same ∙ sym (pending_open context lines spans b since)
+      sym same ∙ sym (pending_open context lines spans gaps b since)
 
   -- the constants
-  pub constants_left : constants_waiting context lines spans ≡ unplaced_of (shape_of b)
+  pub constants_left : constants_waiting context lines spans gaps ≡ unplaced_of (shape_of b)
   constants_left = λ i. drop (sym since.ends.stand i) (sym built.named i)
 
   -- so an island ends where it must
-  pub island_ends : (mid new : Buffer) → WaitsAs mid b → AppendsIsland mid new → length (bytes_of new) ≡ island_after context lines spans (length (bytes_of mid))
+  pub island_ends : (mid new : Buffer) → WaitsAs mid b → AppendsIsland mid new → length (bytes_of new) ≡ island_after context lines spans gaps (length (bytes_of mid))
   island_ends mid new same put =
-      let left : unplaced_of (shape_of mid) ≡ constants_waiting context lines spans = (λ i. drop (length (same.stand i)) (same.named i)) ∙ sym constants_left in
+      let left : unplaced_of (shape_of mid) ≡ constants_waiting context lines spans gaps = (λ i. drop (length (same.stand i)) (same.named i)) ∙ sym constants_left in
       put.end ∙ (λ i. island_end (λ n. constants_end ((same.registered ∙ built.registered) i) (left i) n) (aligned (length (bytes_of mid) + 4)) (length ((same.waits ∙ sym uses_waiting) i)) (length (bytes_of mid) + forward_of Jal20))
 
 -- ---- as spans are added
 
-module _ (context : Context) (lines : List Line) (spans more : List LineSpan) (le : length lines ≤ length spans) where
-  last_same : first_after_island context lines (spans ++ more) (length lines) ≡ first_after_island context lines spans (length lines)
-  last_same = subst (λ ls. first_after_island context ls (spans ++ more) (length lines) ≡ first_after_island context lines spans (length lines)) (append-nil lines) (open_more context lines [] spans more (length lines) le (omega arith))
+module _ (context : Context) (lines : List Line) (spans more : List LineSpan) (gaps more_gaps : List Gap) (le : length lines ≤ length spans) (gap_le : length lines ≤ length gaps) where
+  last_same : first_after_island (spans ++ more) (gaps ++ more_gaps) (length lines) ≡ first_after_island spans gaps (length lines)
+  last_same = open_more spans more gaps more_gaps (length lines) le gap_le
 
-  waiting_same : waiting context lines (spans ++ more) ≡ waiting context lines spans
+  waiting_same : waiting context lines (spans ++ more) (gaps ++ more_gaps) ≡ waiting context lines spans gaps
   waiting_same =
-      let k = first_after_island context lines spans (length lines) in
+      let k = first_after_island spans gaps (length lines) in
       let places : (label : ℕ) → bound_by (spans ++ more) 0 lines label ≡ bound_by spans 0 lines label = λ label. bound_by_more spans more 0 lines label (omega (arith, le)) in
       (λ j. deadlines (is_pending label_kinds (bound_by (spans ++ more) 0 lines)) label_kinds (uses_from context (spans ++ more) (last_same j) (drop (last_same j) lines)))
-      ∙ (λ j. deadlines (is_pending label_kinds (λ label. places label j)) label_kinds (uses_more context spans more k (drop k lines) (omega (arith, open_low context lines spans (length lines), length-drop k lines, le)) j))
+      ∙ (λ j. deadlines (is_pending label_kinds (λ label. places label j)) label_kinds (uses_more context spans more k (drop k lines) (omega (arith, open_low spans gaps (length lines), length-drop k lines, le)) j))
 
-  ends_same : (from : ℕ) → island_after context lines (spans ++ more) from ≡ island_after context lines spans from
+  ends_same : (from : ℕ) → island_after context lines (spans ++ more) (gaps ++ more_gaps) from ≡ island_after context lines spans gaps from
   ends_same from = λ j. island_end (constants_end context.constants (drop (length (constants_named (take (last_same j) lines))) (constants_named lines))) (aligned (from + 4)) (length (waiting_same j)) (from + forward_of Jal20)
 
 -- lines and spans more change nothing before them
-pub due_more : (context : Context) (lines more : List Line) (spans more_spans : List LineSpan) (i from to distance : ℕ) → length spans ≡ length lines → i ≤ length lines → IsDue context lines spans i from to distance → IsDue context (lines ++ more) (spans ++ more_spans) i from to distance
-due_more context lines more spans more_spans i from to distance count le d =
-    let long : length (take i lines) ≤ length spans = omega (arith, count, length-take-le i lines le, le) in
+pub due_more : (context : Context) (lines more : List Line) (spans more_spans : List LineSpan) (gaps more_gaps : List Gap) (i from to distance : ℕ) → length spans ≡ length lines → length gaps ≡ length lines → i ≤ length lines → IsDue context lines spans gaps i from to distance → IsDue context (lines ++ more) (spans ++ more_spans) (gaps ++ more_gaps) i from to distance
+due_more context lines more spans more_spans gaps more_gaps i from to distance count gap_count le d =
+    let short : length (take i lines) ≤ length lines = omega (arith, length-take-le i lines le, le) in
+    let long : length (take i lines) ≤ length spans = omega (arith, count, short) in
+    let gap_long : length (take i lines) ≤ length gaps = omega (arith, gap_count, short) in
     record {
-      needed = grind (arith, take-append-le i lines more le, waiting_same context (take i lines) spans more_spans long, d.needed);
-      ends = grind (arith, take-append-le i lines more le, ends_same context (take i lines) spans more_spans long from, d.ends);
+      needed = grind (arith, take-append-le i lines more le, waiting_same context (take i lines) spans more_spans gaps more_gaps long gap_long, d.needed);
+      ends = grind (arith, take-append-le i lines more le, ends_same context (take i lines) spans more_spans gaps more_gaps long gap_long from, d.ends);
     }
 
 -- ==== What is pending since the last island, as lines are put.
@@ -130,8 +120,7 @@ passing_none test (u ∷ uses) none = (λ i. cond (none 0 u refl i) (u ∷ passi
 -- of those that pass one test, those that pass one that is no weaker
 passing_less : (test less : Use LabelUse → Bool) → ((u : Use LabelUse) → test u ≡ false → less u ≡ false) → (uses : List (Use LabelUse)) → passing less (passing test uses) ≡ passing less uses
 passing_less test less weaker [] = refl
-passing_less test less weaker (u ∷ uses) =
-    grind (arith, weaker u, passing_less test less weaker uses)
+passing_less test less weaker (u ∷ uses) = grind (arith, weaker u, passing_less test less weaker uses)
 
 -- after an island nothing is pending, and all constants that were named stand
 ends_island : (old new : Buffer) → AppendsIsland old new → EndsIn [] (length (named_of old)) new
@@ -149,12 +138,12 @@ ends_code code own uses old new p e =
     record { same = grind (arith, p.uses, ap (passing after) e.same, passing_less before after weaker (uses_of old), passing_less before after weaker uses, passing_both); stand = ap length p.constants ∙ e.stand }
 
 -- an instruction adds its own, of which those of a table's and of its own labels are never pending
-ends_inst : (context : Context) (inst : Inst) (old new : Buffer) (uses : List (Use LabelUse)) {stand : ℕ} → AppendsInst context inst old new → EndsIn uses stand old → EndsIn (uses ++ uses_in context (length (bytes_of old)) (length (bytes_of new)) inst) stand new
-ends_inst context inst old new uses p e =
+ends_inst : (context : Context) (inst : Inst) (old new : Buffer) (uses : List (Use LabelUse)) {stand : ℕ} (a : Appends context inst old new) → EndsIn uses stand a.last → EndsIn (uses ++ uses_in context (length (bytes_of old)) (length (bytes_of new)) inst) stand new
+ends_inst context inst old new uses a e =
     let own = uses_in context (length (bytes_of old)) (length (bytes_of new)) inst in
     let test = pending_at (place_of new) in
-    let none : passing test p.direct ≡ [] = passing_none test p.direct (direct_never_pending context inst old new p) in
-    let all = ends_code p.code (own ++ p.direct) uses old new p.adds e in
+    let none : passing test a.direct ≡ [] = passing_none test a.direct (direct_never_pending context inst old new a) in
+    let all = ends_code a.code (own ++ a.direct) uses a.last new a.adds e in
     record { same = grind (arith, all.same, passing_both, append-nil, none); stand = all.stand }
 
 -- what was not pending is not pending once a label more is bound
@@ -165,50 +154,24 @@ ends_bind label old new span uses p e =
     let weaker : (u : Use LabelUse) → before u ≡ false → after u ≡ false = λ u none. false_from_ne_true (after u) (λ h. true≢false (sym (bound_pending label_kinds (place_of old) (place_of new) label.number p.unbound p.kept u h) ∙ none)) in
     record { same = ap (passing after) p.uses ∙ sym (passing_less before after weaker (uses_of old)) ∙ ap (passing after) e.same ∙ passing_less before after weaker uses; stand = ap length p.constants ∙ e.stand }
 
--- an island where one is needed before so many bytes leaves nothing that is pending
-room_empty : (space : ℕ) (old new : Buffer) (made : Bool) (uses : List (Use LabelUse)) {stand : ℕ} → IslandIfNeeded space old new made → EndsIn uses stand old → ((length (bytes_of old) < length (bytes_of new)) × EndsIn [] (length (named_of old)) new) ⊎ ((length (bytes_of new) ≡ length (bytes_of old)) × EndsIn uses stand new)
-room_empty space old new made uses {stand} room h = ⊎_elim
+-- an island where one is needed leaves nothing that is pending
+room_empty : (space : Option ℕ) (old new : Buffer) (uses : List (Use LabelUse)) {stand : ℕ} → IslandAsked space old new → EndsIn uses stand old → ((length (bytes_of old) < length (bytes_of new)) × EndsIn [] (length (named_of old)) new) ⊎ ((length (bytes_of new) ≡ length (bytes_of old)) × EndsIn uses stand new)
+room_empty None old new uses {stand} same h = inr (ap (λ (b : Buffer). length (bytes_of b)) same, subst (EndsIn uses stand) (sym same) h)
+room_empty (Some space) old new uses {stand} (made, room) h = ⊎_elim
     (λ same. inr (ap (λ (b : Buffer). length (bytes_of b)) same.1, subst (EndsIn uses stand) (sym same.1) h))
     (λ put. let longer = put.1.longer in inl (omega (arith, longer), ends_island old new put.1))
     room.put
 
 -- an instruction: its uses are added, to those before it where no island stands in it
-emitted_ends : (context : Context) (inst : Inst) (mid new : Buffer) (start end : ℕ) (uses : List (Use LabelUse)) (stand : ℕ) → start ≡ length (bytes_of mid) → end ≡ length (bytes_of new) → Appends context inst mid new → EndsIn uses stand mid →
-    ((is_island context (Put inst) start end ≡ true) × EndsIn (uses_in context start end inst) (length (named_of mid)) new) ⊎ ((is_island context (Put inst) start end ≡ false) × EndsIn (uses ++ uses_in context start end inst) stand new)
-emitted_ends context inst mid new start end uses stand starts ends e h = by (extent_of context inst) refl (lacks context inst) e
-  where
-    own : List (Use LabelUse)
-    own = uses_in context start end inst
-
-    -- by its offsets
-    placed : (more : List (Use LabelUse)) {count : ℕ} → EndsIn (more ++ uses_in context (length (bytes_of mid)) (length (bytes_of new)) inst) count new → EndsIn (more ++ own) count new
-    placed more {count} g = subst (λ n. EndsIn (more ++ uses_in context n end inst) count new) (sym starts) (subst (λ n. EndsIn (more ++ uses_in context (length (bytes_of mid)) n inst) count new) (sym ends) g)
-
-    -- without uses
-    bare : (more : List (Use LabelUse)) {count : ℕ} → own ≡ [] → EndsIn more count new → EndsIn (more ++ own) count new
-    bare more {count} none g = subst (λ us. EndsIn (more ++ us) count new) (sym none) (subst (λ us. EndsIn us count new) (sym (append-nil more)) g)
-
-    by : (e : Extent) → extent_of context inst ≡ e → Lacks context e inst → AppendsBy context e inst mid new → ((is_island_of e start end ≡ true) × EndsIn own (length (named_of mid)) new) ⊎ ((is_island_of e start end ≡ false) × EndsIn (uses ++ own) stand new)
-    by (Words size) is lack words = inr (refl, placed uses (ends_inst context inst mid new uses words h))
-    by (Island space) is lack (made, room) = ⊎_elim
-        (λ put. let longer = put.0 in inl (lt-ltb start end (omega (arith, starts, ends, longer)), bare [] (lack.0 start end) put.1))
-        (λ none. let level = none.0 in inr (le-ltb start end (omega (arith, starts, ends, level)), bare uses (lack.0 start end) none.1))
-        (room_empty space mid new made uses room h)
-    by (After space size more) is lack (last, made, room, words) =
-        let long = bytes_put context inst last new words ∙ ap (λ e. length (bytes_of last) + words_in e) is in
-        let block : (us : List (Use LabelUse)) (count : ℕ) → EndsIn us count last → EndsIn us count new = λ us count g. subst (λ us. EndsIn us count new) (append-nil us) (subst (λ own. EndsIn (us ++ own) count new) (lack.0 (length (bytes_of last)) (length (bytes_of new))) (ends_inst context inst last new us words g)) in
-        ⊎_elim
-        (λ put. let longer = put.0 in inl (lt-ltb (start + size) end (omega (arith, starts, ends, long, longer)), bare [] (lack.0 start end) (block [] (length (named_of mid)) put.1)))
-        (λ none. let level = none.0 in inr (le-ltb (start + size) end (omega (arith, starts, ends, long, level)), bare uses (lack.0 start end) (block uses stand none.1)))
-        (room_empty space mid last made uses room h)
-    by (Around before space after) is lack a =
-        let first_long = words_long before [] _ mid a.mid a.first in
-        let second_long = words_long after _ [] a.last new a.second in
-        let second : (us : List (Use LabelUse)) (count : ℕ) → EndsIn us count a.last → EndsIn (us ++ own) count new = λ us count g. placed us (ends_code a.second.code _ us a.last new (no_own a.second.code _ a.last new a.second.adds) g) in
-        ⊎_elim
-        (λ put. let longer = put.0 in inl (lt-ltb (start + (before + after)) end (omega (arith, starts, ends, first_long, second_long, longer)), subst (λ names. EndsIn own (length names) new) a.first.named (second [] (length (named_of a.mid)) put.1)))
-        (λ none. let level = none.0 in inr (le-ltb (start + (before + after)) end (omega (arith, starts, ends, first_long, second_long, level)), second uses stand none.1))
-        (room_empty space a.mid a.last a.made uses a.room (subst (λ us. EndsIn us stand a.mid) (append-nil uses) (ends_code a.first.code [] uses mid a.mid (no_own a.first.code [] mid a.mid a.first.adds) h)))
+emitted_ends : (context : Context) (inst : Inst) (mid new : Buffer) (start end : ℕ) (uses : List (Use LabelUse)) (stand : ℕ) → start ≡ length (bytes_of mid) → end ≡ length (bytes_of new) → (a : Appends context inst mid new) → EndsIn uses stand mid →
+    ((nat_lt (length (bytes_of a.mid)) (length (bytes_of a.last)) ≡ true) × EndsIn (uses_in context start end inst) (length (named_of mid)) new) ⊎ ((nat_lt (length (bytes_of a.mid)) (length (bytes_of a.last)) ≡ false) × EndsIn (uses ++ uses_in context start end inst) stand new)
+emitted_ends context inst mid new start end uses stand starts ends a h =
+    let placed : (more : List (Use LabelUse)) (count : ℕ) → EndsIn (more ++ uses_in context (length (bytes_of mid)) (length (bytes_of new)) inst) count new → EndsIn (more ++ uses_in context start end inst) count new = λ more count g. subst (λ n. EndsIn (more ++ uses_in context n end inst) count new) (sym starts) (subst (λ n. EndsIn (more ++ uses_in context (length (bytes_of mid)) n inst) count new) (sym ends) g) in
+    let first = subst (λ us. EndsIn us stand a.mid) (append-nil uses) (ends_code a.front [] uses mid a.mid (no_own a.front [] mid a.mid a.first) h) in
+    ⊎_elim
+    (λ put. let longer = put.0 in inl (lt-ltb (length (bytes_of a.mid)) (length (bytes_of a.last)) longer, placed [] (length (named_of mid)) (ends_inst context inst mid new [] a (subst (λ names. EndsIn [] (length names) a.last) a.unnamed put.1))))
+    (λ none. let level = none.0 in inr (le-ltb (length (bytes_of a.mid)) (length (bytes_of a.last)) (omega (arith, level)), placed uses stand (ends_inst context inst mid new uses a none.1)))
+    (room_empty (space_in (request_of context inst) (length a.code)) a.mid a.last uses a.island first)
 
 -- ---- labels
 
@@ -220,30 +183,30 @@ bound_next : (lines : List Line) (spans : List LineSpan) (line : Line) (span : L
 bound_next lines spans line span label count =
     grind (arith, bound_by_append (spans ++ span ∷ []) 0 lines (line ∷ []) label, bound_by_more spans (span ∷ []) 0 lines label (omega arith))
 
-bound_put : (lines : List Line) (spans : List LineSpan) (inst : Inst) (span : LineSpan) (label : ℕ) → length spans ≡ length lines → bound_by (spans ++ span ∷ []) 0 (lines ++ Put inst ∷ []) label ≡ bound_by spans 0 lines label
-bound_put lines spans inst span label count = bound_next lines spans (Put inst) span label count ∙ or_none _
-
 bound_bind : (lines : List Line) (spans : List LineSpan) (l : MachLabel) (span : LineSpan) (old new : Buffer) (label : ℕ) → length spans ≡ length lines → BindPut l old new span → place_of old label ≡ bound_by spans 0 lines label → place_of new label ≡ bound_by (spans ++ span ∷ []) 0 (lines ++ Bind l ∷ []) label
 bound_bind lines spans l span old new label count p places =
     let whole = bound_next lines spans (Bind l) span label count in
-    ⊎_elim (λ e. grind (arith, nat_tests, start_last, p.start, p.bound, p.unbound)) (λ differ. grind (arith, nat_tests, p.kept label differ, or_none)) (cases_eq label l.number)
+    ⊎_elim (λ e. grind (arith, nat_tests, read_last spans span (λ x. x.start), p.start, p.bound, p.unbound)) (λ differ. grind (arith, nat_tests, p.kept label differ, or_none)) (cases_eq label l.number)
 
 -- ---- the loop's invariant
 
-pub since_none : (context : Context) (b : Buffer) → uses_of b ≡ [] → constants_of b ≡ [] → ((label : ℕ) → place_of b label ≡ None) → AfterLastIsland context [] [] b
+pub since_none : (context : Context) (b : Buffer) → uses_of b ≡ [] → constants_of b ≡ [] → ((label : ℕ) → place_of b label ≡ None) → AfterLastIsland context [] [] [] b
 since_none context b uses constants none = record {
   ends = record { same = ap (passing (pending_at (place_of b))) uses; stand = ap length constants };
   places = λ label low. none label;
   ruled = λ i line h. absurd (none-some line h);
 }
 
-module _ (context : Context) (lines : List Line) (spans : List LineSpan) (line : Line) (span : LineSpan) (old : Buffer) (built : LinesStand context lines spans old) (since : EndsIn (uses_after_island context lines spans) (length (constants_taken context lines spans)) old) where
+module _ (context : Context) (lines : List Line) (spans : List LineSpan) (gaps : List Gap) (line : Line) (span : LineSpan) (gap : Gap) (old : Buffer) (built : LinesStand context lines spans gaps old) (since : EndsIn (uses_after_island context lines spans gaps) (length (constants_taken context lines spans gaps)) old) where
   abbrev EndsAfter : Buffer → Type 0
-  EndsAfter new = EndsIn (uses_after_island context (lines ++ line ∷ []) (spans ++ span ∷ [])) (length (constants_taken context (lines ++ line ∷ []) (spans ++ span ∷ []))) new
+  EndsAfter new = EndsIn (uses_after_island context (lines ++ line ∷ []) (spans ++ span ∷ []) (gaps ++ gap ∷ [])) (length (constants_taken context (lines ++ line ∷ []) (spans ++ span ∷ []) (gaps ++ gap ∷ []))) new
+
+  abbrev Opens : List (Use LabelUse) → List VCodeConstant → Type 0
+  Opens uses taken = OpenAfter context lines spans gaps line span gap built.count built.gap_count uses taken
 
   -- by what is open after the line, and the constants that islands took
-  ends_by : (uses : List (Use LabelUse)) (taken : List VCodeConstant) (new : Buffer) → OpenAfter context lines spans line span built.count uses taken → EndsIn uses (length taken) new → EndsAfter new
-  ends_by uses taken new o h = subst (λ us. EndsIn us (length (constants_taken context (lines ++ line ∷ []) (spans ++ span ∷ []))) new) (sym o.0) (subst (λ ks. EndsIn uses (length ks) new) (sym o.1) h)
+  ends_by : (uses : List (Use LabelUse)) (taken : List VCodeConstant) (new : Buffer) → Opens uses taken → EndsIn uses (length taken) new → EndsAfter new
+  ends_by uses taken new o h = subst (λ us. EndsIn us (length (constants_taken context (lines ++ line ∷ []) (spans ++ span ∷ []) (gaps ++ gap ∷ []))) new) (sym o.0) (subst (λ ks. EndsIn uses (length ks) new) (sym o.1) h)
 
   -- the uses that are open after what stands before the line, to which the line adds its own
   record Roomed (mid : Buffer) : Type 0 where
@@ -251,17 +214,18 @@ module _ (context : Context) (lines : List Line) (spans : List LineSpan) (line :
     pub taken : List VCodeConstant
     pub ends : EndsIn uses (length taken) mid
     pub names : named_of mid ≡ constants_named lines
-    pub adds : is_island context line span.start span.end ≡ false → OpenAfter context lines spans line span built.count (uses ++ own_uses context line span.start span.end) taken
+    pub adds : nat_lt gap.from gap.to ≡ false → Opens (uses ++ own_uses context line span.start span.end) taken
 
   room_ends : (mid : Buffer) (made : Bool) → IslandIfNeeded line_space old mid made → span.start ≡ length (bytes_of mid) → Roomed mid
   room_ends mid made m start = ⊎_elim
       (λ same.
+      let level : nat_lt (end_before spans (length lines)) span.start ≡ false = le-ltb (end_before spans (length lines)) span.start (omega (arith, (sym built.ends ∙ ap (λ (b : Buffer). length (bytes_of b)) (sym same.1) ∙ sym start))) in
       record {
-        uses = uses_after_island context lines spans;
-        taken = constants_taken context lines spans;
-        ends = subst (EndsIn (uses_after_island context lines spans) (length (constants_taken context lines spans))) (sym same.1) since;
+        uses = uses_after_island context lines spans gaps;
+        taken = constants_taken context lines spans gaps;
+        ends = subst (EndsIn (uses_after_island context lines spans gaps) (length (constants_taken context lines spans gaps))) (sym same.1) since;
         names = ap (λ (b : Buffer). named_of b) same.1 ∙ built.named;
-        adds = λ e. open_on context lines spans line span built.count e (le-ltb (end_before spans (length lines)) span.start (omega (arith, (sym built.ends ∙ ap (λ (b : Buffer). length (bytes_of b)) (sym same.1) ∙ sym start))));
+        adds = λ e. open_on context lines spans gaps line span gap built.count built.gap_count (λ j. e j || level j);
       })
       (λ put.
       let ends = built.ends in
@@ -270,35 +234,36 @@ module _ (context : Context) (lines : List Line) (spans : List LineSpan) (line :
         taken = constants_named lines;
         ends = subst (λ names. EndsIn [] (length names) mid) built.named (ends_island old mid put.1);
         names = put.1.named ∙ built.named;
-        adds = λ e. open_own context lines spans line span built.count (or_right (is_island context line span.start span.end) _ (lt-ltb (end_before spans (length lines)) span.start (omega (arith, put.1.longer, ends, start))));
+        adds = λ e. open_own context lines spans gaps line span gap built.count built.gap_count (or_right (nat_lt gap.from gap.to) _ (lt-ltb (end_before spans (length lines)) span.start (omega (arith, put.1.longer, ends, start))));
       })
       m.put
 
-inst_ends : (context : Context) (lines : List Line) (spans : List LineSpan) (inst : Inst) (span : LineSpan) (old new : Buffer) (b : LinesStand context lines spans old) (s : EndsIn (uses_after_island context lines spans) (length (constants_taken context lines spans)) old) →
-    InstAppends context inst old new span → EndsAfter context lines spans (Put inst) span old b s new
-inst_ends context lines spans inst span old new b s p =
-    let r = room_ends context lines spans (Put inst) span old b s p.mid p.made p.room p.start in
+line_ends : (context : Context) (lines : List Line) (spans : List LineSpan) (gaps : List Gap) (line : Line) (span : LineSpan) (old new : Buffer) (b : LinesStand context lines spans gaps old) (s : EndsIn (uses_after_island context lines spans gaps) (length (constants_taken context lines spans gaps)) old) →
+    (p : LineAppends context line old new span) → EndsAfter context lines spans gaps line span (line_gap context old new span line p) old b s new
+line_ends context lines spans gaps (Put inst) span old new b s p =
+    let gap = line_gap context old new span (Put inst) p in
+    let r = room_ends context lines spans gaps (Put inst) span gap old b s p.mid p.made p.room p.start in
     ⊎_elim
-    (λ among. ends_by context lines spans (Put inst) span old b s _ (constants_named lines) new (open_own context lines spans (Put inst) span b.count (or_left _ _ among.0)) (subst (λ names. EndsIn (uses_in context span.start span.end inst) (length names) new) r.names among.1))
-    (λ block. ends_by context lines spans (Put inst) span old b s _ r.taken new (r.adds block.0) block.1)
+    (λ among. ends_by context lines spans gaps (Put inst) span gap old b s _ (constants_named lines) new (open_own context lines spans gaps (Put inst) span gap b.count b.gap_count (or_left _ _ among.0)) (subst (λ names. EndsIn (uses_in context span.start span.end inst) (length names) new) r.names among.1))
+    (λ block. ends_by context lines spans gaps (Put inst) span gap old b s _ r.taken new (r.adds block.0) block.1)
     (emitted_ends context inst p.mid new span.start span.end r.uses (length r.taken) p.start p.end p.emitted r.ends)
+line_ends context lines spans gaps (Bind label) span old new b s p =
+    let at = length (bytes_of old) in
+    let none : nat_lt at at ≡ false = le-ltb at at (omega arith) in
+    let level : nat_lt (end_before spans (length lines)) span.start ≡ false = le-ltb (end_before spans (length lines)) span.start (omega (arith, (sym b.ends ∙ sym p.start))) in
+    ends_by context lines spans gaps (Bind label) span (line_gap context old new span (Bind label) p) old b s _ (constants_taken context lines spans gaps) new (open_on context lines spans gaps (Bind label) span (line_gap context old new span (Bind label) p) b.count b.gap_count (λ j. none j || level j))
+    (rw (append-nil (uses_after_island context lines spans gaps)) (ends_bind label old new span (uses_after_island context lines spans gaps) p s))
 
-bind_ends : (context : Context) (lines : List Line) (spans : List LineSpan) (label : MachLabel) (span : LineSpan) (old new : Buffer) (b : LinesStand context lines spans old) (s : EndsIn (uses_after_island context lines spans) (length (constants_taken context lines spans)) old) →
-    BindPut label old new span → EndsAfter context lines spans (Bind label) span old b s new
-bind_ends context lines spans label span old new b s p =
-    ends_by context lines spans (Bind label) span old b s _ (constants_taken context lines spans) new (open_on context lines spans (Bind label) span b.count refl (le-ltb (end_before spans (length lines)) span.start (omega (arith, (sym b.ends ∙ sym p.start)))))
-    (rw (append-nil (uses_after_island context lines spans)) (ends_bind label old new span (uses_after_island context lines spans) p s))
-
-pub since_next : (context : Context) (lines : List Line) (spans : List LineSpan) (line : Line) (span : LineSpan) (old new : Buffer) → LinesStand context lines spans old → AfterLastIsland context lines spans old → broken_rule context line ≡ None → LineAppends context line old new span → AfterLastIsland context (lines ++ line ∷ []) (spans ++ span ∷ []) new
-since_next context lines spans (Put inst) span old new b s rule p =
+pub since_next : (context : Context) (lines : List Line) (spans : List LineSpan) (gaps : List Gap) (line : Line) (span : LineSpan) (old new : Buffer) → LinesStand context lines spans gaps old → AfterLastIsland context lines spans gaps old → broken_rule context line ≡ None → (p : LineAppends context line old new span) → AfterLastIsland context (lines ++ line ∷ []) (spans ++ span ∷ []) (gaps ++ line_gap context old new span line p ∷ []) new
+since_next context lines spans gaps (Put inst) span old new b s rule p =
     let next = emitted_keeps context inst p.mid new p.emitted in
     record {
-      ends = inst_ends context lines spans inst span old new b s.ends p;
-      places = λ label low. next.1 label low ∙ (room_keeps line_space old p.mid p.made p.room).1 label low ∙ s.places label low ∙ sym (bound_put lines spans inst span label b.count);
+      ends = line_ends context lines spans gaps (Put inst) span old new b s.ends p;
+      places = λ label low. next.1 label low ∙ (room_keeps line_space old p.mid p.made p.room).1 label low ∙ s.places label low ∙ sym (bound_next lines spans (Put inst) span label b.count ∙ or_none _);
       ruled = append_each (λ line. broken_rule context line ≡ None) lines (Put inst) rule s.ruled;
     }
-since_next context lines spans (Bind label) span old new b s rule p = record {
-  ends = bind_ends context lines spans label span old new b s.ends p;
+since_next context lines spans gaps (Bind label) span old new b s rule p = record {
+  ends = line_ends context lines spans gaps (Bind label) span old new b s.ends p;
   places = λ other low. bound_bind lines spans label span old new other b.count p (s.places other low);
   ruled = append_each (λ line. broken_rule context line ≡ None) lines (Bind label) rule s.ruled;
 }
@@ -306,111 +271,125 @@ since_next context lines spans (Bind label) span old new b s rule p = record {
 -- ==== No island is early or too long, as lines are put.
 
 -- lines and spans more change nothing before them, nor do offsets that are the same
-due_kept : {context : Context} {lines : List Line} {spans : List LineSpan} {i from to start end distance : ℕ} (more : List Line) (more_spans : List LineSpan) → length spans ≡ length lines → i ≤ length lines → from ≡ start → to ≡ end → IsDue context lines spans i from to distance →
-    IsDue context (lines ++ more) (spans ++ more_spans) i start end distance
-due_kept {context} {lines} {spans} {i} {from} {to} {start} {end} {distance} more more_spans count le starts ends d =
-    rw (sym starts, sym ends) (due_more context lines more spans more_spans i from to distance count le d)
+due_kept : {context : Context} {lines : List Line} {spans : List LineSpan} {gaps : List Gap} {i from to start end distance : ℕ} (more : List Line) (more_spans : List LineSpan) (more_gaps : List Gap) → length spans ≡ length lines → length gaps ≡ length lines → i ≤ length lines → from ≡ start → to ≡ end → IsDue context lines spans gaps i from to distance →
+    IsDue context (lines ++ more) (spans ++ more_spans) (gaps ++ more_gaps) i start end distance
+due_kept {context} {lines} {spans} {gaps} {i} {from} {to} {start} {end} {distance} more more_spans more_gaps count gap_count le starts ends d =
+    rw (sym starts, sym ends) (due_more context lines more spans more_spans gaps more_gaps i from to distance count gap_count le d)
 
 -- ---- no island is early
 
 -- where one was put before so many bytes it is due, and ends where it must
-room_due : (context : Context) (lines : List Line) (spans : List LineSpan) (distance : ℕ) (old mid new : Buffer) (made : Bool) → LinesStand context lines spans old → AfterLastIsland context lines spans old → WaitsAs mid old → IslandIfNeeded distance mid new made →
-    length (bytes_of mid) < length (bytes_of new) → IsDue context lines spans (length lines) (length (bytes_of mid)) (length (bytes_of new)) distance
-room_due context lines spans distance old mid new made b s same m longer = ⊎_elim
+room_due : (context : Context) (lines : List Line) (spans : List LineSpan) (gaps : List Gap) (distance : ℕ) (old mid new : Buffer) (made : Bool) → LinesStand context lines spans gaps old → AfterLastIsland context lines spans gaps old → WaitsAs mid old → IslandIfNeeded distance mid new made →
+    length (bytes_of mid) < length (bytes_of new) → IsDue context lines spans gaps (length lines) (length (bytes_of mid)) (length (bytes_of new)) distance
+room_due context lines spans gaps distance old mid new made b s same m longer = ⊎_elim
     (λ none. let level : length (bytes_of new) ≡ length (bytes_of mid) = ap (λ (b : Buffer). length (bytes_of b)) none.1 in absurd (omega (arith, level, longer)))
     (λ put.
     record {
-      needed = grind (arith, same.waits, uses_waiting context lines spans old b s, take_all, m.asked, put.0);
-      ends = grind (arith, island_ends context lines spans old b s mid new same put.1, take_all);
+      needed = grind (arith, same.waits, uses_waiting context lines spans gaps old b s, take_all, m.asked, put.0);
+      ends = grind (arith, island_ends context lines spans gaps old b s mid new same put.1, take_all);
     })
     m.put
 
 -- in a line, before which one is put only where none is put in it
-in_line : (context : Context) (lines : List Line) (spans : List LineSpan) (space : ℕ) (old mid next last : Buffer) (made second : Bool) → LinesStand context lines spans old → AfterLastIsland context lines spans old → IslandIfNeeded line_space old mid made → WaitsAs next mid →
-    IslandIfNeeded space next last second → length (bytes_of next) < length (bytes_of last) → IsDue context lines spans (length lines) (length (bytes_of next)) (length (bytes_of last)) space
-in_line context lines spans space old mid next last made second b s before keeps within longer = ⊎_elim
-    (λ same. room_due context lines spans space old next last second b s (subst (WaitsAs next) same.1 keeps) within longer)
+in_line : (context : Context) (lines : List Line) (spans : List LineSpan) (gaps : List Gap) (space : ℕ) (old mid next last : Buffer) (made second : Bool) → LinesStand context lines spans gaps old → AfterLastIsland context lines spans gaps old → IslandIfNeeded line_space old mid made → WaitsAs next mid →
+    IslandIfNeeded space next last second → length (bytes_of next) < length (bytes_of last) → IsDue context lines spans gaps (length lines) (length (bytes_of next)) (length (bytes_of last)) space
+in_line context lines spans gaps space old mid next last made second b s before keeps within longer = ⊎_elim
+    (λ same. room_due context lines spans gaps space old next last second b s (subst (WaitsAs next) same.1 keeps) within longer)
     (λ put. absurd (no_second put.1.settled))
     before.put
   where
     no_second : pending mid ≡ [] → ⊥
     no_second settled = grind (arith, within.put, within.asked, keeps.waits, settled, longer)
 
-within_line : (context : Context) (lines : List Line) (spans : List LineSpan) (line : Line) (span : LineSpan) (old new : Buffer) → LinesStand context lines spans old → AfterLastIsland context lines spans old → LineAppends context line old new span → IslandDue context (lines ++ line ∷ []) (spans ++ span ∷ []) (length lines) line
-within_line context lines spans (Put inst) span old new b s p = by (extent_of context inst) refl p.emitted
+module _ (context : Context) (lines : List Line) (spans : List LineSpan) (gaps : List Gap) (line : Line) (span : LineSpan) (old new : Buffer) (b : LinesStand context lines spans gaps old) (s : AfterLastIsland context lines spans gaps old) (p : LineAppends context line old new span) (h : NotEarly context lines spans gaps) where
+  abbrev all : List LineSpan
+  all = spans ++ span ∷ []
+
+  abbrev all_gaps : List Gap
+  all_gaps = gaps ++ line_gap context old new span line p ∷ []
+
+  abbrev DueBefore : ℕ → Type 0
+  DueBefore i = end_before all i < start_of all i → IsDue context (lines ++ line ∷ []) all all_gaps i (end_before all i) (start_of all i) line_space
+
+  abbrev DueWithin : ℕ → Inst → Type 0
+  DueWithin i inst = (space : ℕ) → from_of all_gaps i < to_of all_gaps i → space_in (request_of context inst) (end_of all i - to_of all_gaps i) ≡ Some space → IsDue context (lines ++ line ∷ []) all all_gaps i (from_of all_gaps i) (to_of all_gaps i) space
+
+  kept : {i from to start end distance : ℕ} → i ≤ length lines → from ≡ start → to ≡ end → IsDue context lines spans gaps i from to distance → IsDue context (lines ++ line ∷ []) all all_gaps i start end distance
+  kept le starts ends d = due_kept (line ∷ []) (span ∷ []) (line_gap context old new span line p ∷ []) b.count b.gap_count le starts ends d
+
+  before : (i : ℕ) → i < length lines → DueBefore i
+  before i lt gap =
+      let start = read_more spans (span ∷ []) (λ x. x.start) i (omega (arith, lt, b.count)) in
+      let end = ends_more spans (span ∷ []) i (omega (arith, lt, b.count)) in
+      kept (omega arith) (sym end) (sym start) (h.before i lt (omega (arith, start, end, gap)))
+
+  start : start_of all (length lines) ≡ span.start
+  start = ap (start_of all) (sym b.count) ∙ read_last spans span (λ x. x.start)
+
+  end : end_before all (length lines) ≡ length (bytes_of old)
+  end = ends_more spans (span ∷ []) (length lines) (let count = b.count in omega (arith, count)) ∙ sym b.ends
+
+  before_last : (x : Line) → LineAppends context x old new span → DueBefore (length lines)
+  before_last (Put inst) q gap = kept (omega arith) (sym end) (sym q.start ∙ sym start) (room_due context lines spans gaps line_space old old q.mid q.made b s (record { waits = refl; stand = refl; named = refl; registered = refl }) q.room (let starts = q.start in omega (arith, start, end, starts, gap)))
+  before_last (Bind label) q gap = let starts = q.start in absurd (omega (arith, start, end, starts, gap))
+
+  each_before : (i : ℕ) → i < length (lines ++ line ∷ []) → DueBefore i
+  each_before i lt = ⊎_elim (before i) (λ high. let last : length lines ≡ i = omega (arith, lt, high, length-append lines (line ∷ [])) in subst DueBefore last (before_last line p)) (cases_lt i (length lines))
+
+  within : (i : ℕ) (inst : Inst) → slice_get lines i ≡ Some (Put inst) → DueWithin i inst
+  within i inst was space gap asked =
+      let lt = slice_get_within lines i (Put inst) was in
+      let from = read_more gaps (line_gap context old new span line p ∷ []) (λ x. x.from) i (omega (arith, lt, b.gap_count)) in
+      let to = read_more gaps (line_gap context old new span line p ∷ []) (λ x. x.to) i (omega (arith, lt, b.gap_count)) in
+      let end = read_more spans (span ∷ []) (λ x. x.end) i (omega (arith, lt, b.count)) in
+      kept (omega arith) (sym from) (sym to) (h.within i inst space was (omega (arith, from, to, gap)) ((λ j. space_in (request_of context inst) (sym end j - sym to j)) ∙ asked))
+
+within_last : (context : Context) (lines : List Line) (spans : List LineSpan) (gaps : List Gap) (inst : Inst) (span : LineSpan) (old new : Buffer) (b : LinesStand context lines spans gaps old) (s : AfterLastIsland context lines spans gaps old) (p : InstAppends context inst old new span) (h : NotEarly context lines spans gaps) → DueWithin context lines spans gaps (Put inst) span old new b s p h (length lines) inst
+within_last context lines spans gaps inst span old new b s p h space gap asked = by (space_in (request_of context inst) (length a.code)) refl a.island
   where
-    all_spans : List LineSpan
-    all_spans = spans ++ span ∷ []
+    a : Appends context inst p.mid new
+    a = p.emitted
 
-    start : start_of all_spans (length lines) ≡ length (bytes_of p.mid)
-    start = ap (start_of all_spans) (sym b.count) ∙ start_last spans span ∙ p.start
+    own : Gap
+    own = line_gap context old new span (Put inst) p
 
-    end : end_of all_spans (length lines) ≡ length (bytes_of new)
-    end = ap (end_of all_spans) (sym b.count) ∙ end_last spans span ∙ p.end
+    from : from_of (gaps ++ own ∷ []) (length lines) ≡ length (bytes_of a.mid)
+    from = ap (from_of (gaps ++ own ∷ [])) (sym b.gap_count) ∙ read_last gaps own (λ x. x.from)
 
-    due : (space from to : ℕ) (next last : Buffer) (second : Bool) → length (bytes_of next) ≡ from → WaitsAs next p.mid → IslandIfNeeded space next last second → length (bytes_of next) < length (bytes_of last) → length (bytes_of last) ≡ to →
-        IsDue context (lines ++ Put inst ∷ []) all_spans (length lines) from to space
-    due space from to next last second starts keeps room longer ends = due_kept (Put inst ∷ []) (span ∷ []) b.count (omega arith) starts ends (in_line context lines spans space old p.mid next last p.made second b s p.room keeps room longer)
+    to : to_of (gaps ++ own ∷ []) (length lines) ≡ length (bytes_of a.last)
+    to = ap (to_of (gaps ++ own ∷ [])) (sym b.gap_count) ∙ read_last gaps own (λ x. x.to)
 
-    by : (e : Extent) → extent_of context inst ≡ e → AppendsBy context e inst p.mid new → IsDueOf context (lines ++ Put inst ∷ []) all_spans (length lines) e
-    by (Words size) is words = tt
-    by (Island space) is (made, room) = λ gap. due space _ _ p.mid new made (sym start) (waits_same p.mid) room (omega (arith, start, end, gap)) (sym end)
-    by (After space size more) is (last, made, room, words) = λ gap.
-        let long = bytes_put context inst last new words ∙ ap (λ e. length (bytes_of last) + words_in e) is in
-        due space _ _ p.mid last made (sym start) (waits_same p.mid) room (omega (arith, start, end, gap, long)) (omega (arith, end, long))
-    by (Around before space after) is a = λ gap.
-        let first = words_long before [] _ p.mid a.mid a.first in
-        let second = words_long after _ [] a.last new a.second in
-        let keeps : WaitsAs a.mid p.mid = record { waits = words_pending before [] _ p.mid a.mid a.first ∙ append-nil (pending p.mid); stand = a.first.adds.constants; named = a.first.named; registered = a.first.adds.registered } in
-        due space _ _ a.mid a.last a.made (omega (arith, start, first)) keeps a.room (omega (arith, start, end, gap, first, second)) (omega (arith, end, second))
-within_line context lines spans (Bind label) span old new b s p = tt
+    end : end_of (spans ++ span ∷ []) (length lines) ≡ length (bytes_of new)
+    end = ap (end_of (spans ++ span ∷ [])) (sym b.count) ∙ read_last spans span (λ x. x.end) ∙ p.end
 
-island_due_more : (context : Context) (lines more : List Line) (spans more_spans : List LineSpan) (i : ℕ) (line : Line) → length spans ≡ length lines → i < length lines → IslandDue context lines spans i line → IslandDue context (lines ++ more) (spans ++ more_spans) i line
-island_due_more context lines more spans more_spans i (Put inst) count lt h = by (extent_of context inst) h
-  where
-    start : start_of spans i ≡ start_of (spans ++ more_spans) i
-    start = sym (start_more spans more_spans i (omega arith))
+    long : length (bytes_of new) ≡ length (bytes_of a.last) + length a.code
+    long = ap length a.adds.bytes ∙ length-append (bytes_of a.last) a.code
 
-    end : end_of spans i ≡ end_of (spans ++ more_spans) i
-    end = sym (end_more spans more_spans i (omega arith))
+    rest : end_of (spans ++ span ∷ []) (length lines) - to_of (gaps ++ own ∷ []) (length lines) ≡ length a.code
+    rest = omega (arith, end, to, long)
 
-    by : (e : Extent) → IsDueOf context lines spans i e → IsDueOf context (lines ++ more) (spans ++ more_spans) i e
-    by (Words size) h = tt
-    by (Island space) h = λ gap. due_kept more more_spans count (omega arith) start end (h (omega (arith, start, end, gap)))
-    by (After space size last) h = λ gap. due_kept more more_spans count (omega arith) start (ap (λ n. n - size) end) (h (omega (arith, start, end, gap)))
-    by (Around before space after) h = λ gap. due_kept more more_spans count (omega arith) (ap (λ n. n + before) start) (ap (λ n. n - after) end) (h (omega (arith, start, end, gap)))
-island_due_more context lines more spans more_spans i (Bind label) count lt h = tt
+    same : WaitsAs a.mid p.mid
+    same = record { waits = still_pending a.first; stand = a.first.constants; named = a.unnamed; registered = a.first.registered }
 
-pub early_none : (context : Context) → NotEarly context [] []
-early_none context = record { before = λ i lt. absurd (omega arith); within = λ i line h. absurd (cc) }
+    by : (o : Option ℕ) → space_in (request_of context inst) (length a.code) ≡ o → IslandAsked o a.mid a.last → IsDue context (lines ++ Put inst ∷ []) (spans ++ span ∷ []) (gaps ++ own ∷ []) (length lines) (from_of (gaps ++ own ∷ []) (length lines)) (to_of (gaps ++ own ∷ []) (length lines)) space
+    by None is level = let e : length (bytes_of a.last) ≡ length (bytes_of a.mid) = ap (λ (b : Buffer). length (bytes_of b)) level in absurd (omega (arith, from, to, e, gap))
+    by (Some n) is (second, room) =
+        let n_is : n ≡ space = same_Some n space (sym is ∙ ap (space_in (request_of context inst)) (sym rest) ∙ asked) in
+        due_kept (Put inst ∷ []) (span ∷ []) (own ∷ []) b.count b.gap_count (omega arith) (sym from) (sym to)
+        (subst (IsDue context lines spans gaps (length lines) (length (bytes_of a.mid)) (length (bytes_of a.last))) n_is (in_line context lines spans gaps n old p.mid a.mid a.last p.made second b s p.room same room (omega (arith, from, to, gap))))
 
-pub early_next : (context : Context) (lines : List Line) (spans : List LineSpan) (line : Line) (span : LineSpan) (old new : Buffer) → LinesStand context lines spans old → AfterLastIsland context lines spans old → LineAppends context line old new span → NotEarly context lines spans → NotEarly context (lines ++ line ∷ []) (spans ++ span ∷ [])
-early_next context lines spans line span old new b s p h = record {
-  before = λ i lt. ⊎_elim (before i) (λ high. let last : length lines ≡ i = omega (arith, lt, high, length-append lines (line ∷ [])) in subst DueBefore last (before_last line p)) (cases_lt i (length lines));
-  within = λ i other at. ⊎_elim
-      (λ was. island_due_more context lines (line ∷ []) spans (span ∷ []) i other b.count (slice_get_within lines i other was) (h.within i other was))
-      (λ here. subst (λ m. IslandDue context (lines ++ line ∷ []) all m other) (sym here.0) (subst (IslandDue context (lines ++ line ∷ []) all (length lines)) here.1 (within_line context lines spans line span old new b s p)))
-      (before_or_last lines line i other at);
+pub early_next : (context : Context) (lines : List Line) (spans : List LineSpan) (gaps : List Gap) (line : Line) (span : LineSpan) (old new : Buffer) → LinesStand context lines spans gaps old → AfterLastIsland context lines spans gaps old → (p : LineAppends context line old new span) → NotEarly context lines spans gaps → NotEarly context (lines ++ line ∷ []) (spans ++ span ∷ []) (gaps ++ line_gap context old new span line p ∷ [])
+early_next context lines spans gaps (Put own) span old new b s p h = record {
+  before = each_before context lines spans gaps (Put own) span old new b s p h;
+  within = λ i inst space at gap asked. ⊎_elim
+      (λ was. within context lines spans gaps (Put own) span old new b s p h i inst was space gap asked)
+      (λ here.
+      let same : own ≡ inst = let e = here.1 in cc in
+      let Due = DueWithin context lines spans gaps (Put own) span old new b s p h in
+      subst (λ m. Due m inst) (sym here.0) (subst (Due (length lines)) same (within_last context lines spans gaps own span old new b s p h)) space gap asked)
+      (before_or_last lines (Put own) i (Put inst) at);
 }
-  where
-    all : List LineSpan
-    all = spans ++ span ∷ []
-
-    DueBefore : ℕ → Type 0
-    DueBefore i = end_before all i < start_of all i → IsDue context (lines ++ line ∷ []) all i (end_before all i) (start_of all i) line_space
-
-    before : (i : ℕ) → i < length lines → DueBefore i
-    before i lt gap =
-        let start = start_more spans (span ∷ []) i (omega (arith, lt, b.count)) in
-        let end = ends_more spans (span ∷ []) i (omega (arith, lt, b.count)) in
-        due_kept (line ∷ []) (span ∷ []) b.count (omega arith) (sym end) (sym start) (h.before i lt (omega (arith, start, end, gap)))
-
-    start : start_of all (length lines) ≡ span.start
-    start = ap (start_of all) (sym b.count) ∙ start_last spans span
-
-    end : end_before all (length lines) ≡ length (bytes_of old)
-    end = ends_more spans (span ∷ []) (length lines) (let count = b.count in omega (arith, count)) ∙ sym b.ends
-
-    before_last : (x : Line) → LineAppends context x old new span → DueBefore (length lines)
-    before_last (Put inst) p gap = due_kept (line ∷ []) (span ∷ []) b.count (omega arith) (sym end) (sym p.start ∙ sym start) (room_due context lines spans line_space old old p.mid p.made b s (waits_same old) p.room (let starts = p.start in omega (arith, start, end, starts, gap)))
-    before_last (Bind label) p gap = let starts = p.start in absurd (omega (arith, start, end, starts, gap))
+early_next context lines spans gaps (Bind label) span old new b s p h = record {
+  before = each_before context lines spans gaps (Bind label) span old new b s p h;
+  within = λ i inst space at gap asked. ⊎_elim (λ was. within context lines spans gaps (Bind label) span old new b s p h i inst was space gap asked) (λ here. let e = here.1 in absurd (cc)) (before_or_last lines (Bind label) i (Put inst) at);
+}

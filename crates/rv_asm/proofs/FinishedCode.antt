@@ -1,49 +1,40 @@
 -- Code that was built and finished keeps what is promised of it.
-use Rattle.std.proofs.Common.{[], ap, arith, cond, false, length, List, map, None, Option, pos, refl, Some, subst, suc, sym, true, zero, ℕ, ℤ, ⊎_elim, ◌%◌, ◌*◌, ◌++◌, ◌+◌, ◌-ℤ◌, ◌<◌, ◌^◌, ◌∙◌, ◌∷◌, ◌≡◌, ◌≤◌}
-use Rattle.std.specs.Prelude.{nat_eq, slice_get, ◌&&◌}
-use Rattle.mach_buffer.specs.Veneers.{put_all, put_at, put_veneer}
-use Rattle.rv_asm.specs.Jumps.{GoesTo, HasJumps}
-use Rattle.rv_asm.specs.Refusal.{lines_refusal, refusal}
-use Rattle.rv_code.specs.Operations.{decoded_jump, short_jump}
-use Rattle.rv_code.specs.Slots.{Label}
-use Rattle.rv_encode.specs.Operations.{decoded_branch}
-use Rattle.rv_machine.proofs.UnitOperations.{integer_decodes, is_integer}
-use Rattle.rv_machine.specs.Layout.{compressed}
-use Rattle.rv_machine.specs.declared.decoding.Decoded.{Decoded}
-use Rattle.rv_machine.specs.declared.ops.MOp.TheVariants.{Base}
+use Rattle.{rv_asm.proofs.AfterLastIsland.{constants_left, uses_waiting}, rv_asm.proofs.Images.{data_there, fields_after, fields_within, is_filled, keeps_outside, placed_at, puts_split, reloc_ends, trap_if_there, trap_reported, trap_there}, rv_asm.proofs.LabelNames.{bound_place, finished_short}}
+use Rattle.{rv_asm.proofs.LineRecords.{LineSpread, constants_unfilled, fields_apart, fields_in_lines, handlers_reported, lines_save}, rv_asm.proofs.LinesInBuffer.{gap_within, outside_more}, rv_asm.proofs.LinesJoin.{full_runs, IsThreaded, Known, LineIn, site_of, threaded_runs}}
+use Rattle.{rv_asm.proofs.RefusalOrder.{accepted_frame, accepted_lines, AllBound, bind_at, names_bound, no_rule_broken, none_stuck, parts, sum_small}, rv_asm.proofs.Spans.line_at}
+use Rattle.rv_asm.proofs.Words.{[], access_slots, Addresses, adds_end, AddsConstants, AfterLastIsland, Aim, AllByRecursion, AllBytes, ap, AreWindows, arith, B12, backward_of, Base, Bind, binding_line, binds_from, branch_to, broken_rule, Buffer, bytes_of, calls_in, cases_eq, Code, code_limit}
+use Rattle.rv_asm.proofs.Words.{CodeFits, comes_from, cond, cond_both, CondBr, CondBrTarget, Constant, constants_end, constants_of, constants_taken, constants_waiting, ConstPlace, context_of, core, Decoded, decoded_branch, EmitVState, end_before, end_of, Fallthrough, false, fetch, Finishes}
+use Rattle.rv_asm.proofs.Words.{forward_of, from_of, FullRuns, Gap, gap_is, gap_stands, GapAsked, GapIn, GoesToLabel, GoStraight, has_operation, has_veneer_of, HasConstants, HasFullOperations, HasOperations, HasTail, InReach, Inst, integer_decodes, IntegerCompare, is_bound, is_integer, is_reached}
+use Rattle.rv_asm.proofs.Words.{is_stuck, IsaFlags, IsApart, IsFilled, IsFinished, IsFinishedTo, IsGap, IsGapOf, IsIn, IsOutside, IsOwnForm, IsPlaced, IsPlacedAt, IsSpan, IsTrapAt, Jal, Jal20, Job, jump_kind, KeepsOutside, Kinds, Label, label_kinds, label_reached, label_start, LabelUse, Lasts}
+use Rattle.rv_asm.proofs.Words.{lasts_after_slots, lasts_more, le-leb, length, length_padded, Line, LinesStand, List, MachLabel, MachReloc, map, maps_in, marks_of, Memory, named_labels, nat_eq, nat_tests, None, offset_in, offset_or_zero, one_slot, Op, operation_of, Option, own_stands, padded_for}
+use Rattle.rv_asm.proofs.Words.{padding, parts_are_self_contained, parts_of, parts_stand, PartsIn, patches_in, pending, place_of, pos, Put, put_all, put_at, put_constant, put_constant_at, put_each, put_veneer, puts_bytes, reads_operation, recorded, recorded_get, records_from, records_of, refl}
+use Rattle.rv_asm.proofs.Words.{relocs_in, Reported, Request, request_of, returns_from, RunsAsListed, RVCJump, same_Some, SavesReal, Shape, shape_of, Site, size_of, size_sum, slice_get, slice_get-append, slice_get-append_last, Slot, slots_alone, SlotsIn, Some, StandApart, start_of, subst, suc, sym}
+use Rattle.{rv_asm.proofs.Words.{to_of, ToLabel, TrapCode, traps_in, tries_in, true, unplaced_of, unwinds_in, Use, use_at, uses_in, uses_of, VCodeConstant, veneers_end, zero, ℕ, ℤ, ⊎_elim, ◌%◌, ◌&&◌, ◌*◌, ◌++◌, ◌+◌, ◌-ℤ◌, ◌<◌, ◌^◌, ◌∙◌, ◌∷◌, ◌≡◌, ◌≤◌, ◌⊎◌}, rv_asm.specs.Jumps.{GoesTo, HasJumps}}
+use Rattle.{rv_asm.specs.Refusal.{lines_refusal, refusal}, rv_code.specs.Operations.{decoded_jump, short_jump}, rv_machine.specs.Layout.compressed}
 use Rattle.rv_machine.specs.declared.ops.BaseOp.TheVariants as base_op
-use Rattle.rv_asm.proofs.Words.{Addresses, adds_end, AddsConstants, After, AfterLastIsland, Aim, AllByRecursion, AllBytes, AreWindows, Around, B12, backward_of, Bind, binding_line, binds_from, branch_to, broken_rule, Buffer, bytes_of, calls_in, cases_eq, Code, code_limit, CodeFits, comes_from}
-use Rattle.rv_asm.proofs.Words.{CondBr, CondBrTarget, Constant, constants_end, constants_of, constants_taken, constants_waiting, ConstPlace, context_of, core, EmitVState, end_before, end_of, Extent, extent_of, Fallthrough, fetch, Finishes, forward_of, FullRuns, gap_is, gap_stands, GapIn}
-use Rattle.rv_asm.proofs.Words.{GoesToLabel, GoStraight, has_operation, has_veneer_of, HasConstants, HasFullOperations, HasOperations, HasTail, InReach, Inst, IntegerCompare, is_bound, is_reached, is_stuck, IsaFlags, IsApart, IsFilled, IsFinished, IsFinishedTo, IsGap, IsIn, Island, IsOutside}
-use Rattle.rv_asm.proofs.Words.{IsOwnForm, IsPlaced, IsPlacedAt, IsSized, IsSpan, IsTrapAt, Jal, Jal20, Job, jump_kind, KeepsOutside, Kinds, label_kinds, label_reached, label_start, LabelUse, Lasts, lasts_after_slots, lasts_more, le-leb, length_padded, Line, LinesStand, LineStands, MachLabel}
-use Rattle.rv_asm.proofs.Words.{MachReloc, maps_in, marks_of, Memory, named_labels, nat_tests, offset_in, offset_or_zero, one_slot, operation_of, own_stands, padded_for, padding, parts_are_self_contained, parts_of, parts_stand, PartsIn, patches_in, pending, place_of, Put, put_constant}
-use Rattle.rv_asm.proofs.Words.{put_constant_at, put_each, puts_bytes, reads_operation, recorded, recorded_get, records_from, records_of, relocs_in, Reported, returns_from, RunsAsListed, RVCJump, same_Some, SavesReal, Shape, shape_of, Site, size_of, size_sum, slice_get-append, slice_get-append_last}
-use Rattle.rv_asm.proofs.Words.{Slot, SlotsIn, SpansIn, StandApart, StandsAfter, start_of, ToLabel, traps_in, tries_in, unplaced_of, unwinds_in, Use, use_at, uses_in, uses_of, VCodeConstant, veneers_end, Words}
-use Rattle.rv_asm.proofs.AfterLastIsland.{constants_left, uses_waiting}
-use Rattle.rv_asm.proofs.Images.{data_there, fields_after, fields_within, is_filled, keeps_outside, placed_at, puts_split, reloc_ends, trap_if_there, trap_reported, trap_there}
-use Rattle.rv_asm.proofs.LabelNames.{bound_place, finished_short}
-use Rattle.rv_asm.proofs.LineRecords.{constants_unfilled, fields_apart, fields_in_lines, handlers_reported, lines_save}
-use Rattle.rv_asm.proofs.LinesInBuffer.{spans_within, words_more}
-use Rattle.rv_asm.proofs.LinesJoin.{full_runs, IsThreaded, Known, LineIn, site_of, threaded_runs}
-use Rattle.rv_asm.proofs.RefusalOrder.{accepted_frame, accepted_lines, AllBound, bind_at, names_bound, no_rule_broken, none_stuck, parts, sum_small}
-use Rattle.rv_asm.proofs.Spans.{line_at}
-use Rattle.std.proofs.lemmas.Bool.{cond_both}
 
 pub all_bytes : (bytes : List ℕ) → AllByRecursion (λ b. b < 256) bytes → AllBytes bytes
 all_bytes [] h k lt = absurd (omega arith)
 all_bytes (b ∷ bytes) h zero lt = h.0
 all_bytes (b ∷ bytes) h (suc k) lt = all_bytes bytes h.1 k (omega arith)
 
-module _ (job : Job) (code : Code) (b : Buffer) (built : LinesStand (context_of job) job.lines code.lines b) (f : IsFinishedTo (shape_of b) code.bytes) (constants : code.constants ≡ f.finishes.put.constants) (small : length code.bytes ≤ 2 ^ 64) where
-  spans_sized : (e : Extent) (start end : ℕ) → SpansIn job.flags (shape_of b) e start end → IsSized job.flags code.bytes e start end
-  spans_sized (Words size) start end long = long
-  spans_sized (Island space) start end gap = gap_is (context_of job) (shape_of b) code.bytes f small start end gap
-  spans_sized (After space size more) start end (mid, gap, long) = (mid, gap_is (context_of job) (shape_of b) code.bytes f small start mid gap, long)
-  spans_sized (Around before space after) start end (mid, gap, long) = (mid, gap_is (context_of job) (shape_of b) code.bytes f small (start + before) mid gap, long)
+module _ (job : Job) (code : Code) (gaps : List Gap) (b : Buffer) (built : LinesStand (context_of job) job.lines code.lines gaps b) (f : IsFinishedTo (shape_of b) code.bytes) (constants : code.constants ≡ f.finishes.put.constants) (small : length code.bytes ≤ 2 ^ 64) where
+  -- one of one machine word is as long as the word
+  word_long : (setting : EmitVState) (inst : Inst) (start end : ℕ) (d : Decoded) → operation_of (context_of job) inst ≡ Some d → PartsIn job.flags (parts_of (context_of job) setting inst) (shape_of b) start end → end ≡ start + d.len
+  word_long setting inst start end d one parts =
+      let a = one_slot (context_of job) setting inst d one in
+      by a.trap (subst (λ ps. PartsIn job.flags ps (shape_of b) start end) a.only parts)
+    where
+      ends : (slots : List Slot) (last : ℕ) → SlotsIn job.flags slots (shape_of b) start last → size_of slots ≡ d.len → last ≡ end → end ≡ start + d.len
+      ends slots last s long same = omega (arith, puts_bytes job.flags s.old.allocated slots s.old s.new s.puts, s.starts, s.ends, long, same)
 
-  line_long : (line : Line) (start end : ℕ) → LineStands (context_of job) line b start end → IsSpan (context_of job) code.bytes line start end
-  line_long (Put inst) start end h = spans_sized (extent_of (context_of job) inst) start end h.2
-  line_long (Bind label) start end (same, bound) = sym same
+      by : (trap : Option TrapCode) → PartsIn job.flags (slots_alone (access_slots trap ++ Op d ∷ [])) (shape_of b) start end → end ≡ start + d.len
+      by None (last, s, same) = ends (Op d ∷ []) last s (omega arith) same
+      by (Some code) (last, s, same) = ends (access_slots (Some code) ++ Op d ∷ []) last s (omega arith) same
+
+  gap_of : (request : Option Request) (from to : ℕ) → GapAsked job.flags request (shape_of b) from to → IsGapOf job.flags code.bytes request from to
+  gap_of None from to gap = gap
+  gap_of (Some r) from to gap = gap_is (context_of job) (shape_of b) code.bytes f small from to gap
 
   -- the constants that the end puts come after all lines
   put_after : AddsConstants (shape_of b) f.finishes.put
@@ -52,22 +43,39 @@ module _ (job : Job) (code : Code) (b : Buffer) (built : LinesStand (context_of 
   constant_put : (j : ℕ) (c : ConstPlace) → slice_get code.constants j ≡ Some c → slice_get f.finishes.put.constants j ≡ Some c
   constant_put j c h = ap (λ (cs : List ConstPlace). slice_get cs j) (sym constants) ∙ h
 
-  spans_long : (i : ℕ) (line : Line) → slice_get job.lines i ≡ Some line → IsSpan (context_of job) code.bytes line (start_of code.lines i) (end_of code.lines i)
-  spans_long i line e = line_long line (start_of code.lines i) (end_of code.lines i) (built.each i line e).there
+  spans_long : (i : ℕ) (line : Line) → slice_get job.lines i ≡ Some line → IsSpan (context_of job) code.bytes line (start_of code.lines i) (from_of gaps i) (to_of gaps i) (end_of code.lines i)
+  spans_long i (Put inst) e =
+      let h = (built.each i (Put inst) e).there in
+      let s = h.2 in
+      record { first = s.first; gap = gap_of (request_of (context_of job) inst) (from_of gaps i) (to_of gaps i) s.gap; last = s.last; begins = s.begins; size = s.size; word = λ d one. word_long h.0 inst (start_of code.lines i) (end_of code.lines i) d one h.1 }
+  spans_long i (Bind label) e = let h = (built.each i (Bind label) e).there in (sym h.0, h.2)
+
+  spread : (i : ℕ) (line : Line) → slice_get job.lines i ≡ Some line → LineSpread (context_of job) line (shape_of b) (start_of code.lines i) (from_of gaps i) (to_of gaps i) (end_of code.lines i)
+  spread i (Put inst) e = (built.each i (Put inst) e).there.2
+  spread i (Bind label) e = (built.each i (Bind label) e).there.0
 
   spans_joined : (i : ℕ) → suc i < length job.lines → IsGap job.flags code.bytes (end_of code.lines i) (start_of code.lines (suc i))
   spans_joined i lt = let next = line_at job.lines (suc i) lt in gap_is (context_of job) (shape_of b) code.bytes f small (end_of code.lines i) (start_of code.lines (suc i)) (built.each (suc i) next.0 next.1).gap
 
-  words_apart : StandApart (context_of job) job.lines code.lines code.constants
+  words_apart : StandApart (context_of job) job.lines code.lines gaps code.constants
   words_apart i inst h =
       let stood = built.each i (Put inst) h in
-      words_more job.constants (constants_of b) code.constants (length (bytes_of b)) (extent_of (context_of job) inst) (start_of code.lines i) (end_of code.lines i) (spans_within job.flags (shape_of b) (extent_of (context_of job) inst) (start_of code.lines i) (end_of code.lines i) stood.there.2) stood.ends (λ j c hc. put_after.fresh j c (constant_put j c hc)) (built.apart i inst h)
+      let s = stood.there.2 in
+      let was = built.apart i inst h in
+      let le = gap_within job.flags (request_of (context_of job) inst) (shape_of b) (from_of gaps i) (to_of gaps i) s.gap in
+      let fresh : (j : ℕ) (c : ConstPlace) → slice_get code.constants j ≡ Some c → (slice_get (constants_of b) j ≡ Some c) ⊎ (length (bytes_of b) ≤ c.offset) = λ j c hc. put_after.fresh j c (constant_put j c hc) in (
+        outside_more job.constants (constants_of b) code.constants (length (bytes_of b)) (start_of code.lines i) (from_of gaps i) (omega (arith, le, s.last, stood.ends)) fresh was.0,
+        outside_more job.constants (constants_of b) code.constants (length (bytes_of b)) (to_of gaps i) (end_of code.lines i) stood.ends fresh was.1,
+      )
 
   reloc_of : code.relocs ≡ relocs_in (records_of b) → (j : ℕ) (r : MachReloc) → slice_get code.relocs j ≡ Some r → slice_get (relocs_in (records_from (context_of job) code.lines 0 job.lines)) j ≡ Some r
   reloc_of relocs j r e = ap (λ (rs : List MachReloc). slice_get rs j) (sym (relocs ∙ ap relocs_in built.records)) ∙ e
 
-  pub built_reported : code.returns ≡ returns_from job.flags code.lines 0 job.lines → code.labels ≡ binds_from code.lines 0 job.lines → code.relocs ≡ relocs_in (records_of b) → code.traps ≡ traps_in (records_of b) → code.call_sites ≡ calls_in (records_of b) → code.try_call_sites ≡ tries_in (offset_or_zero (place_of b)) (records_of b) → code.patchable_call_sites ≡ patches_in (records_of b) → code.stack_maps ≡ maps_in (records_of b) → code.unwinds ≡ unwinds_in (records_of b) → code.end ≡ length (bytes_of b) → length (bytes_of b) ≤ length code.bytes → ((i : ℕ) (line : Line) → slice_get job.lines i ≡ Some line → AllBound job.lines (named_labels line)) → Reported job code
-  built_reported returns labels relocs traps call_sites try_call_sites patchable_call_sites stack_maps unwinds end within named = record {
+  pub built_reported : code.returns ≡ returns_from job.flags code.lines 0 job.lines → code.labels ≡ binds_from code.lines 0 job.lines → code.relocs ≡ relocs_in (records_of b) → code.traps ≡ traps_in (records_of b) → code.call_sites ≡ calls_in (records_of b) → code.try_call_sites ≡ tries_in (offset_or_zero (place_of b)) (records_of b) → code.patchable_call_sites ≡ patches_in (records_of b) → code.stack_maps ≡ maps_in (records_of b) → code.unwinds ≡ unwinds_in (records_of b) → code.end ≡ length (bytes_of b) → length (bytes_of b) ≤ length code.bytes → ((i : ℕ) (line : Line) → slice_get job.lines i ≡ Some line → AllBound job.lines (named_labels line)) → InReach job code gaps → HasJumps job code gaps → Reported job code
+  built_reported returns labels relocs traps call_sites try_call_sites patchable_call_sites stack_maps unwinds end within named reach jumps = record {
+    gaps = gaps;
+    reach = reach;
+    jumps = jumps;
     count = built.count;
     indices = built.indices;
     first = built.first;
@@ -81,7 +89,7 @@ module _ (job : Job) (code : Code) (b : Buffer) (built : LinesStand (context_of 
     constants = ap (map (λ (c : ConstPlace). c.constant)) constants ∙ f.finishes.listed ∙ built.named;
     placed = subst (HasConstants job.constants code.bytes) (sym constants) (subst (λ (cs : List Constant). HasConstants cs code.bytes f.finishes.put.constants) built.registered f.finishes.constants);
     ascend = λ i j c d k lt hc hd hk. (put_after.in_turn built.in_turn).ascend i j c d k lt (constant_put i c hc) (constant_put j d hd) (ap (λ (ks : List Constant). slice_get ks c.constant.number) (put_after.registered ∙ built.registered) ∙ hk);
-    unfilled = λ j c k hc hk. subst (λ (rs : List MachReloc). IsOutside rs c.offset (length k.bytes)) (sym (relocs ∙ ap relocs_in built.records)) (constants_unfilled (context_of job) code.bytes code.lines job.lines built.count spans_long job.constants code.constants words_apart j c k hc hk);
+    unfilled = λ j c k hc hk. subst (λ (rs : List MachReloc). IsOutside rs c.offset (length k.bytes)) (sym (relocs ∙ ap relocs_in built.records)) (constants_unfilled (context_of job) code.bytes code.lines gaps (shape_of b) job.lines built.count spread job.constants code.constants words_apart j c k hc hk);
     apart = words_apart;
     relocs = relocs ∙ ap relocs_in built.records;
     traps = traps ∙ ap traps_in built.records;
@@ -90,16 +98,16 @@ module _ (job : Job) (code : Code) (b : Buffer) (built : LinesStand (context_of 
     patchable_call_sites = patchable_call_sites ∙ ap patches_in built.records;
     stack_maps = stack_maps ∙ ap maps_in built.records;
     unwinds = unwinds ∙ ap unwinds_in built.records;
-    fields = λ j r e. fields_in_lines (context_of job) code.bytes code.lines job.lines built.count spans_long j r (reloc_of relocs j r e);
-    fields_apart = λ j k r s differ e g. fields_apart (context_of job) code.bytes code.lines job.lines built.count spans_long spans_joined j k r s differ (reloc_of relocs j r e) (reloc_of relocs k s g);
-    raw_data = data_there job code b built f relocs;
-    udf = trap_there job code b built f relocs;
-    trap_if = trap_if_there job code b built f relocs;
+    fields = λ j r e. fields_in_lines (context_of job) code.bytes code.lines gaps (shape_of b) job.lines built.count spread j r (reloc_of relocs j r e);
+    fields_apart = λ j k r s differ e g. fields_apart (context_of job) code.bytes code.lines gaps (shape_of b) job.lines built.count spread spans_joined j k r s differ (reloc_of relocs j r e) (reloc_of relocs k s g);
+    raw_data = data_there job code gaps b built f relocs;
+    udf = trap_there job code gaps b built f relocs;
+    trap_if = trap_if_there job code gaps b built f relocs;
   }
 
 -- ==== Code that a buffer of lines was finished to runs as its job says.
 
-module _ (job : Job) (code : Code) (b : Buffer) (built : LinesStand (context_of job) job.lines code.lines b) (f : IsFinishedTo (shape_of b) code.bytes) (constants : code.constants ≡ f.finishes.put.constants) (relocs : code.relocs ≡ relocs_in (records_of b)) (traps : code.traps ≡ traps_in (records_of b)) (ruled : (i : ℕ) (line : Line) → slice_get job.lines i ≡ Some line → broken_rule (context_of job) line ≡ None) where
+module _ (job : Job) (code : Code) (gaps : List Gap) (b : Buffer) (built : LinesStand (context_of job) job.lines code.lines gaps b) (f : IsFinishedTo (shape_of b) code.bytes) (constants : code.constants ≡ f.finishes.put.constants) (relocs : code.relocs ≡ relocs_in (records_of b)) (traps : code.traps ≡ traps_in (records_of b)) (ruled : (i : ℕ) (line : Line) → slice_get job.lines i ≡ Some line → broken_rule (context_of job) line ≡ None) where
   abbrev known : Known
   known = record { place = f.finishes.put.place; records = records_of b }
 
@@ -114,21 +122,18 @@ module _ (job : Job) (code : Code) (b : Buffer) (built : LinesStand (context_of 
     filled : IsFilled site code.bytes
     filled = is_filled code base symbols slots mem (context_of job) f.finishes.put.place (records_of b) relocs (fields_within (shape_of b) code.bytes f built.fields) placed
 
-    -- a line stands in the code, and ends at an even offset
-    line_in : (line : Line) (before start end : ℕ) → broken_rule (context_of job) line ≡ None → StandsAfter (context_of job) line b before start end → LineIn site line start end × (end % 2 ≡ 0)
-    line_in (Put inst) before start end rule h =
+    -- the line of an index stands in the code, and ends at an even offset
+    each_in : (i : ℕ) (line : Line) → slice_get job.lines i ≡ Some line → LineIn site line (start_of code.lines i) (end_of code.lines i) × (end_of code.lines i % 2 ≡ 0)
+    each_in i (Put inst) e =
+        let h = built.each i (Put inst) e in
         let setting = h.there.0 in
         let le = h.within in
         let longer = f.finishes.grows.longer in
         let long = f.finishes.same_length in
         let same = keeps.long in
-        let p = parts_stand site (shape_of b) code.bytes f keeps refl refl built.fields filled (parts_of (context_of job) setting inst) start end (parts_are_self_contained (context_of job) setting inst rule) h.even (omega arith) h.there.1 in
+        let p = parts_stand site (shape_of b) code.bytes f keeps refl refl built.fields filled (parts_of (context_of job) setting inst) (start_of code.lines i) (end_of code.lines i) (parts_are_self_contained (context_of job) setting inst (ruled i (Put inst) e)) h.even (omega arith) h.there.1 in
         (record { setting = setting; even = h.even; within = p.3; stands = p.0 }, p.1)
-    line_in (Bind label) before start end rule h = let same = h.there.0 in let even = h.even in (same, omega arith)
-
-    -- the line of an index does
-    each_in : (i : ℕ) (line : Line) → slice_get job.lines i ≡ Some line → LineIn site line (start_of code.lines i) (end_of code.lines i) × (end_of code.lines i % 2 ≡ 0)
-    each_in i line e = line_in line (end_before code.lines i) (start_of code.lines i) (end_of code.lines i) (ruled i line e) (built.each i line e)
+    each_in i (Bind label) e = let h = built.each i (Bind label) e in let same = h.there.0 in let even = h.even in (same, omega arith)
 
     gap_in : (i : ℕ) → suc i < length job.lines → GapIn site (end_of code.lines i) (start_of code.lines (suc i))
     gap_in i lt =
@@ -198,12 +203,10 @@ same_index bytes uses before more u grown windows h =
     let x = comes_from core uses n (core u) (ap (λ us. slice_get us n) grown ∙ slice_get-append (recorded (before ++ u ∷ [])) more n (core u) (recorded_get (before ++ u ∷ []) n u (slice_get-append_last before u))) in
     ⊎_elim
     (λ same. ap (slice_get uses) (sym same) ∙ h.there)
-    (λ differ. absurd (overlap x.from x.is (windows.apart h.index n u x.from differ h.there x.there)))
-    (cases_eq h.index n)
+    (λ differ. absurd (overlap x.from x.is (windows.apart h.index n u x.from differ h.there x.there))) (cases_eq h.index n)
   where
     overlap : (v : Use LabelUse) → core v ≡ core u → IsApart u.offset (length (marks_of u.kind)) v.offset (length (marks_of v.kind)) → ⊥
-    overlap v is apart =
-        grind (arith, some_marks u.kind, is, apart)
+    overlap v is apart = grind (arith, some_marks u.kind, is, apart)
 
 -- ---- one use
 
@@ -213,7 +216,7 @@ served_jump flags = cond_both flags.has_zca RVCJump Jal20 (λ k. has_veneer_of k
 short_jump_integer : (flags : IsaFlags) (d : ℤ) → is_integer (short_jump flags d).op ≡ true
 short_jump_integer flags d = cond_both flags.has_zca (compressed (Base base_op.Jal) 0 0 0 d) (decoded_jump d) (λ x. is_integer x.op ≡ true) (λ e. refl) (λ e. refl)
 
-module _ (job : Job) (code : Code) (b : Buffer) (built : LinesStand (context_of job) job.lines code.lines b) (fin : IsFinishedTo (shape_of b) code.bytes) (relocs : code.relocs ≡ relocs_in (records_of b)) (small : length code.bytes ≤ 2 ^ 64) (straight : GoStraight (context_of job) job.lines code.lines b) (named : (i : ℕ) (line : Line) → slice_get job.lines i ≡ Some line → AllBound job.lines (named_labels line)) where
+module _ (job : Job) (code : Code) (gaps : List Gap) (b : Buffer) (built : LinesStand (context_of job) job.lines code.lines gaps b) (fin : IsFinishedTo (shape_of b) code.bytes) (relocs : code.relocs ≡ relocs_in (records_of b)) (small : length code.bytes ≤ 2 ^ 64) (straight : GoStraight (context_of job) job.lines code.lines gaps b) (named : (i : ℕ) (line : Line) → slice_get job.lines i ≡ Some line → AllBound job.lines (named_labels line)) where
   module _ (base : ℕ) (symbols slots : Addresses) (mem : Memory) (placed : IsPlaced code base symbols slots mem) where
     abbrev jump_site : Site
     jump_site = site_of job code (record { place = fin.finishes.put.place; records = records_of b }) base symbols slots mem
@@ -222,7 +225,7 @@ module _ (job : Job) (code : Code) (b : Buffer) (built : LinesStand (context_of 
     jump_keeps = keeps_outside code base symbols slots mem (context_of job) fin.finishes.put.place (records_of b) relocs placed
 
     -- of a line, after other slots
-    goes : (i : ℕ) (inst : Inst) (front : List Slot) (kind : LabelUse) (label : MachLabel) (operation : ℤ → Decoded) (more : List Slot) (at k end : ℕ) → ((d : ℤ) → is_integer (operation d).op ≡ true) → slice_get job.lines i ≡ Some (Put inst) → SlotsIn job.flags (front ++ Aim kind (Label label) (λ d. operation d ∷ []) ∷ more) (shape_of b) (start_of code.lines i) end → start_of code.lines i + size_of front ≡ at → slice_get (uses_in (context_of job) (start_of code.lines i) (end_of code.lines i) inst) k ≡ Some (use_at at label kind) → has_veneer_of kind ≡ true → is_bound job.lines label.number ≡ true → GoesTo job code base mem i at kind operation label
+    goes : (i : ℕ) (inst : Inst) (front : List Slot) (kind : LabelUse) (label : MachLabel) (operation : ℤ → Decoded) (more : List Slot) (at k end : ℕ) → ((d : ℤ) → is_integer (operation d).op ≡ true) → slice_get job.lines i ≡ Some (Put inst) → SlotsIn job.flags (front ++ Aim kind (Label label) (λ d. operation d ∷ []) ∷ more) (shape_of b) (start_of code.lines i) end → start_of code.lines i + size_of front ≡ at → slice_get (uses_in (context_of job) (start_of code.lines i) (end_of code.lines i) inst) k ≡ Some (use_at at label kind) → has_veneer_of kind ≡ true → is_bound job.lines label.number ≡ true → GoesTo job code gaps base mem i at kind operation label
     goes i inst front kind label operation more at k end integer listed q sized own served bound =
         let to = label_start code.lines job.lines label.number in
         let u : Use LabelUse = use_at at label kind in
@@ -246,12 +249,12 @@ module _ (job : Job) (code : Code) (b : Buffer) (built : LinesStand (context_of 
               (ap (λ o. is_reached label_kinds o u) place ∙ reached forward backward);
         }
 
-    jal_goes : (i : ℕ) (label : MachLabel) → slice_get job.lines i ≡ Some (Put (Jal label)) → GoesTo job code base mem i (start_of code.lines i) (jump_kind job.flags) (short_jump job.flags) label
+    jal_goes : (i : ℕ) (label : MachLabel) → slice_get job.lines i ≡ Some (Put (Jal label)) → GoesTo job code gaps base mem i (start_of code.lines i) (jump_kind job.flags) (short_jump job.flags) label
     jal_goes i label e =
         let stood = (built.each i (Put (Jal label)) e).there in
         goes i (Jal label) [] (jump_kind job.flags) label (short_jump job.flags) [] (start_of code.lines i) 0 stood.1.0 (short_jump_integer job.flags) e stood.1.1 (omega arith) refl (served_jump job.flags) (named i (Put (Jal label)) e).0
 
-    branch_goes : (i : ℕ) (t : MachLabel) (not_taken : CondBrTarget) (kind : IntegerCompare) → slice_get job.lines i ≡ Some (Put (CondBr (ToLabel t) not_taken kind)) → GoesTo job code base mem i (start_of code.lines i) B12 (decoded_branch kind) t
+    branch_goes : (i : ℕ) (t : MachLabel) (not_taken : CondBrTarget) (kind : IntegerCompare) → slice_get job.lines i ≡ Some (Put (CondBr (ToLabel t) not_taken kind)) → GoesTo job code gaps base mem i (start_of code.lines i) B12 (decoded_branch kind) t
     branch_goes i t Fallthrough kind e =
         let stood = (built.each i (Put (CondBr (ToLabel t) Fallthrough kind)) e).there in
         goes i (CondBr (ToLabel t) Fallthrough kind) [] B12 t (decoded_branch kind) [] (start_of code.lines i) 0 stood.1.0 (λ d. refl) e stood.1.1 (omega arith) refl refl (named i (Put (CondBr (ToLabel t) Fallthrough kind)) e).0
@@ -259,13 +262,13 @@ module _ (job : Job) (code : Code) (b : Buffer) (built : LinesStand (context_of 
         let stood = (built.each i (Put (CondBr (ToLabel t) (ToLabel f) kind)) e).there in
         goes i (CondBr (ToLabel t) (ToLabel f) kind) [] B12 t (decoded_branch kind) _ (start_of code.lines i) 0 stood.1.0 (λ d. refl) e stood.1.1 (omega arith) refl refl (named i (Put (CondBr (ToLabel t) (ToLabel f) kind)) e).0
 
-    other_goes : (i : ℕ) (t f : MachLabel) (kind : IntegerCompare) → slice_get job.lines i ≡ Some (Put (CondBr (ToLabel t) (ToLabel f) kind)) → GoesTo job code base mem i (start_of code.lines i + 4) (jump_kind job.flags) (short_jump job.flags) f
+    other_goes : (i : ℕ) (t f : MachLabel) (kind : IntegerCompare) → slice_get job.lines i ≡ Some (Put (CondBr (ToLabel t) (ToLabel f) kind)) → GoesTo job code gaps base mem i (start_of code.lines i + 4) (jump_kind job.flags) (short_jump job.flags) f
     other_goes i t f kind e =
         let stood = (built.each i (Put (CondBr (ToLabel t) (ToLabel f) kind)) e).there in
         let parts : PartsIn job.flags (parts_of (context_of job) stood.0 (CondBr (ToLabel t) (ToLabel f) kind)) (shape_of b) (start_of code.lines i) (end_of code.lines i) = stood.1 in
         goes i (CondBr (ToLabel t) (ToLabel f) kind) (branch_to kind (Label t) ∷ []) (jump_kind job.flags) f (short_jump job.flags) [] (start_of code.lines i + 4) 1 parts.0 (short_jump_integer job.flags) e parts.1 (omega arith) refl (served_jump job.flags) (named i (Put (CondBr (ToLabel t) (ToLabel f) kind)) e).1.0
 
-  pub built_jumps : HasJumps job code
+  pub built_jumps : HasJumps job code gaps
   built_jumps = record {
     jal = λ i label base symbols slots mem e placed. jal_goes base symbols slots mem placed i label e;
     branch = λ i t not_taken kind base symbols slots mem e placed. branch_goes base symbols slots mem placed i t not_taken kind e;
@@ -306,23 +309,22 @@ module _ {L : Type 0} where
 -- the end of the last veneers
 veneers_long : (n : ℕ) (bytes : List ℕ) → length (cond (nat_eq n 0) bytes (bytes ++ padding (length bytes))) + 8 * n ≡ veneers_end n (length bytes)
 veneers_long zero bytes = omega arith
-veneers_long (suc n) bytes =
-    grind (arith, nat_tests, length_padded bytes)
+veneers_long (suc n) bytes = grind (arith, nat_tests, length_padded bytes)
 
-module _ (job : Job) (code : Code) (b : Buffer) (built : LinesStand (context_of job) job.lines code.lines b) (since : AfterLastIsland (context_of job) job.lines code.lines b) (f : Finishes label_kinds (shape_of b) code.bytes) (end : code.end ≡ length (bytes_of b)) (constants : code.constants ≡ f.put.constants) where
-  before : (j : ℕ) (c : ConstPlace) (k : Constant) → j < length (constants_taken (context_of job) job.lines code.lines) → slice_get code.constants j ≡ Some c → slice_get job.constants c.constant.number ≡ Some k → c.offset + length k.bytes ≤ code.end
+module _ (job : Job) (code : Code) (gaps : List Gap) (b : Buffer) (built : LinesStand (context_of job) job.lines code.lines gaps b) (since : AfterLastIsland (context_of job) job.lines code.lines gaps b) (f : Finishes label_kinds (shape_of b) code.bytes) (end : code.end ≡ length (bytes_of b)) (constants : code.constants ≡ f.put.constants) where
+  before : (j : ℕ) (c : ConstPlace) (k : Constant) → j < length (constants_taken (context_of job) job.lines code.lines gaps) → slice_get code.constants j ≡ Some c → slice_get job.constants c.constant.number ≡ Some k → c.offset + length k.bytes ≤ code.end
   before j c k lt hc hk =
       let d = line_at (constants_of b) j (omega (arith, lt, since.ends.stand)) in
       let same : d.0 ≡ c = same_Some d.0 c (sym (stood label_kinds (shape_of b) code.bytes f j d.0 d.1) ∙ ap (λ (cs : List ConstPlace). slice_get cs j) (sym constants) ∙ hc) in
       omega (arith, built.in_turn.within j c k (d.1 ∙ ap (λ (x : ConstPlace). Some x) same) (ap (λ (ks : List Constant). slice_get ks c.constant.number) built.registered ∙ hk), end)
 
-  pub built_tail : HasTail job code
+  pub built_tail : HasTail job code gaps
   built_tail =
-      let left = constants_left (context_of job) job.lines code.lines b built since in
-      let uses = uses_waiting (context_of job) job.lines code.lines b built since in
+      let left = constants_left (context_of job) job.lines code.lines gaps b built since in
+      let uses = uses_waiting (context_of job) job.lines code.lines gaps b built since in
       record {
         before = before;
-        long = f.same_length ∙ f.long ∙ (λ j. constants_end (built.registered j) (sym left j) (veneers_long (length (pending b)) (bytes_of b) j)) ∙ (λ j. constants_end job.constants (constants_waiting (context_of job) job.lines code.lines) (veneers_end (length (sym uses j)) (sym end j)));
+        long = f.same_length ∙ f.long ∙ (λ j. constants_end (built.registered j) (sym left j) (veneers_long (length (pending b)) (bytes_of b) j)) ∙ (λ j. constants_end job.constants (constants_waiting (context_of job) job.lines code.lines gaps) (veneers_end (length (sym uses j)) (sym end j)));
       }
 
 -- ==== Code that was built and finished keeps what is promised of it.
@@ -351,10 +353,12 @@ module _ (job : Job) (code : Code) (accepted : refusal job ≡ None) (f : IsFini
   finished_reported =
       let longer = f.finished.grows.longer in
       let long = f.finished.same_length in
-      built_reported job code f.sink f.built finished f.constants (omega (arith, short)) f.returns (f.labels ∙ f.named.labels) f.relocs f.traps f.call_sites f.try_call_sites f.patchable_call_sites f.stack_maps f.unwinds f.end (omega (arith, longer, long)) named
+      built_reported job code f.gaps f.sink f.built finished f.constants (omega (arith, short)) f.returns (f.labels ∙ f.named.labels) f.relocs f.traps f.call_sites f.try_call_sites f.patchable_call_sites f.stack_maps f.unwinds f.end (omega (arith, longer, long)) named
+      (record { early = f.early; tail = built_tail job code f.gaps f.sink f.built f.since f.finished f.end f.constants; short = bytes_short })
+      (built_jumps job code f.gaps f.sink f.built finished f.relocs (omega (arith, short)) f.straight named)
 
   threaded : IsThreaded job code (record { place = f.finished.put.place; records = records_of f.sink })
-  threaded = built_threaded job code f.sink f.built finished f.constants f.relocs f.traps (no_rule_broken (context_of job) job.lines e) short f.end f.returns (none_stuck job.frame job.lines (accepted_frame job accepted)) named
+  threaded = built_threaded job code f.gaps f.sink f.built finished f.constants f.relocs f.traps (no_rule_broken (context_of job) job.lines e) short f.end f.returns (none_stuck job.frame job.lines (accepted_frame job accepted)) named
 
   pub finished_runs : RunsAsListed job code
   finished_runs = threaded_runs job code _ threaded
@@ -363,17 +367,7 @@ module _ (job : Job) (code : Code) (accepted : refusal job ≡ None) (f : IsFini
   finished_full_runs = full_runs job code _ threaded
 
   pub finished_operations : HasOperations job code
-  finished_operations = built_operations job code f.sink f.built finished f.constants f.relocs f.traps (no_rule_broken (context_of job) job.lines e)
+  finished_operations = built_operations job code f.gaps f.sink f.built finished f.constants f.relocs f.traps (no_rule_broken (context_of job) job.lines e)
 
   pub finished_full_operations : HasFullOperations job code
-  finished_full_operations = built_full_operations job code f.sink f.built finished f.constants f.relocs f.traps (no_rule_broken (context_of job) job.lines e)
-
-  pub finished_jumps : HasJumps job code
-  finished_jumps = built_jumps job code f.sink f.built finished f.relocs (omega (arith, short)) f.straight named
-
-  pub finished_in_reach : InReach job code
-  finished_in_reach = record {
-    early = f.early;
-    tail = built_tail job code f.sink f.built f.since f.finished f.end f.constants;
-    short = bytes_short;
-  }
+  finished_full_operations = built_full_operations job code f.gaps f.sink f.built finished f.constants f.relocs f.traps (no_rule_broken (context_of job) job.lines e)

@@ -1,21 +1,13 @@
 -- Code that stands in the memory, filled by a linker, by what relocations ask and by what the buffer recorded.
-use Rattle.std.proofs.Common.{[], ap, arith, inl, inr, length, List, None, Option, pos, refl, Some, subst, suc, sym, zero, ℕ, ℤ, ⊎_elim, ◌++◌, ◌+◌, ◌-ℤ◌, ◌-◌, ◌<◌, ◌^◌, ◌∙◌, ◌∷◌, ◌≡◌, ◌≤◌}
-use Rattle.std.specs.Int.{to_le_bytes, w64}
-use Rattle.std.specs.Option.{option_map}
-use Rattle.std.specs.Prelude.{slice_get, slice_index, unwrap_or}
-use Rattle.mach_records.specs.declared.records.Event.{Event}
-use Rattle.mach_records.specs.declared.records.FinalizedRelocTarget.{FinalizedRelocTarget}
-use Rattle.rv_base.specs.CondCodes.{complement_of}
-use Rattle.rv_code.specs.Pieces.{Branch, New, slots_of}
-use Rattle.rv_code.specs.Slots.{Data}
+use Rattle.{mach_records.specs.declared.records.FinalizedRelocTarget.FinalizedRelocTarget, rv_asm.proofs.Spans.{get_after, of_cond}}
+use Rattle.rv_asm.proofs.Words.{[], Abs8, address_of_name, Addresses, AddressOf, Aims, aligned, AllClear, AllEnd, ap, arith, bits_back, Buffer, byte, bytes_from, call_event, clear_there, Code, complement_of, Context, context_of, distance_to, end_of, ends_later, EndsWithin, Event, event_relocs}
+use Rattle.rv_asm.proofs.Words.{ExternalName, field_size, FieldsEnd, FieldsStand, flat_map, Gap, Here, HoldsDistance, inl, inr, IntegerCompare, IsaFlags, IsFilled, IsFilledAt, IsFilledWith, IsFinishedTo, IsLinkedWith, IsOutside, IsPlaced, IsPlacedAt, IsRecorded, IsTrapAt, Job, KeepsOutside}
+use Rattle.rv_asm.proofs.Words.{label_kinds, LabelUse, Lasts, lasts_after_slots, lasts_more, length, length-append, LinesStand, List, locate, low64, lower_event, MachRecord, MachReloc, marks_of, Memory, None, Notes, number_of, Option, parts_of, PartsIn, PCRel32, PCRelHi20, PCRelLo12I}
+use Rattle.rv_asm.proofs.Words.{piece_finished, pos, Put, Puts, puts_bytes, puts_ends, RawData, record_relocs, record_traps, records_of, refl, Reloc, relocs_in, RiscvCallPlt, RiscvGotHi20, RiscvPCRelHi20, RiscvPCRelLo12I, same_number_lists, same_Some, SameOutside, Shape, shape_of, Site, size_of}
+use Rattle.rv_asm.proofs.Words.{slice_get, slice_get-append, slice_index, Slot, slot_fields_end, SlotOf, SlotsIn, Some, Stands, start_of, subst, suc, sym, Symbol, Trap, trap_bytes, trap_size, TrapCode, TrapIf, traps_in, Udf, unwrap_or, upper_event, window, window_byte, window_length, wrap, zero}
+use Rattle.{rv_asm.proofs.Words.{zeros, ℕ, ℤ, ⊎_elim, ◌++◌, ◌+◌, ◌-ℤ◌, ◌-◌, ◌<◌, ◌^◌, ◌∙◌, ◌∷◌, ◌≡◌, ◌≤◌}, rv_code.specs.Pieces.{Branch, New, slots_of}, rv_code.specs.Slots.Data, std.specs.Int.{to_le_bytes, w64}, std.specs.Option.option_map}
 use Rattle.mach_records.specs.declared.records.Event.TheVariants as event
 use Rattle.mach_records.specs.declared.records.FinalizedRelocTarget.TheVariants as target
-use Rattle.rv_asm.proofs.Words.{Abs8, address_of_name, Addresses, AddressOf, Aims, AllClear, AllEnd, bits_back, Buffer, byte, bytes_from, call_event, clear_there, Code, Context, context_of, distance_to, end_of, ends_later, EndsWithin, event_relocs, ExternalName, field_size, FieldsEnd, FieldsStand}
-use Rattle.rv_asm.proofs.Words.{flat_map, Here, HoldsDistance, IntegerCompare, IsaFlags, IsFilled, IsFilledAt, IsFilledWith, IsFinishedTo, IsLinkedWith, IsOutside, IsPlaced, IsPlacedAt, IsRecorded, IsTrapAt, Job, KeepsOutside, label_kinds, LabelUse, Lasts, lasts_after_slots, lasts_more}
-use Rattle.rv_asm.proofs.Words.{length-append, LinesStand, locate, low64, lower_event, MachRecord, MachReloc, marks_of, Memory, Notes, number_of, parts_of, PartsIn, PCRel32, PCRelHi20, PCRelLo12I, piece_finished, Put, Puts, puts_bytes, puts_ends, RawData, record_relocs, record_traps, records_of}
-use Rattle.rv_asm.proofs.Words.{Reloc, relocs_in, RiscvCallPlt, RiscvGotHi20, RiscvPCRelHi20, RiscvPCRelLo12I, same_number_lists, same_Some, SameOutside, Shape, shape_of, Site, size_of, slice_get-append, Slot, slot_fields_end, SlotOf, SlotsIn, Stands, start_of, Symbol, trap_bytes, trap_size}
-use Rattle.rv_asm.proofs.Words.{TrapCode, TrapIf, traps_in, Udf, upper_event, window, window_byte, window_length, wrap, zeros}
-use Rattle.rv_asm.proofs.Spans.{get_after, of_cond}
 
 -- ---- bytes of a memory
 
@@ -66,10 +58,6 @@ pub trap_reported : (records : List MachRecord) (at : ℕ) (cause : TrapCode) �
 trap_reported records at cause r = let t = gives record_traps records r.index _ (record { offset = at; code = cause }) r.there refl in record { index = t.0; there = t.1 }
 
 -- ---- distances
-
-distance_leads : (from to : ℕ) → from < 2 ^ 64 → to < 2 ^ 64 → wrap (from + low64 (distance_to from to)) ≡ to
-distance_leads from to lt fits =
-    omega (arith, bits_back (wrap (to + (2 ^ 64 - from))) (omega arith))
 
 -- where a name with an addend leads
 sum_leads : (o : Option ℕ) (addend : ℤ) (to : ℕ) → option_map (λ (a : ℕ). wrap (a + low64 addend)) o ≡ Some to → wrap (unwrap_or o 0 + low64 addend) ≡ to
@@ -170,7 +158,7 @@ module _ (code : Code) (base : ℕ) (symbols slots : Addresses) (mem : Memory) (
   module _ (same : code.relocs ≡ relocs_in records) (ends : (k : ℕ) (r : MachRecord) → slice_get records k ≡ Some r → EndsWithin (length code.bytes) r.offset r.event) (placed : IsPlaced code base symbols slots mem) where
     -- the distance from an address to where two words lead
     leads_to : (at to : ℕ) → to < 2 ^ 64 → wrap (base + at + low64 (distance_to (wrap (base + at)) to)) ≡ to
-    leads_to at to fits = let d = distance_leads (wrap (base + at)) to (omega arith) fits in omega arith
+    leads_to at to fits = omega (arith, bits_back (wrap (to + (2 ^ 64 - wrap (base + at)))) (omega arith))
 
     distances : (j k at : ℕ) (symbol : Symbol) → slice_get records j ≡ Some (record { offset = at; event = upper_event symbol }) → slice_get records k ≡ Some (record { offset = at + 4; event = lower_event at }) → IsFilledWith site code.bytes at symbol
     distances j k at (AddressOf name addend) hj hk =
@@ -262,7 +250,7 @@ module _ (flags : IsaFlags) (f : Shape LabelUse) (bytes : List ℕ) (fin : IsFin
 trap_zeros : (flags : IsaFlags) → trap_bytes flags ≡ zeros (trap_size flags)
 trap_zeros flags = sym (of_cond zeros flags.has_zca 2 4)
 
-module _ (job : Job) (code : Code) (b : Buffer) (built : LinesStand (context_of job) job.lines code.lines b) (fin : IsFinishedTo (shape_of b) code.bytes) (relocs : code.relocs ≡ relocs_in (records_of b)) where
+module _ (job : Job) (code : Code) (gaps : List Gap) (b : Buffer) (built : LinesStand (context_of job) job.lines code.lines gaps b) (fin : IsFinishedTo (shape_of b) code.bytes) (relocs : code.relocs ≡ relocs_in (records_of b)) where
   -- what is found in the code stands there
   found : (from at : ℕ) (piece : List ℕ) → from ≡ at → AreFound job.flags (shape_of b) code.bytes fin from piece → Stands code at piece
   found from at piece same h = subst (λ n. Stands code n piece) same (record { there = h.there; unfilled = all_outside code.relocs (records_of b) relocs from (length piece) h.clear })

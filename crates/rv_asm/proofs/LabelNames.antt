@@ -1,22 +1,13 @@
 -- Which labels are bound and named, how long code may be, and that a buffer can be finished.
-use Rattle.std.proofs.Common.{[], ap, arith, Bool, cond, false, inl, inr, length, List, None, Option, refl, Some, subst, suc, sym, true, ℕ, ⊎_elim, ◌*◌, ◌++◌, ◌+◌, ◌-◌, ◌<◌, ◌||◌, ◌∙◌, ◌∷◌, ◌≡◌, ◌≤◌, ◌⊎◌}
+use Rattle.{mach_uses.specs.declared.uses.LabelPlace.LabelPlace, rv_asm.proofs.LinesInBuffer.LineAppends, rv_asm.proofs.RefusalOrder.{all_at, AllBound, bind_at, test_none}, rv_asm.proofs.Spans.{get_after, given_from, given_next}}
+use Rattle.rv_asm.proofs.Words.{[], allocated_of, ap, append_each, Appends, AppendsIsland, AppendsSequence, arith, asked_by, before_last, Bind, binding_line, binds_from, Bool, both_lists, bound_kept, Branches, broken_rule, Buffer, bytes_of, CanFinish, CanReach, cases_eq, cases_lt, code_long}
+use Rattle.rv_asm.proofs.Words.{comes_from, cond, Constant, constant_label, constants_sum, Context, core, deadlines, due_by, due_total, Each, each_more, each_none, emitted_keeps, end_after, ends_within, Fallthrough, false, few_allocated, few_ways, Finishes, first_constant, first_inner, fits_most}
+use Rattle.rv_asm.proofs.Words.{Gap, has_veneer_of, HasSlack, high_kept, inl, inr, Inst, inst_code, inst_labels, inst_rule, inst_size, inst_sum, inst_ways, is_bound, is_far, is_some, IsConstantLabel, IsFarUse, IslandAsked, IslandIfNeeded, IsNamed, IsSoundBuffer, IsUsable, Jal20, jump_kind, Jumps}
+use Rattle.rv_asm.proofs.Words.{keeps, label_kinds, labels_of, LabelUse, last_end, last_near, leb-false, length, length-append, Line, line_space, line_sum, lines_sum, LineSpan, LinesStand, List, listed, lt-ltb, MachLabel, map-append, most_counts, Named, named_labels, named_of, nat_le, nat_tests}
+use Rattle.rv_asm.proofs.Words.{no_own, None, none-some, Nowhere, Option, PCRelLo12I, pending, pending_adds, pending_at, place_of, Put, reach_from_slack, reaches_from_slack, recorded, recorded_get, Refers, RefersConstant, refl, registered_of, Request, request_of, reserve_from, reserve_of}
+use Rattle.rv_asm.proofs.Words.{reserve_other, room_by, room_keeps, shape_of, size_limit, size_sum, Sized, slack_from_reach, slack_same, slice_get, slice_get-append, slice_get-append_last, Some, space_in, start_of, still_pending, subst, suc, sym, table_of, target_names, target_uses, Targets}
+use Rattle.rv_asm.proofs.Words.{targets_of, ToLabel as Label, total, true, true≢false, try_call_of, try_labels, TryCallInfo, Use, use_at, use_usable, uses_by, uses_in, uses_kinds, uses_of, uses_start, veneers_reach, ℕ, ⊎_elim, ◌*◌, ◌++◌, ◌+◌, ◌-◌, ◌<◌, ◌||◌, ◌∙◌, ◌∷◌, ◌≡◌, ◌≤◌, ◌⊎◌}
 use Rattle.std.proofs.lemmas.List.{append-nil}
-use Rattle.std.specs.Prelude.{is_some, nat_le, slice_get}
-use Rattle.mach_buffer.specs.Buffer.{labels_of}
-use Rattle.mach_uses.specs.Labels.{listed}
-use Rattle.mach_uses.specs.declared.uses.LabelPlace.{LabelPlace}
-use Rattle.rv_inst.specs.declared.inst.CondBrTarget.TheVariants.{Label}
-use Rattle.rv_asm.proofs.Words.{nat_tests, After, allocated_of, append_each, Appends, AppendsBy, AppendsInst, AppendsIsland, AppendsSequence, Around, before_last, Bind, binding_line, BindPut, binds_from, both_lists, bound_kept, Branches, broken_rule, Buffer, bytes_of, bytes_put, CanFinish, CanReach}
-use Rattle.rv_asm.proofs.Words.{cases_eq, cases_lt, code_limit, comes_from, Constant, constant_label, constants_sum, Context, core, deadlines, due_by, due_total, Each, each_more, each_none, emitted_keeps, end_after, ends_within, Extent, extent_of, Fallthrough, few_allocated, few_ways, Finishes}
-use Rattle.rv_asm.proofs.Words.{first_constant, first_inner, has_veneer_of, HasSlack, high_kept, Inst, inst_code, inst_labels, inst_rule, inst_sum, inst_ways, is_bound, is_far, IsConstantLabel, IsFarUse, Island, IslandIfNeeded, IsNamed, IsSoundBuffer, IsUsable, Jal20, jump_kind, Jumps, label_kinds}
-use Rattle.rv_asm.proofs.Words.{LabelUse, last_end, last_near, leb-false, length-append, Line, line_space, line_sum, lines_sum, LineSpan, LinesStand, lt-ltb, MachLabel, map-append, most_counts, Named, named_labels, named_of, no_own, Nowhere, PCRelLo12I, pending, pending_at, place_of, Put}
-use Rattle.rv_asm.proofs.Words.{reach_from_slack, reaches_from_slack, recorded, recorded_get, Refers, RefersConstant, registered_of, reserve_from, reserve_of, reserve_other, room_keeps, shape_of, size_limit, size_sum, Sized, slack_from_reach, slack_same, slice_get-append, slice_get-append_last}
-use Rattle.rv_asm.proofs.Words.{space_in, start_of, table_of, target_names, target_uses, Targets, targets_of, total, true≢false, try_call_of, try_labels, TryCallInfo, Use, use_at, use_usable, uses_by, uses_in, uses_kinds, uses_of, uses_start, veneers_reach, ways_more, Words, words_in, words_long}
-use Rattle.rv_asm.proofs.Words.{words_pending, words_within}
-use Rattle.rv_asm.proofs.LinesInBuffer.{InstAppends, LineAppends, room_by}
-use Rattle.rv_asm.proofs.RefusalOrder.{all_at, AllBound, bind_at, test_none}
-use Rattle.rv_asm.proofs.Spans.{get_after, given_from, given_next}
-use Rattle.std.proofs.lemmas.Option.{none-some}
 
 -- ---- the binds of lines
 
@@ -57,16 +48,13 @@ good_from_named lines spans b n j u h =
     let from = comes_from core (uses_of b) j u h in
     subst (IsGood lines b) from.is (n.kinds j from.from from.there, n.named j from.from from.there)
 
-more_named : (lines more : List Line) (number : ℕ) → IsNamed lines number → IsNamed (lines ++ more) number
-more_named lines more number n = record { index = n.index; line = n.line; there = slice_get-append lines more n.index n.line n.there; place = n.place; label = n.label; names = n.names; is = n.is }
-
 -- places are only added, to those below the labels of constants
 abbrev Keeps : Buffer → Buffer → Type 0
 Keeps old new = (label : ℕ) → label < first_constant → is_some (place_of old label) ≡ true → is_some (place_of new label) ≡ true
 
 known_kept : (lines more : List Line) (old new : Buffer) → Keeps old new → (label : ℕ) → IsKnownLabel lines old label → IsKnownLabel (lines ++ more) new label
 known_kept lines more old new keeps label (inl bound) = ⊎_elim (λ low. inl (keeps label low bound)) (λ high. inr (inr high)) (cases_lt label first_constant)
-known_kept lines more old new keeps label (inr (inl n)) = inr (inl (more_named lines more label n))
+known_kept lines more old new keeps label (inr (inl n)) = inr (inl (record { index = n.index; line = n.line; there = slice_get-append lines more n.index n.line n.there; place = n.place; label = n.label; names = n.names; is = n.is }))
 known_kept lines more old new keeps label (inr (inr high)) = inr (inr high)
 
 good_kept : (lines more : List Line) (old new : Buffer) → Keeps old new → (u : Use LabelUse) → IsGood lines old u → IsGood (lines ++ more) new u
@@ -80,16 +68,13 @@ no_more lines b h j u at = let g = h j u at in (g.0, subst (λ ls. IsKnownLabel 
 
 -- ---- an island and a sequence
 
-island_keeps : (old new : Buffer) → AppendsIsland old new → Keeps old new
-island_keeps old new p label low h = grind (arith, p.bound, p.places label low, cases_eq label p.after_island.number)
-
 good_island : (lines : List Line) (old new : Buffer) → AppendsIsland old new → AreGood lines old → AreGood lines new
 good_island lines old new p h =
     let jump = use_at (length (bytes_of old)) p.after_island Jal20 in
     let uses = uses_of old ++ jump ∷ [] in
     let first : Each (IsGood (lines ++ []) new) (recorded uses) =
     subst (Each (IsGood (lines ++ []) new)) (sym (map-append core (uses_of old) (jump ∷ [])))
-    (append_each (IsGood (lines ++ []) new) (recorded (uses_of old)) jump ((inl refl, inl (ap is_some p.bound))) (λ j u e. good_kept lines [] old new (island_keeps old new p) u (h j u e))) in
+    (append_each (IsGood (lines ++ []) new) (recorded (uses_of old)) jump ((inl refl, inl (ap is_some p.bound))) (λ j u e. good_kept lines [] old new (λ label low h. grind (arith, p.bound, p.places label low, cases_eq label p.after_island.number)) u (h j u e))) in
     no_more lines new
     (good_as (lines ++ []) new (recorded uses ++ p.own.more) p.own.grown
     (both_lists (IsGood (lines ++ []) new) (recorded uses) p.own.more first
@@ -111,22 +96,9 @@ pub record IsOf (labels : List MachLabel) (number : ℕ) : Type 0 where
 abbrev pub UsesOneOf : List MachLabel → Use LabelUse → Type 0
 UsesOneOf labels u = IsOf labels u.label.number ⊎ ((first_constant ≤ u.label.number) × (has_veneer_of u.kind ≡ false))
 
--- one of the first labels of a list, and one of those after them
-of_first : (labels more : List MachLabel) (number : ℕ) → IsOf labels number → IsOf (labels ++ more) number
-of_first labels more number o = record { place = o.place; label = o.label; names = slice_get-append labels more o.place o.label o.names; is = o.is }
-
--- one of the labels after others
-of_rest : (labels more : List MachLabel) (number : ℕ) → IsOf more number → IsOf (labels ++ more) number
-of_rest labels more number o = record { place = length labels + o.place; label = o.label; names = get_after labels more o.place ∙ o.names; is = o.is }
-
 -- a use of a table's label is of one that the instruction names
 pub table_named : (inst : Inst) (u : Use LabelUse) → IsFarUse (table_of inst) u → IsOf (inst_labels inst) u.label.number
-table_named inst u f = of_rest (try_labels (try_call_of inst) ++ target_names (targets_of inst)) (table_of inst) u.label.number (record {
-  place = f.index;
-  label = u.label;
-  names = f.names;
-  is = refl;
-})
+table_named inst u f = record { place = length (try_labels (try_call_of inst) ++ target_names (targets_of inst)) + f.index; label = u.label; names = get_after (try_labels (try_call_of inst) ++ target_names (targets_of inst)) (table_of inst) f.index ∙ f.names; is = refl }
 
 pub uses_labels : (context : Context) (start end : ℕ) (inst : Inst) → Each (UsesOneOf (try_labels (try_call_of inst) ++ target_names (targets_of inst))) (uses_in context start end inst)
 uses_labels context start end inst = by (uses_start (inst_code context inst).led start) (try_call_of inst)
@@ -159,49 +131,29 @@ uses_labels context start end inst = by (uses_start (inst_code context inst).led
 own_named : (lines : List Line) (inst : Inst) (number : ℕ) → IsOf (inst_labels inst) number → IsNamed (lines ++ Put inst ∷ []) number
 own_named lines inst number o = record { index = length lines; line = Put inst; there = slice_get-append_last lines (Put inst); place = o.place; label = o.label; names = o.names; is = o.is }
 
--- labels that are bound stay so
-code_bound : {count : ℕ} {code : List ℕ} {own : List (Use LabelUse)} {old new : Buffer} → AppendsSequence count code own old new → Keeps old new
-code_bound p label low h = grind (arith, bound_kept p label)
-
 -- uses are put that are good
 good_code : (lines more : List Line) {count : ℕ} (code : List ℕ) (own : List (Use LabelUse)) (old new : Buffer) → AppendsSequence count code own old new → Each (IsGood (lines ++ more) new) own → AreGood lines old → AreGood (lines ++ more) new
 good_code lines more code own old new p good h =
     let all = lines ++ more in
     let each : Each (IsGood all new) (recorded own) = λ j u e. let from = comes_from core own j u e in subst (IsGood all new) from.is (good j from.from from.there) in
     good_as all new (recorded (uses_of old) ++ recorded own) (ap recorded p.uses ∙ map-append core (uses_of old) own)
-    (both_lists (IsGood all new) (recorded (uses_of old)) (recorded own) (λ j u e. good_kept lines more old new (code_bound p) u (h j u e)) each)
+    (both_lists (IsGood all new) (recorded (uses_of old)) (recorded own) (λ j u e. good_kept lines more old new (λ label low h. grind (arith, bound_kept p label)) u (h j u e)) each)
 
 -- those of an instruction are
 own_good : (context : Context) (lines : List Line) (inst : Inst) (start end : ℕ) (new : Buffer) → Each (IsGood (lines ++ Put inst ∷ []) new) (uses_in context start end inst)
-own_good context lines inst start end new j u e = (uses_kinds context start end inst j u e, inr (⊎_elim (λ o. inl (own_named lines inst u.label.number (of_first _ (table_of inst) u.label.number o))) (λ high. inr high.0) (uses_labels context start end inst j u e)))
-
-good_inst : (context : Context) (lines : List Line) (inst : Inst) (old new : Buffer) → AppendsInst context inst old new → AreGood lines old → AreGood (lines ++ Put inst ∷ []) new
-good_inst context lines inst old new p h =
-    let own = uses_in context (length (bytes_of old)) (length (bytes_of new)) inst in
-    good_code lines (Put inst ∷ []) p.code (own ++ p.direct) old new p.adds
-    (both_lists (IsGood (lines ++ Put inst ∷ []) new) own p.direct (own_good context lines inst (length (bytes_of old)) (length (bytes_of new)) new)
-    (λ j u e. ⊎_elim
-    (λ f. (inr f.far, inr (inl (own_named lines inst u.label.number (table_named inst u f)))))
-    (λ o. (inl o.served, inl (ap (λ (l : MachLabel). is_some (place_of new l.number)) o.names ∙ p.adds.bound o.index o.own)))
-    (p.each j u e)))
-    h
-
-good_line : (lines more : List Line) (b : Buffer) → AreGood lines b → AreGood (lines ++ more) b
-good_line lines more b h j u e = good_kept lines more b b (λ label low g. g) u (h j u e)
+own_good context lines inst start end new j u e = (uses_kinds context start end inst j u e, inr (⊎_elim (λ o. inl (own_named lines inst u.label.number (record { place = o.place; label = o.label; names = slice_get-append _ (table_of inst) o.place o.label o.names; is = o.is }))) (λ high. inr high.0) (uses_labels context start end inst j u e)))
 
 pub good_emitted : (context : Context) (lines : List Line) (inst : Inst) (old new : Buffer) → Appends context inst old new → AreGood lines old → AreGood (lines ++ Put inst ∷ []) new
-good_emitted context lines inst old new e h = by (extent_of context inst) e
-  where
-    all : List Line
-    all = lines ++ Put inst ∷ []
-
-    by : (e : Extent) → AppendsBy context e inst old new → AreGood all new
-    by (Words size) words = good_inst context lines inst old new words h
-    by (Island space) (made, room) = good_line lines (Put inst ∷ []) new (good_room lines space old new made room h)
-    by (After space size more) (mid, made, room, words) = good_inst context lines inst mid new words (good_room lines space old mid made room h)
-    by (Around before space after) a =
-        good_code lines (Put inst ∷ []) a.second.code (uses_in context (length (bytes_of old)) (length (bytes_of new)) inst) a.last new (no_own a.second.code _ a.last new a.second.adds) (own_good context lines inst (length (bytes_of old)) (length (bytes_of new)) new)
-        (good_room lines space a.mid a.last a.made a.room (no_more lines a.mid (good_code lines [] a.first.code [] old a.mid (no_own a.first.code [] old a.mid a.first.adds) (each_none _) h)))
+good_emitted context lines inst old new a h =
+    let own = uses_in context (length (bytes_of old)) (length (bytes_of new)) inst in
+    let first = no_more lines a.mid (good_code lines [] a.front [] old a.mid (no_own a.front [] old a.mid a.first) (each_none _) h) in
+    good_code lines (Put inst ∷ []) a.code (own ++ a.direct) a.last new a.adds
+    (both_lists (IsGood (lines ++ Put inst ∷ []) new) own a.direct (own_good context lines inst (length (bytes_of old)) (length (bytes_of new)) new)
+    (λ j u e. ⊎_elim
+    (λ f. (inr f.far, inr (inl (own_named lines inst u.label.number (table_named inst u f)))))
+    (λ o. (inl o.served, inl (ap (λ (l : MachLabel). is_some (place_of new l.number)) o.names ∙ a.adds.bound o.index o.own)))
+    (a.each j u e)))
+    (asked_by (AreGood lines) (space_in (request_of context inst) (length a.code)) a.mid a.last a.island first (λ put. good_island lines a.mid a.last put first))
 
 -- ---- the loop's invariant
 
@@ -219,37 +171,28 @@ named_from lines spans b labels unbound good = record {
   named = λ j u h. (good j (core u) (recorded_get (uses_of b) j u h)).1;
 }
 
-inst_named : (context : Context) (lines : List Line) (spans : List LineSpan) (inst : Inst) (span : LineSpan) (old new : Buffer) → Named lines spans old → length spans ≡ length lines → InstAppends context inst old new span → Named (lines ++ Put inst ∷ []) (spans ++ span ∷ []) new
-inst_named context lines spans inst span old new n count p =
-    let first = room_keeps line_space old p.mid p.made p.room in
-    let then_ = emitted_keeps context inst p.mid new p.emitted in
-    named_from (lines ++ Put inst ∷ []) (spans ++ span ∷ []) new
-    (then_.0 ∙ first.0 ∙ n.labels ∙ sym (append-nil _) ∙ sym (binds_next lines spans (Put inst) span count))
-    (λ label low free. grind (arith, then_.1 label low, first.1 label low, n.unbound label low, bound_append lines (Put inst ∷ []) label))
-    (good_emitted context lines inst p.mid new p.emitted (good_room lines line_space old p.mid p.made p.room (good_from_named lines spans old n)))
-
-bind_keeps : (label : MachLabel) (old new : Buffer) (span : LineSpan) → BindPut label old new span → Keeps old new
-bind_keeps label old new span p other low h = grind (arith, p.bound, p.kept other, cases_eq other label.number)
-
 -- a label of the listing is reported
 listed_low : (label : MachLabel) (at : ℕ) → label.number < first_inner → listed label at ≡ (record { label = label; offset = at }) ∷ []
 listed_low label at low = ap (λ b. cond b ((record { label = label; offset = at }) ∷ []) []) (lt-ltb label.number first_inner low)
-
-bind_named : (context : Context) (lines : List Line) (spans : List LineSpan) (label : MachLabel) (span : LineSpan) (old new : Buffer) → label.number < first_inner → Named lines spans old → length spans ≡ length lines → BindPut label old new span → Named (lines ++ Bind label ∷ []) (spans ++ span ∷ []) new
-bind_named context lines spans label span old new low n count p =
-    named_from (lines ++ Bind label ∷ []) (spans ++ span ∷ []) new
-    (grind (arith, p.labels, n.labels, listed_low label (length (bytes_of old)) low, p.start, binds_next lines spans (Bind label) span count))
-    (λ other lt free. grind (arith, nat_tests, bound_append lines (Bind label ∷ []) other, p.kept other, n.unbound other lt))
-    (good_as (lines ++ Bind label ∷ []) new (recorded (uses_of old)) (ap recorded p.uses)
-    (λ j u e. good_kept lines (Bind label ∷ []) old new (bind_keeps label old new span p) u (good_from_named lines spans old n j u e)))
 
 -- a label that a line binds is one of the listing's
 pub low_label : (context : Context) (label : MachLabel) → broken_rule context (Bind label) ≡ None → label.number < first_inner
 low_label context label rule = leb-false _ _ (test_none (nat_le first_inner label.number) _ rule)
 
 pub named_next : (context : Context) (lines : List Line) (spans : List LineSpan) (line : Line) (span : LineSpan) (old new : Buffer) → broken_rule context line ≡ None → Named lines spans old → length spans ≡ length lines → LineAppends context line old new span → Named (lines ++ line ∷ []) (spans ++ span ∷ []) new
-named_next context lines spans (Put inst) span old new rule n count p = inst_named context lines spans inst span old new n count p
-named_next context lines spans (Bind label) span old new rule n count p = bind_named context lines spans label span old new (low_label context label rule) n count p
+named_next context lines spans (Put inst) span old new rule n count p =
+    let first = room_keeps line_space old p.mid p.made p.room in
+    let then_ = emitted_keeps context inst p.mid new p.emitted in
+    named_from (lines ++ Put inst ∷ []) (spans ++ span ∷ []) new
+    (then_.0 ∙ first.0 ∙ n.labels ∙ sym (append-nil _) ∙ sym (binds_next lines spans (Put inst) span count))
+    (λ label low free. grind (arith, then_.1 label low, first.1 label low, n.unbound label low, bound_append lines (Put inst ∷ []) label))
+    (good_emitted context lines inst p.mid new p.emitted (good_room lines line_space old p.mid p.made p.room (good_from_named lines spans old n)))
+named_next context lines spans (Bind label) span old new rule n count p =
+    named_from (lines ++ Bind label ∷ []) (spans ++ span ∷ []) new
+    (grind (arith, p.labels, n.labels, listed_low label (length (bytes_of old)) (low_label context label rule), p.start, binds_next lines spans (Bind label) span count))
+    (λ other lt free. grind (arith, nat_tests, bound_append lines (Bind label ∷ []) other, p.kept other, n.unbound other lt))
+    (good_as (lines ++ Bind label ∷ []) new (recorded (uses_of old)) (ap recorded p.uses)
+    (λ j u e. good_kept lines (Bind label ∷ []) old new (λ other low h. grind (arith, p.bound, p.kept other, cases_eq other label.number)) u (good_from_named lines spans old n j u e)))
 
 -- ==== How long code may be, and that an instruction finds its room.
 
@@ -321,36 +264,26 @@ uses_then first rest old mid new same a b =
 more_uses : (least most : ℕ) (old new : Buffer) → least ≤ most → Uses least old new → Uses most old new
 more_uses least most old new le u = let x = u.size in record { size = omega (arith, le, x); allocated = u.allocated }
 
--- an instruction's words, an island and the veneers of the labels to which it goes
-appended_uses : (context : Context) (inst : Inst) (old new : Buffer) → Appends context inst old new → Uses (words_in (extent_of context inst) + 8 * length (inst_ways inst) + 17) old new
-appended_uses context inst old new e = by (extent_of context inst) refl e
-  where
-    ways : ℕ
-    ways = length (inst_ways inst)
+-- an island, where one is asked for, before what allocates no label
+asked_uses : {size : ℕ} {mid last new : Buffer} (request : Option Request) (n : ℕ) → IslandAsked (space_in request n) mid last → (is_some request ≡ true → allocated_of new ≡ allocated_of last) → Uses size last new → Uses (17 + size) mid new
+asked_uses {size} {mid} {last} {new} None n same alone u = more_uses size (17 + size) mid new (omega arith) (subst (λ b. Uses size b new) same u)
+asked_uses {size} {mid} {last} {new} (Some r) n (made, room) alone u = uses_then 17 size mid last new (inr (alone refl)) (room_uses (r.space n) mid last made room) u
 
-    by : (e : Extent) → extent_of context inst ≡ e → AppendsBy context e inst old new → Uses (words_in e + 8 * ways + 17) old new
-    by (Words size) is words =
-        more_uses (size + 8 * ways) _ old new (omega arith)
-        (code_uses words.own words.code _ size ways old new words.few words.adds (bytes_put context inst old new words ∙ ap (λ e. length (bytes_of old) + words_in e) is) (ways_more context inst old new words))
-    by (Island space) is (made, room) = more_uses 17 _ old new (omega arith) (room_uses space old new made room)
-    by (After space size more) is (mid, made, room, words) =
-        more_uses (17 + (size + 8 * ways)) _ old new (omega arith)
-        (uses_then 17 (size + 8 * ways) old mid new (inr (omega (arith, words.alone (ap (λ e. is_some (space_in e)) is), words.adds.allocated))) (room_uses space old mid made room)
-        (code_uses words.own words.code _ size ways mid new words.few words.adds (bytes_put context inst mid new words ∙ ap (λ e. length (bytes_of mid) + words_in e) is) (ways_more context inst mid new words)))
-    by (Around before space after) is a =
-        let none : length (pending a.mid) ≤ length (pending old) + 0 = let same : length (pending a.mid) ≡ length (pending old) = ap length (words_pending before [] _ old a.mid a.first ∙ append-nil (pending old)) in omega (arith, same) in
-        let few : length (pending new) ≤ length (pending a.last) + ways =
-        omega (arith, (ap length (words_pending after _ [] a.last new a.second) ∙ length-append (pending a.last) _), few_ways context (place_of a.last) (length (bytes_of old)) (length (bytes_of new)) inst) in
-        more_uses (before + 8 * 0 + (17 + (after + 8 * ways))) _ old new (omega arith)
-        (uses_then (before + 8 * 0) (17 + (after + 8 * ways)) old a.mid new (inl a.first.adds.allocated)
-        (code_uses 0 a.first.code [] before 0 old a.mid (omega arith) (no_own a.first.code [] old a.mid a.first.adds) (words_long before [] _ old a.mid a.first) none)
-        (uses_then 17 (after + 8 * ways) a.mid a.last new (inr a.second.adds.allocated) (room_uses space a.mid a.last a.made a.room)
-        (code_uses 0 a.second.code _ after ways a.last new (omega arith) (no_own a.second.code _ a.last new a.second.adds) (words_long after _ [] a.last new a.second) few)))
-
--- what comes before it apart, an instruction uses no more than it counts for
-pub emitted_uses : (context : Context) (inst : Inst) (old new : Buffer) → inst_rule context inst ≡ None → inst_sum context inst ≤ code_limit → Appends context inst old new → Uses (inst_sum context inst - 17) old new
-emitted_uses context inst old new rule small e =
-    more_uses _ (inst_sum context inst - 17) old new (omega (arith, words_within context inst rule small, most_counts context inst)) (appended_uses context inst old new e)
+-- what comes before it apart, an instruction uses no more than it counts for: its bytes, an island, and the veneers of the labels to which
+-- it goes
+pub emitted_uses : (context : Context) (inst : Inst) (old new : Buffer) → inst_rule context inst ≡ None → Appends context inst old new → Uses (inst_sum context inst - 17) old new
+emitted_uses context inst old new rule a =
+    let ways = length (inst_ways inst) in
+    let first = code_long a.first in
+    let last : length (bytes_of new) ≡ length (bytes_of a.last) + length a.code = ap length a.adds.bytes ∙ length-append (bytes_of a.last) a.code in
+    let still : length (pending a.mid) ≤ length (pending old) + 0 = let same = ap length (still_pending a.first) in omega (arith, same) in
+    let few : length (pending new) ≤ length (pending a.last) + ways = omega (arith, (ap length (pending_adds context inst old new a) ∙ length-append (pending a.last) _), few_ways context (place_of new) (length (bytes_of old)) (length (bytes_of new)) inst) in
+    let front = code_uses 0 a.front [] (length a.front) 0 old a.mid (omega arith) (no_own a.front [] old a.mid a.first) first still in
+    let rest = code_uses a.own a.code _ (length a.code) ways a.last new a.few a.adds last few in
+    let alone : is_some (request_of context inst) ≡ true → allocated_of new ≡ allocated_of a.last = λ some. let none = a.alone some in omega (arith, none, a.adds.allocated) in
+    let most = fits_most (inst_size context inst) _ a.fits in
+    more_uses (length a.front + 8 * 0 + (17 + (length a.code + 8 * ways))) _ old new (omega (arith, most, most_counts context inst rule))
+    (uses_then (length a.front + 8 * 0) (17 + (length a.code + 8 * ways)) old a.mid new (inl a.first.allocated) front (asked_uses (request_of context inst) (length a.code) a.island alone rest))
 
 -- ---- the loop's invariant
 
@@ -359,18 +292,16 @@ sized_none context b bytes uses places registered allocated =
     let none : pending b ≡ [] = ap (deadlines (pending_at (place_of b)) label_kinds) uses in
     record { reach = subst (CanReach (length (bytes_of b))) (sym none) tt; size = omega (arith, ap length none, ap length bytes, (reserve_all (place_of b) 0 (registered_of b) places ∙ ap constants_sum registered)); allocated = omega arith }
 
-inst_sized : (context : Context) (lines : List Line) (inst : Inst) (old new : Buffer) (span : LineSpan) → inst_rule context inst ≡ None → inst_sum context inst ≤ code_limit → Sized context lines old → InstAppends context inst old new span → Sized context (lines ++ Put inst ∷ []) new
-inst_sized context lines inst old new span rule small s p =
+pub sized_next : (context : Context) (lines : List Line) (line : Line) (old new : Buffer) (span : LineSpan) → broken_rule context line ≡ None → Sized context lines old → LineAppends context line old new span → Sized context (lines ++ line ∷ []) new
+sized_next context lines (Put inst) old new span rule s p =
     let room : Uses 17 old p.mid = room_uses line_space old p.mid p.made p.room in
-    let block : Uses (inst_sum context inst - 17) p.mid new = emitted_uses context inst p.mid new rule small p.emitted in
+    let block : Uses (inst_sum context inst - 17) p.mid new = emitted_uses context inst p.mid new rule p.emitted in
     let sum = sum_next context lines (Put inst) in
     let least = sum_least context (Put inst) in
     let size = s.size in
     let allocated = s.allocated in
     record { reach = p.reach; size = omega (arith, room.size, block.size, sum, least, size); allocated = omega (arith, room.allocated, block.allocated, sum, least, allocated) }
-
-bind_sized : (context : Context) (lines : List Line) (label : MachLabel) (old new : Buffer) (span : LineSpan) → Sized context lines old → BindPut label old new span → Sized context (lines ++ Bind label ∷ []) new
-bind_sized context lines label old new span s p =
+sized_next context lines (Bind label) old new span rule s p =
     let sum = sum_next context lines (Bind label) in
     let long : length (bytes_of new) ≡ length (bytes_of old) = ap length p.bytes in
     let slack : HasSlack (length (bytes_of old)) 14 (pending new) = slack_same (length (bytes_of old)) 14 (pending old) (pending new) p.fewer (slack_from_reach (length (bytes_of old)) (pending old) s.reach) in
@@ -380,10 +311,6 @@ bind_sized context lines label old new span s p =
     let allocated = s.allocated in
     record { reach = subst (λ n. CanReach n (pending new)) (sym long) reach; size = omega (arith, sum, long, fewer_from_due (pending new) (pending old) p.fewer, reserve, size); allocated = omega (arith, sum, p.allocated, allocated) }
 
-pub sized_next : (context : Context) (lines : List Line) (line : Line) (old new : Buffer) (span : LineSpan) → broken_rule context line ≡ None → line_sum context line ≤ code_limit → Sized context lines old → LineAppends context line old new span → Sized context (lines ++ line ∷ []) new
-sized_next context lines (Put inst) old new span rule small s p = inst_sized context lines inst old new span rule small s p
-sized_next context lines (Bind label) old new span rule small s p = bind_sized context lines label old new span s p
-
 -- ==== A buffer of lines can be finished, and how long its code is.
 
 -- each label that a line names is bound
@@ -391,12 +318,12 @@ abbrev pub NamesBound : List Line → Type 0
 NamesBound lines = (i : ℕ) (line : Line) → slice_get lines i ≡ Some line → AllBound lines (named_labels line)
 
 -- a bound label stands where the line that binds it does
-pub bound_place : {context : Context} (lines : List Line) (spans : List LineSpan) (b : Buffer) (number : ℕ) → LinesStand context lines spans b → is_bound lines number ≡ true → place_of b number ≡ Some (start_of spans (binding_line lines number))
+pub bound_place : {context : Context} {gaps : List Gap} (lines : List Line) (spans : List LineSpan) (b : Buffer) (number : ℕ) → LinesStand context lines spans gaps b → is_bound lines number ≡ true → place_of b number ≡ Some (start_of spans (binding_line lines number))
 bound_place lines spans b number built h =
     let at = bind_at lines number h in
     ap (place_of b) (sym at.2) ∙ (built.each (binding_line lines number) (Bind at.0) at.1).there.1
 
-named_place : {context : Context} (lines : List Line) (spans : List LineSpan) (b : Buffer) (number : ℕ) → LinesStand context lines spans b → NamesBound lines → IsNamed lines number → is_some (place_of b number) ≡ true
+named_place : {context : Context} {gaps : List Gap} (lines : List Line) (spans : List LineSpan) (b : Buffer) (number : ℕ) → LinesStand context lines spans gaps b → NamesBound lines → IsNamed lines number → is_some (place_of b number) ≡ true
 named_place lines spans b number built all n =
     ap (λ m. is_some (place_of b m)) (sym n.is) ∙ ap is_some (bound_place lines spans b n.label.number built (all_at (λ (l : MachLabel). is_bound lines l.number ≡ true) (named_labels n.line) (all n.index n.line n.there) n.place n.label n.names))
 
@@ -409,7 +336,7 @@ last_within : (context : Context) (lines : List Line) (b : Buffer) → IsSoundBu
 last_within context lines b sound s =
     omega (arith, last_near (bytes_of b) (length (pending b)), ends_within label_kinds b sound (last_end label_kinds (shape_of b)), s.size)
 
-pub can_finish : (context : Context) (lines : List Line) (spans : List LineSpan) (b : Buffer) → LinesStand context lines spans b → Named lines spans b → Sized context lines b → size_sum context lines ≤ size_limit → NamesBound lines → CanFinish label_kinds (shape_of b)
+pub can_finish : {gaps : List Gap} (context : Context) (lines : List Line) (spans : List LineSpan) (b : Buffer) → LinesStand context lines spans gaps b → Named lines spans b → Sized context lines b → size_sum context lines ≤ size_limit → NamesBound lines → CanFinish label_kinds (shape_of b)
 can_finish context lines spans b built n s sum all =
     let near : length (before_last (bytes_of b) (length (pending b))) ≤ length (bytes_of b) + 3 = last_near (bytes_of b) (length (pending b)) in
     record {
@@ -425,5 +352,4 @@ can_finish context lines spans b built n s sum all =
 
 -- and the code is at most 16 bytes longer than its lines and constants count for
 pub finished_short : (context : Context) (lines : List Line) (b : Buffer) (bytes : List ℕ) → IsSoundBuffer b → Sized context lines b → Finishes label_kinds (shape_of b) bytes → length bytes ≤ size_sum context lines + 16
-finished_short context lines b bytes sound s f =
-    omega (arith, last_within context lines b sound s, f.long, f.same_length)
+finished_short context lines b bytes sound s f = omega (arith, last_within context lines b sound s, f.long, f.same_length)

@@ -1,37 +1,14 @@
 -- What the crates above cite of this one's proofs: laws about its definitions, by subject.
-use Rattle.std.proofs.Common.{[], ap, arith, Bool, cond, eq-eqb, Err, false, if◌then◌else◌, length, List, lit<, lit≤, nat_le, None, Option, refl, slice_get, slice_index, Some, subst, suc, zero, ℕ, ℤ, ◌*◌, ◌+◌, ◌<◌, ◌==◌, ◌^◌, ◌||◌, ◌∙◌, ◌∷◌, ◌≡◌, ◌≢◌, ◌≤◌}
-use Rattle.std.proofs.Math.Bridge.{le_prop}
-use Rattle.std.specs.Cmp.{nat_cmp_total, unsigned_tied}
-use Rattle.std.specs.FinMap.{get-insert}
-use Rattle.std.specs.Prelude.{unwrap_or}
-use Rattle.rv_asm.specs.FineLines.{AreFine, AreSilent, FineLinesAccepted, IsOutOfMemory, OnlyMemoryLeft, SilentLinesUnrecorded, StackLoadsFine, StackStoresFine}
-use Rattle.rv_asm.specs.LineRuns.{EntryIsFirstLine, LinesRun, NothingRuns, RunsCompose}
-use Rattle.rv_asm.specs.Refusal.{lines_refusal, refusal}
-use Rattle.rv_asm.specs.ShortSpans.{IsShort, SpansAreShort}
-use Rattle.rv_asm.specs.StoredNumbers.{ElsewhereUnchanged, SameAreLoadedAlike, StoredIsLoaded}
-use Rattle.rv_base.specs.declared.amode.AMode.TheVariants.{SPOffset}
-use Rattle.rv_base.specs.declared.mem_flags.MemFlagsData.{MemFlagsData}
-use Rattle.rv_base.specs.declared.regs.PReg.{PReg}
-use Rattle.rv_base.specs.declared.regs.Reg.{Reg}
-use Rattle.rv_base.specs.declared.regs.RegClass.{RegClass}
-use Rattle.rv_base.specs.declared.regs.RegClass.TheVariants.{Int}
-use Rattle.rv_inst.specs.Addresses.{is_distant}
-use Rattle.rv_inst.specs.Rules.{every_rule}
-use Rattle.rv_inst.specs.declared.error.Rule.TheVariants.{Range, Reserved}
-use Rattle.rv_machine.specs.Memory.{load_result, store_bytes}
-use Rattle.rv_machine.specs.declared.ops.LoadOp.TheVariants.{Ld}
-use Rattle.rv_machine.specs.declared.ops.StoreOp.TheVariants.{Sd}
-use Rattle.rv_ops.specs.declared.memory.LoadOP.TheVariants.{Ld as LoadDouble}
-use Rattle.rv_ops.specs.declared.memory.StoreOP.TheVariants.{Sd as StoreDouble}
+use Rattle.rv_asm.proofs.LinesJoin.{same_itself}
+use Rattle.rv_asm.proofs.Words.{[], Addresses, ap, arith, At, AtReturn, AtStart, below, Bind, binds, Bool, broken_from, byte, calls_in, Code, cond, Context, context_of, core, effect_from, effect_of, EmitError, end_of, Entry, entry_point, environment_of, Err, exit_from, exit_of, false, Finds}
+use Rattle.rv_asm.proofs.Words.{fits_most, from_of, if◌then◌else◌, inst_size, Int, int_reg, is_bound, is_unfit, IsGapOf, IsReal, IsSpan, iter_after, iter_none, Job, label_start, le-ltb, Leads, length, Line, lines_sum, LineSpan, List, list_any, lit<, lit≤, load_result, lt-leb, maps_in, Memory}
+use Rattle.rv_asm.proofs.Words.{nat_tests, None, Option, patches_in, Point, Put, Real, records_from, refl, Reg, RegClass, relocs_in, SameBut, size_limit, size_sum, slice_get, slice_index, Some, start_of, store, store_bytes, subst, suc, temporaries_from, temporaries_of, to_of, traps_in, tries_in}
+use Rattle.rv_asm.proofs.Words.{twice_from, unbound_in, unwinds_in, unwrap_or, Values, Virtual, wrap, zero, ℕ, ◌*◌, ◌+◌, ◌<◌, ◌==◌, ◌^◌, ◌||◌, ◌∙◌, ◌∷◌, ◌≡◌, ◌≢◌, ◌≤◌}
+use Rattle.{rv_asm.specs.FineLines.{AreFine, AreSilent, FineLinesAccepted, IsOutOfMemory, OnlyMemoryLeft, SilentLinesUnrecorded, StackLoadsFine, StackStoresFine}, rv_asm.specs.LineRuns.{EntryIsFirstLine, LinesRun, NothingRuns, RunsCompose}, rv_asm.specs.Refusal.{lines_refusal, refusal}}
+use Rattle.{rv_asm.specs.ShortSpans.{IsShort, SpansAreShort}, rv_asm.specs.StoredNumbers.{ElsewhereUnchanged, SameAreLoadedAlike, StoredIsLoaded}, rv_base.specs.declared.regs.PReg.PReg, rv_inst.specs.Rules.every_rule, rv_inst.specs.declared.error.Rule.TheVariants.{Range, Reserved}}
+use Rattle.{rv_machine.specs.declared.ops.LoadOp.TheVariants.Ld, rv_machine.specs.declared.ops.StoreOp.TheVariants.Sd, std.proofs.Common.eq-eqb, std.proofs.Math.Bridge.le_prop, std.specs.Cmp.{nat_cmp_total, unsigned_tied}, std.specs.FinMap.get-insert}
 use Rattle.rv_inst.specs.declared.error.EmitError.TheVariants as emit
 use Rattle.std.specs.FinMap as map
-use Rattle.std.proofs.lemmas.Bool.{lt-leb}
-use Rattle.rv_asm.proofs.Words.{le-ltb, Addresses, At, AtReturn, AtStart, Bind, broken_from, broken_rule, byte, calls_in, Code, code_limit, constants_sum, Context, context_of, effect_from, effect_of, EmitError, end_of, Entry, entry_point, environment_of, exit_from, exit_of, Extent, extent_of, Finds}
-use Rattle.rv_asm.proofs.Words.{int_reg, is_bound, is_unfit, IsaFlags, IsReal, IsSized, IsSpan, iter_after, iter_none, Job, label_start, Leads, Line, line_sum, lines_sum, LineSpan, list_any, Load, maps_in, Memory, nat_tests, patches_in, Point, Put, Real, records_from, relocs_in, SameBut, size_limit}
-use Rattle.rv_asm.proofs.Words.{size_sum, space_in, start_of, Store, store, temporaries_from, temporaries_of, too_large, traps_in, tries_in, twice_from, unbound_in, unwinds_in, Values, Virtual, Words, words_in, words_within, wrap}
-use Rattle.rv_asm.proofs.LinesJoin.{same_itself}
-use Rattle.rv_asm.proofs.RefusalOrder.{accepted_lines, lines_small, no_rule_broken}
-pub use Rattle.rv_code.proofs.Registers.{reads_back, reads_other}
 
 pub entry_is_first_line : EntryIsFirstLine
 entry_is_first_line job code base symbols slots s reported placed is_state start =
@@ -128,53 +105,44 @@ register_is (Virtual class index) number in_file is = absurd is
 
 -- ==== The span of a line is at most as long as lines of its kind may be, an island in it apart.
 
--- the span of an instruction that asks for no island is as long as its words
-alone_long : (flags : IsaFlags) (bytes : List ℕ) (e : Extent) (start end : ℕ) → space_in e ≡ None → IsSized flags bytes e start end → end ≡ start + words_in e
-alone_long flags bytes (Words size) start end none h = h
-alone_long flags bytes e start end none h = absurd (cc)
-
-line_short : (context : Context) (bytes : List ℕ) (line : Line) (start end : ℕ) → broken_rule context line ≡ None → line_sum context line ≤ code_limit → IsSpan context bytes line start end → IsShort context line start end
-line_short context bytes (Put inst) start end rule counted long =
-    let most = words_within context inst rule counted in
-    (most, λ none. let same = alone_long context.flags bytes (extent_of context inst) start end none long in omega (arith, most, same))
-line_short context bytes (Bind label) start end rule counted long = long
+line_short : (context : Context) (bytes : List ℕ) (line : Line) (start from to end : ℕ) → IsSpan context bytes line start from to end → IsShort context line start end
+line_short context bytes (Put inst) start from to end long = λ none.
+    let gap : from ≡ to = subst (λ r. IsGapOf context.flags bytes r from to) none long.gap in
+    omega (arith, gap, long.first, long.last, fits_most (inst_size context inst) _ long.size)
+line_short context bytes (Bind label) start from to end long = long.0
 
 pub spans_are_short : SpansAreShort
-spans_are_short job code accepted r i line e =
-    let kept = accepted_lines job accepted in
-    line_short (context_of job) code.bytes line (start_of code.lines i) (end_of code.lines i) (no_rule_broken (context_of job) job.lines kept i line e) (lines_small (context_of job) job.lines kept i line e) (r.long i line e)
+spans_are_short job code r i line e = line_short (context_of job) code.bytes line (start_of code.lines i) (from_of r.gaps i) (to_of r.gaps i) (end_of code.lines i) (r.long i line e)
 
 -- ==== Lines for which a job is refused for no cause, and lines that leave nothing to fill.
 
 -- ---- a job of fine lines
 
-all_fit : (context : Context) (lines : List Line) → AreFine context lines → list_any (is_unfit context.frame) lines ≡ false
-all_fit context [] f = refl
-all_fit context (line ∷ lines) f = (λ i. f.0.fit i || list_any (is_unfit context.frame) lines) ∙ all_fit context lines f.1
+-- fine lines can restore the frame, break no rule, bind no label, name none, and count for few bytes
+record HaveNoFault (context : Context) (index : ℕ) (bound known : ℕ → Bool) (lines : List Line) : Type 0 where
+  fit : list_any (is_unfit context.frame) lines ≡ false
+  unbroken : broken_from context index lines ≡ None
+  once : twice_from bound lines ≡ None
+  known_all : unbound_in known lines ≡ None
+  few : lines_sum context lines ≤ 128 * length lines
 
-none_broken : (context : Context) (index : ℕ) (lines : List Line) → AreFine context lines → broken_from context index lines ≡ None
-none_broken context index [] f = refl
-none_broken context index (line ∷ lines) f = let rest = none_broken context (suc index) lines f.1 in let here = f.0.rule in rw (here, rest)
-
-none_twice : (context : Context) (lines : List Line) (bound : ℕ → Bool) → AreFine context lines → twice_from bound lines ≡ None
-none_twice context [] bound f = refl
-none_twice context (line ∷ lines) bound f = let here = f.0.binds_none bound in rw (here) (none_twice context lines _ f.1)
-
-none_unbound : (context : Context) (bound : ℕ → Bool) (lines : List Line) → AreFine context lines → unbound_in bound lines ≡ None
-none_unbound context bound [] f = refl
-none_unbound context bound (line ∷ lines) f = let rest = none_unbound context bound lines f.1 in let here = f.0.names_none in rw (here, rest)
-
-sum_of : (context : Context) (lines : List Line) → AreFine context lines → lines_sum context lines ≤ 128 * length lines
-sum_of context [] f = lit≤ tt
-sum_of context (line ∷ lines) f = let rest = sum_of context lines f.1 in let here = f.0.size in omega arith
-
-small : (context : Context) (lines : List Line) → AreFine context lines → constants_sum context.constants + 128 * length lines ≤ size_limit → too_large context lines ≡ None
-small context lines f few = let sum = sum_of context lines f in ap (λ b. if b then Some emit.TooLarge else None) (le-ltb size_limit (size_sum context lines) (omega arith))
+no_fault : (context : Context) (index : ℕ) (bound known : ℕ → Bool) (lines : List Line) → AreFine context lines → HaveNoFault context index bound known lines
+no_fault context index bound known [] f = record { fit = refl; unbroken = refl; once = refl; known_all = refl; few = lit≤ tt }
+no_fault context index bound known (line ∷ lines) f =
+    let rest = no_fault context (suc index) (λ label. binds line label || bound label) known lines f.1 in
+    record {
+      fit = λ i. f.0.fit i || rest.fit i;
+      unbroken = rw (f.0.rule) rest.unbroken;
+      once = rw (f.0.binds_none bound) rest.once;
+      known_all = rw (f.0.names_none) rest.known_all;
+      few = omega (arith, f.0.size, rest.few);
+    }
 
 pub fine_lines_accepted : FineLinesAccepted
 unfolding refusal lines_refusal
 fine_lines_accepted job frame f few =
-    rw (frame, all_fit (context_of job) job.lines f, none_broken (context_of job) 0 job.lines f, none_twice (context_of job) job.lines (λ label. false) f, none_unbound (context_of job) (is_bound job.lines) job.lines f) (small (context_of job) job.lines f few)
+    let none = no_fault (context_of job) 0 (λ label. false) (is_bound job.lines) job.lines f in
+    rw (frame, none.fit, none.unbroken, none.once, none.known_all) (ap (λ b. if b then Some emit.TooLarge else None) (le-ltb size_limit (size_sum (context_of job) job.lines) (omega (arith, none.few, few))))
 
 only_memory : (found : Option EmitError) (error : EmitError) → found ≡ None → Finds {X = Code} found (Err error) → IsOutOfMemory error
 only_memory found emit.OutOfMemory none f = tt
@@ -204,16 +172,10 @@ silent_lines_unrecorded job code reported f =
 
 -- ---- loads and stores at distances from the stack pointer
 
-load_rules : (context : Context) (flags : MemFlagsData) (n : ℕ) (in_file : n < 32) (distance : ℤ) → nat_le 30 n ≡ false → is_distant distance ≡ false → broken_rule context (Put (Load (record { reg = int_reg n in_file }) LoadDouble flags (SPOffset distance))) ≡ None
-unfolding every_rule
-load_rules context flags n in_file distance low near = (λ j. if (low j || false) then Some Reserved else if near j then Some Range else None)
-
-store_rules : (context : Context) (flags : MemFlagsData) (n : ℕ) (in_file : n < 32) (distance : ℤ) → nat_le 30 n ≡ false → is_distant distance ≡ false → broken_rule context (Put (Store (int_reg n in_file) StoreDouble flags (SPOffset distance))) ≡ None
-unfolding every_rule
-store_rules context flags n in_file distance low near = (λ j. if (low j || false) then Some Reserved else if near j then Some Range else None)
-
 pub stack_loads_fine : StackLoadsFine
-stack_loads_fine context flags n in_file distance low near = record { rule = load_rules context flags n in_file distance (lt-leb 30 n low) near; fit = refl; binds_none = λ bound. refl; names_none = refl; size = lit≤ tt }
+unfolding every_rule
+stack_loads_fine context flags n in_file distance low near = record { rule = λ j. if (lt-leb 30 n low j || false) then Some Reserved else if near j then Some Range else None; fit = refl; binds_none = λ bound. refl; names_none = refl; size = lit≤ tt }
 
 pub stack_stores_fine : StackStoresFine
-stack_stores_fine context flags n in_file distance low near = record { rule = store_rules context flags n in_file distance (lt-leb 30 n low) near; fit = refl; binds_none = λ bound. refl; names_none = refl; size = lit≤ tt }
+unfolding every_rule
+stack_stores_fine context flags n in_file distance low near = record { rule = λ j. if (lt-leb 30 n low j || false) then Some Reserved else if near j then Some Range else None; fit = refl; binds_none = λ bound. refl; names_none = refl; size = lit≤ tt }

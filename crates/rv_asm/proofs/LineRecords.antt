@@ -1,21 +1,12 @@
 -- The records of lines: handlers with the offsets of their labels, saved registers, and the bytes that relocations fill.
-use Rattle.std.proofs.Common.{[], ap, append-nil, arith, Bool, false, inl, inr, length, List, map, None, Option, refl, Some, subst, suc, sym, true, zero, ℕ, ⊎_elim, ◌++◌, ◌+◌, ◌<◌, ◌∙◌, ◌∷◌, ◌≡◌, ◌≢◌, ◌≤◌}
-use Rattle.std.specs.Prelude.{slice_get, unwrap_or, ◌-◌}
-use Rattle.rv_base.specs.declared.call.ReturnCallInfo.{ReturnCallInfo}
-use Rattle.rv_base.specs.declared.call.TryCallHandler.{TryCallHandler}
-use Rattle.rv_base.specs.declared.call.TryCallHandler.TheVariants.{Default, Tag}
-use Rattle.rv_base.specs.declared.call.UserStackMap.{UserStackMap}
-use Rattle.rv_base.specs.declared.unwind.UnwindInst.{UnwindInst}
-use Rattle.rv_base.specs.declared.unwind.UnwindInst.TheVariants.{SaveReg}
-use Rattle.rv_inst.specs.UnitWords.{conversion_trap}
-use Rattle.rv_ops.specs.Fpu.{is_to_integer}
+use Rattle.{rv_asm.proofs.LabelNames.bound_place, rv_asm.proofs.LinesInBuffer.gap_within, rv_asm.proofs.RefusalOrder.{AllBound, all_both, all_first}}
+use Rattle.rv_asm.proofs.Words.{[], Abs8, access_records, AllByRecursion, ap, append-nil, arith, Bind, Bool, broken_rule, BrTable, Buffer, Call, CallInd, Constant, ConstPlace, Context, EmitIsland, end_of, ExternalName, false, field_size, FillsInLine, finalized_handler, first_in, flat_map-append}
+use Rattle.rv_asm.proofs.Words.{FpuRR, FrameLayout, from_of, Gap, GapAsked, handler_label, inl, inr, Inst, inst_records, inst_registers, is_some, is_virtual, IsApart, IsGap, IsOfSize, IsOutside, keeps, label_start, LabelUse, length, Line, line_records, LineSpan, LinesStand, List, list_any, Load}
+use Rattle.rv_asm.proofs.Words.{LoadExtNameFar, LoadExtNameGot, LoadExtNameNear, locate, MachLabel, MachRecord, MachReloc, map, named_labels, None, offset_or_zero, Option, patch_records, place_of, Put, record_relocs, record_unwinds, records_from, refl, Reloc, relocs_in, Request, request_of}
+use Rattle.rv_asm.proofs.Words.{return_records, ReturnCall, ReturnCallInd, same_Some, SavesReal, Shape, slice_get, slice_get_within, Some, sp_to_fp_of, SpansIn, StandOutside, start_of, StepSaves, Store, subst, suc, sym, to_of, TrapCode, tries_in, true, try_labels, TryCallInfo, Unwind, unwinds_in}
+use Rattle.{rv_asm.proofs.Words.{unwrap_or, UserStackMap, Virtual, zero, ℕ, ⊎_elim, ◌++◌, ◌+◌, ◌-◌, ◌<◌, ◌∙◌, ◌∷◌, ◌≡◌, ◌≢◌, ◌≤◌, ◌⊎◌}, rv_base.specs.declared.call.CallInfo.CallInfo, rv_base.specs.declared.call.TryCallHandler.TryCallHandler}
+use Rattle.{rv_base.specs.declared.call.TryCallHandler.TheVariants.{Default, Tag}, rv_base.specs.declared.unwind.UnwindInst.UnwindInst, rv_base.specs.declared.unwind.UnwindInst.TheVariants.SaveReg, rv_inst.specs.UnitWords.conversion_trap, rv_ops.specs.Fpu.is_to_integer}
 use Rattle.mach_records.specs.declared.records.FinalizedMachExceptionHandler.TheVariants as to
-use Rattle.rv_asm.proofs.Words.{Abs8, access_records, After, AllByRecursion, Around, Bind, broken_rule, Buffer, Call, call_extent, call_size, CallInd, Constant, ConstPlace, Context, end_of, Extent, extent_of, ExternalName, field_size, FillsInLine, finalized_handler, flat_map-append, FpuRR, BrTable}
-use Rattle.rv_asm.proofs.Words.{FrameLayout, handler_label, Inst, inst_labels, inst_records, inst_registers, inst_rule, is_virtual, IsaFlags, IsApart, IsGap, Island, IsOutside, IsSized, IsSpan, keeps, label_start, Line, line_records, LineSpan, LinesStand, list_any, Load, LoadExtNameFar, EmitIsland}
-use Rattle.rv_asm.proofs.Words.{LoadExtNameGot, LoadExtNameNear, loads_unless, locate, MachLabel, MachRecord, MachReloc, named_labels, offset_or_zero, patch_records, place_of, Put, record_relocs, record_unwinds, records_from, Reloc, relocs_in, return_records, ReturnCall, same_Some, SavesReal}
-use Rattle.rv_asm.proofs.Words.{slice_get_within, sp_to_fp_of, StackLoad, start_of, StepSaves, Store, TrapCode, tries_in, try_labels, TryCallInfo, Unwind, unwinds_in, Virtual, Words, WordsApart, ReturnCallInd}
-use Rattle.rv_asm.proofs.LabelNames.{bound_place}
-use Rattle.rv_asm.proofs.RefusalOrder.{AllBound, all_both, all_first}
 
 -- ---- records by their kinds
 
@@ -66,18 +57,15 @@ module _ (f g : ℕ → ℕ) where
   own_agree : (t : Option TryCallInfo) → Agree (try_labels t ++ [] ++ []) → Agree (try_labels t)
   own_agree t h = all_first Same (try_labels t) [] (all_first Same (try_labels t ++ []) [] h)
 
-  inst_agree : (context : Context) (start end : ℕ) (inst : Inst) → Agree (inst_labels inst) → tries_in f (inst_records context start end inst) ≡ tries_in g (inst_records context start end inst)
-  inst_agree context start end (Load rd op flags from) h = access_agree _ flags.trap
-  inst_agree context start end (Store src op flags to) h = access_agree _ flags.trap
-  inst_agree context start end (FpuRR op width frm rd rs) h = access_agree start (conversion_trap (is_to_integer op))
-  inst_agree context start end (Call info) h = return_agree context.frame _ info.stack_map info.try_call_info (patch_records info.patchable _ _) (own_agree info.try_call_info h) (patch_cases (λ rs. tries_in f rs ≡ tries_in g rs) info.patchable _ _ refl refl)
-  inst_agree context start end (CallInd info) h =
+  line_agree : (context : Context) (start end : ℕ) (line : Line) → Agree (named_labels line) → tries_in f (line_records context start end line) ≡ tries_in g (line_records context start end line)
+  line_agree context start end (Put (Load rd op flags from)) h = access_agree _ flags.trap
+  line_agree context start end (Put (Store src op flags to)) h = access_agree _ flags.trap
+  line_agree context start end (Put (FpuRR op width frm rd rs)) h = access_agree start (conversion_trap (is_to_integer op))
+  line_agree context start end (Put (Call info)) h = return_agree context.frame _ info.stack_map info.try_call_info (patch_records info.patchable _ _) (own_agree info.try_call_info h) (patch_cases (λ rs. tries_in f rs ≡ tries_in g rs) info.patchable _ _ refl refl)
+  line_agree context start end (Put (CallInd info)) h =
       subst (λ rs. tries_in f rs ≡ tries_in g rs) (append-nil (return_records context.frame _ info.stack_map info.try_call_info))
       (return_agree context.frame _ info.stack_map info.try_call_info [] (own_agree info.try_call_info h) refl)
-  inst_agree context start end inst h = refl
-
-  line_agree : (context : Context) (start end : ℕ) (line : Line) → Agree (named_labels line) → tries_in f (line_records context start end line) ≡ tries_in g (line_records context start end line)
-  line_agree context start end (Put inst) h = inst_agree context start end inst h
+  line_agree context start end (Put inst) h = refl
   line_agree context start end (Bind label) h = refl
 
   lines_agree : (context : Context) (spans : List LineSpan) (i : ℕ) (lines : List Line) → ((k : ℕ) (line : Line) → slice_get lines k ≡ Some line → Agree (named_labels line)) → tries_in f (records_from context spans i lines) ≡ tries_in g (records_from context spans i lines)
@@ -86,11 +74,11 @@ module _ (f g : ℕ → ℕ) where
       grind (arith, flat_map-append, line_agree context (start_of spans i) (end_of spans i) line (named 0 line refl), lines_agree context spans (suc i) lines (λ k next e. named (suc k) next e))
 
 -- a label that is bound has the offset of the line that binds it
-bound_agree : {context : Context} (lines : List Line) (spans : List LineSpan) (b : Buffer) → LinesStand context lines spans b → (labels : List MachLabel) → AllBound lines labels → Agree (offset_or_zero (place_of b)) (label_start spans lines) labels
+bound_agree : {context : Context} {gaps : List Gap} (lines : List Line) (spans : List LineSpan) (b : Buffer) → LinesStand context lines spans gaps b → (labels : List MachLabel) → AllBound lines labels → Agree (offset_or_zero (place_of b)) (label_start spans lines) labels
 bound_agree lines spans b built [] h = tt
 bound_agree lines spans b built (l ∷ labels) h = (ap (λ o. unwrap_or o 0) (bound_place lines spans b l.number built h.0), bound_agree lines spans b built labels h.1)
 
-pub handlers_reported : {context : Context} (lines : List Line) (spans : List LineSpan) (b : Buffer) → LinesStand context lines spans b → ((i : ℕ) (line : Line) → slice_get lines i ≡ Some line → AllBound lines (named_labels line)) → tries_in (offset_or_zero (place_of b)) (records_from context spans 0 lines) ≡ tries_in (label_start spans lines) (records_from context spans 0 lines)
+pub handlers_reported : {context : Context} {gaps : List Gap} (lines : List Line) (spans : List LineSpan) (b : Buffer) → LinesStand context lines spans gaps b → ((i : ℕ) (line : Line) → slice_get lines i ≡ Some line → AllBound lines (named_labels line)) → tries_in (offset_or_zero (place_of b)) (records_from context spans 0 lines) ≡ tries_in (label_start spans lines) (records_from context spans 0 lines)
 handlers_reported {context} lines spans b built named = lines_agree (offset_or_zero (place_of b)) (label_start spans lines) context spans 0 lines (λ i line e. bound_agree lines spans b built (named_labels line) (named i line e))
 
 -- ==== The steps in the making of a frame that lines tell save registers of the machine: a line that names a virtual one is refused.
@@ -106,19 +94,16 @@ access_saves at trap = access_cases (λ rs. AllByRecursion SavesReal (unwinds_in
 return_saves : (frame : FrameLayout) (at : ℕ) (entries : Option UserStackMap) (t : Option TryCallInfo) (more : List MachRecord) → AllByRecursion SavesReal (unwinds_in more) → AllByRecursion SavesReal (unwinds_in (return_records frame at entries t ++ more))
 return_saves frame at entries t more h = return_cases (λ t rs. AllByRecursion SavesReal (unwinds_in (rs ++ more))) frame at entries t h (λ t. h) (λ m. h) (λ m t. h)
 
-inst_saves : (context : Context) (start end : ℕ) (inst : Inst) → inst_rule context inst ≡ None → AllByRecursion SavesReal (unwinds_in (inst_records context start end inst))
-inst_saves context start end (Load rd op flags from) rule = access_saves _ flags.trap
-inst_saves context start end (Store src op flags to) rule = access_saves _ flags.trap
-inst_saves context start end (FpuRR op width frm rd rs) rule = access_saves start (conversion_trap (is_to_integer op))
-inst_saves context start end (Call info) rule = return_saves context.frame _ info.stack_map info.try_call_info (patch_records info.patchable _ _) (patch_cases (λ rs. AllByRecursion SavesReal (unwinds_in rs)) info.patchable _ _ tt tt)
-inst_saves context start end (CallInd info) rule =
+line_saves : (context : Context) (start end : ℕ) (line : Line) → broken_rule context line ≡ None → AllByRecursion SavesReal (unwinds_in (line_records context start end line))
+line_saves context start end (Put (Load rd op flags from)) rule = access_saves _ flags.trap
+line_saves context start end (Put (Store src op flags to)) rule = access_saves _ flags.trap
+line_saves context start end (Put (FpuRR op width frm rd rs)) rule = access_saves start (conversion_trap (is_to_integer op))
+line_saves context start end (Put (Call info)) rule = return_saves context.frame _ info.stack_map info.try_call_info (patch_records info.patchable _ _) (patch_cases (λ rs. AllByRecursion SavesReal (unwinds_in rs)) info.patchable _ _ tt tt)
+line_saves context start end (Put (CallInd info)) rule =
     subst (λ rs. AllByRecursion SavesReal (unwinds_in rs)) (append-nil (return_records context.frame _ info.stack_map info.try_call_info))
     (return_saves context.frame _ info.stack_map info.try_call_info [] tt)
-inst_saves context start end (Unwind inst) rule = (step_saves inst (keeps context (Unwind inst) rule).real, tt)
-inst_saves context start end inst rule = tt
-
-line_saves : (context : Context) (start end : ℕ) (line : Line) → broken_rule context line ≡ None → AllByRecursion SavesReal (unwinds_in (line_records context start end line))
-line_saves context start end (Put inst) rule = inst_saves context start end inst rule
+line_saves context start end (Put (Unwind inst)) rule = (step_saves inst (keeps context (Unwind inst) rule).real, tt)
+line_saves context start end (Put inst) rule = tt
 line_saves context start end (Bind label) rule = tt
 
 pub lines_save : (context : Context) (spans : List LineSpan) (i : ℕ) (lines : List Line) → ((k : ℕ) (line : Line) → slice_get lines k ≡ Some line → broken_rule context line ≡ None) → AllByRecursion SavesReal (unwinds_in (records_from context spans i lines))
@@ -168,19 +153,13 @@ fill_apart (x ∷ rs) from to (suc j) (suc k) r s h differ e g = fill_apart rs (
 
 -- ---- one line
 
-gap_ascends : (flags : IsaFlags) (bytes : List ℕ) (from to : ℕ) → IsGap flags bytes from to → from ≤ to
-gap_ascends flags bytes from to h = ⊎_elim (λ same. omega arith) (λ island. let longer = island.longer in omega arith) h
+-- the bytes of a line, and its gap among them
+abbrev pub LineSpread : Context → Line → Shape LabelUse → ℕ → ℕ → ℕ → ℕ → Type 0
+LineSpread context (Put inst) f start from to end = SpansIn context inst f start from to end
+LineSpread context (Bind label) f start from to end = start ≡ end
 
-sized_ascends : (flags : IsaFlags) (bytes : List ℕ) (extent : Extent) (start end : ℕ) → IsSized flags bytes extent start end → start ≤ end
-sized_ascends flags bytes (Words size) start end h = omega arith
-sized_ascends flags bytes (Island space) start end h = gap_ascends flags bytes start end h
-sized_ascends flags bytes (After space size more) start end (mid, gap, same) = let before = gap_ascends flags bytes start mid gap in omega arith
-sized_ascends flags bytes (Around before space after) start end (mid, gap, same) = let ascends = gap_ascends flags bytes (start + before) mid gap in omega (arith, ascends, same)
-
--- a call's own instructions are within its span
-call_within : (flags : IsaFlags) (bytes : List ℕ) (jump popped : ℕ) (loads : List StackLoad) (t : Option TryCallInfo) (start end : ℕ) → IsSized flags bytes (call_extent flags jump popped loads t) start end → start + call_size flags jump popped ≤ end
-call_within flags bytes jump popped [] t start end long = omega (arith, long)
-call_within flags bytes jump popped (l ∷ loads) t start end (mid, gap, long) = let ascends = gap_ascends flags bytes _ mid gap in omega (arith, ascends, long)
+spans_ascend : {context : Context} {inst : Inst} {f : Shape LabelUse} {start from to end : ℕ} → SpansIn context inst f start from to end → start ≤ end
+spans_ascend {context} {inst} {f} {start} {from} {to} {end} s = omega (arith, s.first, gap_within context.flags (request_of context inst) f from to s.gap, s.last)
 
 access_fill : (at : ℕ) (trap : Option TrapCode) (start end : ℕ) → start ≤ end → FillInTurn (relocs_in (access_records at trap)) start end
 access_fill at trap start end le = access_cases (λ rs. FillInTurn (relocs_in rs) start end) at trap le (λ code. le)
@@ -192,83 +171,89 @@ patch_fill patchable begin end from to le = patch_cases (λ rs. FillInTurn (relo
 return_fill : (frame : FrameLayout) (at : ℕ) (entries : Option UserStackMap) (t : Option TryCallInfo) (more : List MachRecord) (from to : ℕ) → FillInTurn (relocs_in more) from to → FillInTurn (relocs_in (return_records frame at entries t ++ more)) from to
 return_fill frame at entries t more from to h = return_cases (λ t rs. FillInTurn (relocs_in (rs ++ more)) from to) frame at entries t h (λ t. h) (λ m. h) (λ m t. h)
 
--- what an instruction's relocations fill stands where the instruction does
-inst_fill : (context : Context) (bytes : List ℕ) (inst : Inst) (start end : ℕ) → IsSized context.flags bytes (extent_of context inst) start end → FillInTurn (relocs_in (inst_records context start end inst)) start end
-inst_fill context bytes (Load rd op flags from) start end h = access_fill _ flags.trap start end (omega arith)
-inst_fill context bytes (Store src op flags to) start end h = access_fill _ flags.trap start end (omega arith)
-inst_fill context bytes (FpuRR op width frm rd rs) start end h = access_fill start (conversion_trap (is_to_integer op)) start end (omega arith)
-inst_fill context bytes (LoadExtNameGot rd name) start end h = (omega arith, (omega arith, omega arith))
-inst_fill context bytes (LoadExtNameNear rd name offset) start end h = (omega arith, (omega arith, omega arith))
-inst_fill context bytes (LoadExtNameFar rd name offset) start end h = (omega arith, omega arith)
-inst_fill context bytes (Call info) start end h =
-    let within = call_within context.flags bytes 8 info.callee_pop_size (loads_unless info.patchable info.defs) info.try_call_info start end h in
+-- what a line's relocations fill stands where the line does
+line_fill : (context : Context) (f : Shape LabelUse) (line : Line) (start from to end : ℕ) → LineSpread context line f start from to end → FillInTurn (relocs_in (line_records context start end line)) start end
+line_fill context f (Put (Load rd op flags mode)) start from to end h = access_fill _ flags.trap start end (spans_ascend h)
+line_fill context f (Put (Store src op flags mode)) start from to end h = access_fill _ flags.trap start end (spans_ascend h)
+line_fill context f (Put (FpuRR op width frm rd rs)) start from to end h = access_fill start (conversion_trap (is_to_integer op)) start end (spans_ascend h)
+line_fill context f (Put (LoadExtNameGot rd name)) start from to end h = (omega arith, (omega arith, omega (arith, h.first, h.gap, h.last, h.size)))
+line_fill context f (Put (LoadExtNameNear rd name offset)) start from to end h = (omega arith, (omega arith, omega (arith, h.first, h.gap, h.last, h.size)))
+line_fill context f (Put (LoadExtNameFar rd name offset)) start from to end h = (omega (arith, h.first, h.gap, h.last, h.size), omega (arith, h.first, h.gap, h.last, h.size))
+line_fill context f (Put (Call info)) start from to end h =
+    let within = h.back.returns _ refl in
     (omega arith, return_fill context.frame _ info.stack_map info.try_call_info (patch_records info.patchable _ _) (start + 8) end (patch_fill info.patchable _ _ (start + 8) end (omega (arith, within))))
-inst_fill context bytes (CallInd info) start end h =
+line_fill context f (Put (CallInd info)) start from to end h =
     subst (λ rs. FillInTurn (relocs_in rs) start end) (append-nil (return_records context.frame _ info.stack_map info.try_call_info))
-    (return_fill context.frame _ info.stack_map info.try_call_info [] start end (sized_ascends context.flags bytes (extent_of context (CallInd info)) start end h))
-inst_fill context bytes (ReturnCall info) start end (mid, gap, same) = let before = gap_ascends context.flags bytes start mid gap in (omega arith, omega arith)
-inst_fill context bytes inst start end h = sized_ascends context.flags bytes (extent_of context inst) start end h
+    (return_fill context.frame _ info.stack_map info.try_call_info [] start end (spans_ascend h))
+line_fill context f (Put (ReturnCall info)) start from to end h =
+    let least = h.least refl in
+    let before = gap_within context.flags (request_of context (ReturnCall info)) f from to h.gap in
+    (omega (arith, h.first, before, least.filled), omega (arith, h.first, before, least.filled))
+line_fill context f (Put inst) start from to end h = spans_ascend h
+line_fill context f (Bind label) start from to end h = omega arith
 
--- ---- among the words of an instruction
+-- ---- among the bytes of an instruction
 
--- before an island in it, or after it; those of a call are its first
-abbrev AreAmong : Extent → ℕ → ℕ → ℕ → ℕ → Type 0
-AreAmong (Words size) start end from to = (start ≤ from) × (to ≤ end)
-AreAmong (Island space) start end from to = ⊥
-AreAmong (After space size more) start end from to = (end - size ≤ from) × (to ≤ end)
-AreAmong (Around before space after) start end from to = (start ≤ from) × (to ≤ start + before)
+-- before its gap, or after it
+abbrev AreAmong : ℕ → ℕ → ℕ → ℕ → ℕ → ℕ → Type 0
+AreAmong start from to end at by = ((start ≤ at) × (by ≤ from)) ⊎ ((to ≤ at) × (by ≤ end))
 
 some_field : (kind : Reloc) → 1 ≤ field_size kind
 some_field Abs8 = omega arith
 some_field kind = omega arith
 
--- between the same offsets nothing is filled
-none_filled : (rs : List MachReloc) (j : ℕ) (r : MachReloc) → FillInTurn rs 0 0 → slice_get rs j ≡ Some r → ⊥
-none_filled rs j r h e = let some = some_field r.kind in let between = fill_between rs 0 0 j r h e in let ends = between.1 in absurd (omega arith)
+-- of one that asks for no island the gap is at its start
+level : {context : Context} {inst : Inst} {f : Shape LabelUse} {start from to end : ℕ} → request_of context inst ≡ None → SpansIn context inst f start from to end → start ≡ to
+level {context} {inst} {f} {start} {from} {to} asks h =
+    let begins : from - start ≡ 0 = subst (λ r. IsOfSize (first_in r) (from - start)) asks h.begins in
+    let gap : from ≡ to = subst (λ r. GapAsked context.flags r f from to) asks h.gap in
+    omega (arith, begins, gap, h.first)
 
-tail_long : (context : Context) (info : ReturnCallInfo ExternalName) (bytes : List ℕ) (start end : ℕ) → IsSized context.flags bytes (extent_of context (ReturnCall info)) start end → 8 ≤ end
-tail_long context info bytes start end (mid, gap, same) = omega (arith, same)
+call_among : {context : Context} {info : CallInfo ExternalName} {f : Shape LabelUse} {start from to end at by : ℕ} (request : Option Request) → request_of context (Call info) ≡ request → SpansIn context (Call info) f start from to end → start ≤ at → by ≤ start + 8 → AreAmong start from to end at by
+call_among None asks h starts ends = inr (omega (arith, level asks h, starts), omega (arith, h.back.returns _ refl, ends))
+call_among (Some r) asks h starts ends = let least = (h.least (ap is_some asks)).returns _ refl in inl (starts, omega (arith, least, h.first, ends))
 
-call_among : (flags : IsaFlags) (bytes : List ℕ) (popped : ℕ) (loads : List StackLoad) (t : Option TryCallInfo) (start end from to : ℕ) → IsSized flags bytes (call_extent flags 8 popped loads t) start end → start ≤ from → to ≤ start + 8 → AreAmong (call_extent flags 8 popped loads t) start end from to
-call_among flags bytes popped [] t start end from to long starts ends = (starts, omega (arith, long, ends))
-call_among flags bytes popped (l ∷ loads) t start end from to h starts ends = (starts, omega (arith, ends))
-
-inst_among : (context : Context) (bytes : List ℕ) (inst : Inst) (start end j : ℕ) (r : MachReloc) → IsSized context.flags bytes (extent_of context inst) start end → slice_get (relocs_in (inst_records context start end inst)) j ≡ Some r → AreAmong (extent_of context inst) start end r.offset (r.offset + field_size r.kind)
-inst_among context bytes (Call info) start end j r h e =
+inst_among : (context : Context) (f : Shape LabelUse) (inst : Inst) (start from to end j : ℕ) (r : MachReloc) → SpansIn context inst f start from to end → slice_get (relocs_in (inst_records context start end inst)) j ≡ Some r → AreAmong start from to end r.offset (r.offset + field_size r.kind)
+inst_among context f (Call info) start from to end j r h e =
     let turn : FillInTurn (relocs_in (inst_records context start end (Call info))) start (start + 8) = (omega arith, return_fill context.frame _ info.stack_map info.try_call_info (patch_records info.patchable _ _) (start + 8) (start + 8) (patch_fill info.patchable _ _ (start + 8) (start + 8) (omega arith))) in
     let own = fill_between (relocs_in (inst_records context start end (Call info))) start (start + 8) j r turn e in
-    call_among context.flags bytes info.callee_pop_size (loads_unless info.patchable info.defs) info.try_call_info start end r.offset (r.offset + field_size r.kind) h own.0 own.1
-inst_among context bytes (CallInd info) start end j r h e =
-    absurd (none_filled _ j r (subst (λ rs. FillInTurn (relocs_in rs) 0 0) (append-nil (return_records context.frame _ info.stack_map info.try_call_info)) (return_fill context.frame _ info.stack_map info.try_call_info [] 0 0 (omega arith))) e)
-inst_among context bytes (ReturnCall info) start end j r h e =
-    let own = fill_between (relocs_in (inst_records context start end (ReturnCall info))) (end - 8) end j r ((omega arith, omega (arith, tail_long context info bytes start end h))) e in
-    (omega (arith, own.0), own.1)
-inst_among context bytes (EmitIsland space) start end j r h e = absurd (cc)
-inst_among context bytes (BrTable index tmp1 tmp2 targets) start end j r h e = absurd (cc)
-inst_among context bytes (ReturnCallInd info) start end j r h e = absurd (cc)
-inst_among context bytes inst start end j r h e = fill_between (relocs_in (inst_records context start end inst)) start end j r (inst_fill context bytes inst start end h) e
-
-line_fill : (context : Context) (bytes : List ℕ) (line : Line) (start end : ℕ) → IsSpan context bytes line start end → FillInTurn (relocs_in (line_records context start end line)) start end
-line_fill context bytes (Put inst) start end h = inst_fill context bytes inst start end h
-line_fill context bytes (Bind label) start end h = omega arith
+    call_among (request_of context (Call info)) refl h own.0 own.1
+inst_among context f (CallInd info) start from to end j r h e =
+    let some = some_field r.kind in
+    let ends = (fill_between _ 0 0 j r (subst (λ rs. FillInTurn (relocs_in rs) 0 0) (append-nil (return_records context.frame _ info.stack_map info.try_call_info)) (return_fill context.frame _ info.stack_map info.try_call_info [] 0 0 (omega arith))) e).1 in
+    absurd (omega arith)
+inst_among context f (ReturnCall info) start from to end j r h e =
+    let least = (h.least refl).filled in
+    let own = fill_between (relocs_in (inst_records context start end (ReturnCall info))) (end - 8) end j r ((omega arith, omega (arith, least))) e in
+    inr (omega (arith, own.0, least), own.1)
+inst_among context f (EmitIsland space) start from to end j r h e = absurd (cc)
+inst_among context f (BrTable index tmp1 tmp2 targets) start from to end j r h e = absurd (cc)
+inst_among context f (ReturnCallInd info) start from to end j r h e = absurd (cc)
+inst_among context f inst start from to end j r h e =
+    let own = fill_between (relocs_in (inst_records context start end inst)) start end j r (line_fill context f (Put inst) start from to end h) e in
+    let same : start ≡ to = level refl h in
+    inr (omega (arith, own.0, same), own.1)
 
 -- ---- all lines
 
-module _ (context : Context) (bytes : List ℕ) (spans : List LineSpan) where
+module _ (context : Context) (bytes : List ℕ) (spans : List LineSpan) (gaps : List Gap) (f : Shape LabelUse) where
+  abbrev SpreadAt : ℕ → Line → Type 0
+  SpreadAt i line = LineSpread context line f (start_of spans i) (from_of gaps i) (to_of gaps i) (end_of spans i)
+
   -- lines, the first of which has index i, are as long as they must be; between two stands nothing, or an island
   abbrev AreLong : ℕ → List Line → Type 0
   AreLong i [] = Unit {0}
-  AreLong i (line ∷ lines) = IsSpan context bytes line (start_of spans i) (end_of spans i) × (0 < length lines → IsGap context.flags bytes (end_of spans i) (start_of spans (suc i))) × AreLong (suc i) lines
+  AreLong i (line ∷ lines) = SpreadAt i line × (0 < length lines → IsGap context.flags bytes (end_of spans i) (start_of spans (suc i))) × AreLong (suc i) lines
 
-  are_long : (i : ℕ) (lines : List Line) → ((k : ℕ) (line : Line) → slice_get lines k ≡ Some line → IsSpan context bytes line (start_of spans (i + k)) (end_of spans (i + k))) → ((k : ℕ) → suc k < length lines → IsGap context.flags bytes (end_of spans (i + k)) (start_of spans (suc (i + k)))) →
+  are_long : (i : ℕ) (lines : List Line) → ((k : ℕ) (line : Line) → slice_get lines k ≡ Some line → SpreadAt (i + k) line) → ((k : ℕ) → suc k < length lines → IsGap context.flags bytes (end_of spans (i + k)) (start_of spans (suc (i + k)))) →
       AreLong i lines
   are_long i [] long joined = tt
   are_long i (line ∷ lines) long joined =
       let here : i + 0 ≡ i = omega arith in
       let next : (k : ℕ) → i + suc k ≡ suc i + k = λ k. omega arith in (
-        subst (λ n. IsSpan context bytes line (start_of spans n) (end_of spans n)) here (long 0 line refl),
+        subst (λ n. SpreadAt n line) here (long 0 line refl),
         λ lt. subst (λ n. IsGap context.flags bytes (end_of spans n) (start_of spans (suc n))) here (joined 0 (omega (arith, lt))),
-        are_long (suc i) lines (λ k l e. subst (λ n. IsSpan context bytes l (start_of spans n) (end_of spans n)) (next k) (long (suc k) l e))
+        are_long (suc i) lines (λ k l e. subst (λ n. SpreadAt n l) (next k) (long (suc k) l e))
             (λ k lt. subst (λ n. IsGap context.flags bytes (end_of spans n) (start_of spans (suc n))) (next k) (joined (suc k) (omega (arith, lt)))),
       )
 
@@ -280,8 +265,8 @@ module _ (context : Context) (bytes : List ℕ) (spans : List LineSpan) where
   lines_fill i (line ∷ lines) from long starts =
       let first = relocs_in (line_records context (start_of spans i) (end_of spans i) line) in
       let more = relocs_in (records_from context spans (suc i) lines) in
-      let rest = lines_fill (suc i) lines (end_of spans i) long.2 (λ lt. gap_ascends context.flags bytes (end_of spans i) (start_of spans (suc i)) (long.1 lt)) in
-      let both = fill_both first more (start_of spans i) (end_of spans i) rest.0 (line_fill context bytes line (start_of spans i) (end_of spans i) long.0) rest.1 in
+      let rest = lines_fill (suc i) lines (end_of spans i) long.2 (λ lt. ⊎_elim (λ same. omega arith) (λ island. let longer = island.longer in omega arith) (long.1 lt)) in
+      let both = fill_both first more (start_of spans i) (end_of spans i) rest.0 (line_fill context f line (start_of spans i) (from_of gaps i) (to_of gaps i) (end_of spans i) long.0) rest.1 in
       (rest.0, subst (λ rs. FillInTurn rs from rest.0) (sym (relocs_split i line lines)) (fill_from (first ++ more) from (start_of spans i) rest.0 (starts (omega arith)) both))
 
   -- a relocation is one of a line, whose index is i and some
@@ -304,37 +289,37 @@ module _ (context : Context) (bytes : List ℕ) (spans : List LineSpan) where
       record { place = suc a.place; line = a.line; there = a.there; index = a.index; own = subst (λ n. slice_get (relocs_in (line_records context (start_of spans n) (end_of spans n) a.line)) a.index ≡ Some r) same a.own })
       (locate (relocs_in (line_records context (start_of spans i) (end_of spans i) line)) (relocs_in (records_from context spans (suc i) lines)) j r (ap (λ rs. slice_get rs j) (sym (relocs_split i line lines)) ∙ e))
 
-  module _ (lines : List Line) (count : length spans ≡ length lines) (long : (i : ℕ) (line : Line) → slice_get lines i ≡ Some line → IsSpan context bytes line (start_of spans i) (end_of spans i)) where
+  module _ (lines : List Line) (count : length spans ≡ length lines) (long : (i : ℕ) (line : Line) → slice_get lines i ≡ Some line → SpreadAt i line) where
     -- each relocation's bytes are a line's
     pub fields_in_lines : (j : ℕ) (r : MachReloc) → slice_get (relocs_in (records_from context spans 0 lines)) j ≡ Some r → FillsInLine spans r
     fields_in_lines j r e =
         let a = of_line 0 lines j r e in
         let same : 0 + a.place ≡ a.place = omega arith in
-        let between = fill_between _ (start_of spans a.place) (end_of spans a.place) a.index r (line_fill context bytes a.line (start_of spans a.place) (end_of spans a.place) (long a.place a.line a.there)) (subst (λ n. slice_get (relocs_in (line_records context (start_of spans n) (end_of spans n) a.line)) a.index ≡ Some r) same a.own) in
+        let between = fill_between _ (start_of spans a.place) (end_of spans a.place) a.index r (line_fill context f a.line (start_of spans a.place) (from_of gaps a.place) (to_of gaps a.place) (end_of spans a.place) (long a.place a.line a.there)) (subst (λ n. slice_get (relocs_in (line_records context (start_of spans n) (end_of spans n) a.line)) a.index ≡ Some r) same a.own) in
         (a.place, omega (arith, slice_get_within lines a.place a.line a.there), between.0, between.1)
 
     -- and none of them is a constant's
-    pub constants_unfilled : (registered : List Constant) (constants : List ConstPlace) → ((i : ℕ) (inst : Inst) → slice_get lines i ≡ Some (Put inst) → WordsApart registered constants (extent_of context inst) (start_of spans i) (end_of spans i)) → (j : ℕ) (c : ConstPlace) (k : Constant) → slice_get constants j ≡ Some c → slice_get registered c.constant.number ≡ Some k → IsOutside (relocs_in (records_from context spans 0 lines)) c.offset (length k.bytes)
+    pub constants_unfilled : (registered : List Constant) (constants : List ConstPlace) → ((i : ℕ) (inst : Inst) → slice_get lines i ≡ Some (Put inst) → StandOutside registered constants (start_of spans i) (from_of gaps i) × StandOutside registered constants (to_of gaps i) (end_of spans i)) → (j : ℕ) (c : ConstPlace) (k : Constant) → slice_get constants j ≡ Some c → slice_get registered c.constant.number ≡ Some k → IsOutside (relocs_in (records_from context spans 0 lines)) c.offset (length k.bytes)
     constants_unfilled registered constants apart j c k hc hk i r e =
         let a = of_line 0 lines i r e in
         let same : 0 + a.place ≡ a.place = omega arith in
         on a.line a.place a.index a.there (subst (λ n. slice_get (relocs_in (line_records context (start_of spans n) (end_of spans n) a.line)) a.index ≡ Some r) same a.own)
       where
-        by : (e : Extent) (start end : ℕ) → WordsApart registered constants e start end → AreAmong e start end r.offset (r.offset + field_size r.kind) → IsApart c.offset (length k.bytes) r.offset (field_size r.kind)
-        by (Words size) start end h among = let starts = among.0 in let ends = among.1 in ⊎_elim (λ before. inr (omega arith)) (λ after. inl (omega arith)) (h j c k hc hk)
-        by (Island space) start end h among = absurd among
-        by (After space size more) start end h among = let starts = among.0 in let ends = among.1 in ⊎_elim (λ before. inr (omega arith)) (λ after. inl (omega arith)) (h j c k hc hk)
-        by (Around before space after) start end h among = let starts = among.0 in let ends = among.1 in ⊎_elim (λ before. inr (omega arith)) (λ after. inl (omega arith)) (h.0 j c k hc hk)
+        by : (start from to end : ℕ) → StandOutside registered constants start from × StandOutside registered constants to end → AreAmong start from to end r.offset (r.offset + field_size r.kind) → IsApart c.offset (length k.bytes) r.offset (field_size r.kind)
+        by start from to end h among = ⊎_elim
+            (λ first. ⊎_elim (λ before. inr (omega (arith, first.1, before))) (λ after. inl (omega (arith, first.0, after))) (h.0 j c k hc hk))
+            (λ last. ⊎_elim (λ before. inr (omega (arith, last.1, before))) (λ after. inl (omega (arith, last.0, after))) (h.1 j c k hc hk))
+            among
 
         on : (line : Line) (n m : ℕ) → slice_get lines n ≡ Some line → slice_get (relocs_in (line_records context (start_of spans n) (end_of spans n) line)) m ≡ Some r → IsApart c.offset (length k.bytes) r.offset (field_size r.kind)
-        on (Put inst) n m there own = by (extent_of context inst) (start_of spans n) (end_of spans n) (apart n inst there) (inst_among context bytes inst (start_of spans n) (end_of spans n) m r (long n (Put inst) there) own)
+        on (Put inst) n m there own = by (start_of spans n) (from_of gaps n) (to_of gaps n) (end_of spans n) (apart n inst there) (inst_among context f inst (start_of spans n) (from_of gaps n) (to_of gaps n) (end_of spans n) m r (long n (Put inst) there) own)
         on (Bind label) n m there own = absurd (cc)
 
     -- no two share a byte
     pub fields_apart : ((i : ℕ) → suc i < length lines → IsGap context.flags bytes (end_of spans i) (start_of spans (suc i))) → (j k : ℕ) (r s : MachReloc) → j ≢ k → slice_get (relocs_in (records_from context spans 0 lines)) j ≡ Some r → slice_get (relocs_in (records_from context spans 0 lines)) k ≡ Some s → IsApart r.offset (field_size r.kind) s.offset (field_size s.kind)
     fields_apart joined j k r s differ e g =
         let same : (n : ℕ) → n ≡ 0 + n = λ n. omega arith in
-        let all_long = are_long 0 lines (λ n line at. subst (λ m. IsSpan context bytes line (start_of spans m) (end_of spans m)) (same n) (long n line at))
+        let all_long = are_long 0 lines (λ n line at. subst (λ m. SpreadAt m line) (same n) (long n line at))
         (λ n lt. subst (λ m. IsGap context.flags bytes (end_of spans m) (start_of spans (suc m))) (same n) (joined n lt)) in
         let all = lines_fill 0 lines (start_of spans 0) all_long (λ lt. omega arith) in
         fill_apart (relocs_in (records_from context spans 0 lines)) (start_of spans 0) all.0 j k r s all.1 differ e g

@@ -1,31 +1,14 @@
 -- The join of lines: code in which each line stands and leads on runs as its job says, on the integer core and on the machine with all units.
-use Rattle.std.proofs.Common.{[], ap, append_assoc, arith, Bool, false, inl, inr, length, List, lit≤, None, Option, refl, Some, subst, suc, sym, true, zero, ℕ, ⊎_elim, ◌%◌, ◌*◌, ◌+◌, ◌<◌, ◌∙◌, ◌∷◌, ◌≡◌, ◌≤◌}
-use Rattle.std.proofs.lemmas.List.{append-nil}
-use Rattle.std.specs.Prelude.{if◌then◌else◌, nat_lt, slice_get, unwrap_or, ◌++◌, ◌⊎◌}
-use Rattle.rv_code.specs.InstRuns.{ComesOut, Enters, environment, Resumes}
-use Rattle.rv_full.proofs.LargerMachine.{integer_run}
-use Rattle.rv_full.proofs.Runs.{fiter_after, fiter_none}
-use Rattle.rv_full.specs.Steps.{fiter}
-use Rattle.rv_full.specs.Units.{FullState, FullValues, put}
-use Rattle.rv_full.specs.Vectors.{is_legal}
-use Rattle.rv_full.specs.declared.answer.Answer.{Answer}
-use Rattle.rv_inst.proofs.Meaning.{effect_agrees, exit_agrees, writes_agree}
-use Rattle.rv_inst.specs.Core.{is_integer, is_integer_in, is_integer_line}
-use Rattle.rv_inst.specs.Environments.{AgreeOn, SameLabels}
-use Rattle.rv_inst.specs.Meaning.{Data}
-use Rattle.rv_runs.specs.FullEnds.{EndsAsMeant, FullEnds}
-use Rattle.rv_runs.specs.FullInstRuns.{FullyAsks}
-use Rattle.rv_runs.specs.FullMeaning.{FullMeaning, inst_meaning}
+use Rattle.{rv_asm.proofs.Images.{from_long, placed_again, placed_at}, rv_asm.proofs.LinesInBuffer.found_from, rv_asm.proofs.RefusalOrder.{AllBound, bind_at, exit_bound, ExitBound, return_bound}, rv_asm.proofs.Spans.line_at}
+use Rattle.rv_asm.proofs.Words.{[], address_of, address_of_name, Addresses, Answer, ap, append_assoc, AreOutside, AreValues, arith, At, AtReturn, AtStart, Bind, binding_line, Bool, Break, broken_rule, but_then_same, bytes_from, Call, CallInd, cases_lt, Code, code_limit, Comes, ComesOut, context_of}
+use Rattle.rv_asm.proofs.Words.{Data, effect_from, effect_of, EmitVState, End, end_of, EndsAsMeant, Enters, Entry, entry_point, Environment, environment, environment_at, environment_of, Exit, exit_from, exit_of, false, field_size, first_constant, fiter, fiter_after, fiter_none, FrameLayout}
+use Rattle.rv_asm.proofs.Words.{FullEnds, FullMeaning, FullRuns, FullState, FullValues, FullyAsks, if◌then◌else◌, InData, inl, inr, Inst, inst_exit, inst_full_resumes, inst_full_runs, inst_meaning, inst_resumes, inst_runs, inst_temporaries, integer_run, is_bound, is_stuck, IsaFlags, IsBack, IsEntry}
+use Rattle.rv_asm.proofs.Words.{IsExit, IsOn, IsPlaced, IsPlacedAt, IsRecorded, IsState, IsStopped, IsTrapAt, iter, iter_after, iter_none, Job, Leads, LeadsOn, Leave, length, Line, LineAt, Lines, List, lit≤, ltb-false, ltb-true, MachLabel, MachRecord, MachReloc, meaning_agrees, meaning_of}
+use Rattle.rv_asm.proofs.Words.{MeansSame, Memory, named_labels, nat_lt, Next, next_point, None, offset_in, OneFullLine, Option, Out, Overwrites, parts_of, PartsStand, Placing, Point, Put, put, Reached, refl, resumed_by, Resumes, Return, return_at, return_exit, return_of, Returned, returns_from}
+use Rattle.rv_asm.proofs.Words.{RunsAsListed, RunsOn, Same, same_but, same_Some, SameBut, Site, slice_get, slice_get_within, Some, StandsAt, start_of, State, Stop, Stops, subst, suc, sym, temporaries_from, temporaries_of, To, Trap, TrapCode, Trapped, true, try_call_of, try_exit, unwrap_or, Values}
+use Rattle.{rv_asm.proofs.Words.{wrap, writes_of, WritesOutside, zero, ℕ, ⊎_elim, ◌%◌, ◌*◌, ◌++◌, ◌+◌, ◌<◌, ◌∙◌, ◌∷◌, ◌≡◌, ◌≤◌, ◌⊎◌}, rv_full.specs.Vectors.is_legal, rv_inst.proofs.Meaning.{effect_agrees, exit_agrees, writes_agree}, rv_inst.specs.Core.{is_integer, is_integer_in, is_integer_line}}
+use Rattle.{rv_inst.specs.Environments.{AgreeOn, SameLabels}, std.proofs.lemmas.List.append-nil}
 use Rattle.mach_records.specs.declared.records.Event.TheVariants as event
-use Rattle.rv_asm.proofs.Words.{address_of, address_of_name, Addresses, AreOutside, AreValues, At, AtReturn, AtStart, Bind, binding_line, Break, broken_rule, but_then_same, bytes_from, Call, CallInd, cases_lt, Code, code_limit, Comes, context_of, effect_from, effect_of, EmitVState, End, end_of}
-use Rattle.rv_asm.proofs.Words.{Entry, entry_point, Environment, environment_at, environment_of, Exit, exit_from, exit_of, field_size, first_constant, FrameLayout, FullRuns, InData, Inst, inst_exit, inst_full_resumes, inst_full_runs, inst_resumes, inst_runs, inst_temporaries, is_bound, is_stuck}
-use Rattle.rv_asm.proofs.Words.{IsaFlags, IsBack, IsEntry, IsExit, IsOn, IsPlaced, IsPlacedAt, IsRecorded, IsState, IsStopped, IsTrapAt, iter, iter_after, iter_none, Job, Leads, LeadsOn, Leave, Line, LineAt, Lines, ltb-false, ltb-true, MachLabel, MachRecord, MachReloc, meaning_agrees, meaning_of}
-use Rattle.rv_asm.proofs.Words.{MeansSame, Memory, named_labels, Next, next_point, offset_in, OneFullLine, Out, Overwrites, parts_of, PartsStand, Placing, Point, Put, Reached, resumed_by, Return, return_at, return_exit, return_of, Returned, returns_from, RunsAsListed, RunsOn, Same, same_but}
-use Rattle.rv_asm.proofs.Words.{same_Some, SameBut, Site, slice_get_within, StandsAt, start_of, State, Stop, Stops, temporaries_from, temporaries_of, To, Trap, TrapCode, Trapped, try_call_of, try_exit, Values, wrap, writes_of, WritesOutside}
-use Rattle.rv_asm.proofs.Images.{from_long, placed_again, placed_at}
-use Rattle.rv_asm.proofs.LinesInBuffer.{return_found}
-use Rattle.rv_asm.proofs.RefusalOrder.{AllBound, bind_at, exit_bound, ExitBound, return_bound}
-use Rattle.rv_asm.proofs.Spans.{line_at}
 
 pub same_itself : (v : Values) → Same v v
 same_itself v = record { regs = λ n lt. refl; mem = λ a. refl }
@@ -103,13 +86,13 @@ module _ (job : Job) (code : Code) (known : Known) (t : IsThreaded job code know
   -- where its call returns
   pub enters_back : (inst : Inst) (r : Return) (e : slice_get job.lines i ≡ Some (Put inst)) → return_of job.flags inst ≡ Some r → s.pc ≡ address_of code base (Returned i) →
       Resumes here (start_of code.lines i) (end_of code.lines i) (start_of code.lines i + r.offset) (parts_of here.context (stood inst e).setting inst) s v
-  enters_back inst r e is pc = record {
+  enters_back inst r e is pc = let back : return_at code.returns i ≡ start_of code.lines i + r.offset = grind (arith, t.returns, found_from job.flags code.lines 0 i job.lines inst r e is) in record {
     even = (stood inst e).even;
     within = (stood inst e).within;
     short = short;
     stands = (stood inst e).stands;
     placed = still;
-    pc = pc ∙ ap (λ n. wrap (base + n)) (ap (λ rs. return_at rs i) t.returns ∙ return_found job.flags code.lines i job.lines inst r e is);
+    pc = pc ∙ ap (λ n. wrap (base + n)) back;
     is_state = is_state;
     are_values = are_values;
     same = same;

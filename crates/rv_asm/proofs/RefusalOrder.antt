@@ -1,22 +1,12 @@
 -- What holds of lines that are not refused, by index: above all, which labels are bound; and what one pass over lines finds.
-use Rattle.std.proofs.Common.{[], ap, arith, Bool, false, length, List, None, Option, refl, Result, Some, subst, suc, sym, true, zero, ℕ, ◌*◌, ◌++◌, ◌+◌, ◌<◌, ◌^◌, ◌∙◌, ◌∷◌, ◌≡◌, ◌≤◌, take}
-use Rattle.std.proofs.lemmas.Bool.{eq-eqb, cond_both}
-use Rattle.std.specs.Prelude.{if◌then◌else◌, nat_eq, nat_le, nat_lt, slice_get, unwrap_or, ◌||◌}
-use mathlib.Core.Path.{fun_ext}
 use Rattle.mach_labels.specs.declared.table.LabelTable.{LabelTable}
-use Rattle.rv_asm.specs.Refusal.{lines_refusal, refusal}
-use Rattle.rv_inst.specs.Frames.{is_bad_frame, is_bad_frame_for, is_unrestorable_for}
-use Rattle.rv_inst.specs.Operands.{labels_of}
-use Rattle.rv_inst.specs.Plain.{IsPlain}
-use Rattle.rv_inst.specs.declared.error.EmitError.TheVariants.{BadFrame}
+use Rattle.rv_asm.proofs.Words.{[], AllByRecursion, ap, arith, bad_frame, Bind, binding_line, binds, Bool, broken_from, broken_rule, BrTable, code_limit, compares, cond_both, CondBr, CondBrTarget, Constant, constants_sum, Context, context_of, EmitError, Environment, eqb-true, Exit, exit_of}
+use Rattle.rv_asm.proofs.Words.{Fallthrough, false, Finds, first_of, FrameLayout, has_bad_frame, if◌then◌else◌, inner_count, Inst, inst_labels, is_bound, is_stuck, is_unfit, IsPlainLine, IsSurveyed, Jal, Job, le-ltb, leb-false, length, Line, line_sum, lines_sum, List, list_any, low_word, ltb-false}
+use Rattle.rv_asm.proofs.Words.{MachLabel, malformed, named_labels, nat_eq, nat_le, nat_lt, Next, None, number_of, Option, or_parts, Put, refl, reg, Result, return_exit, same_Some, size_limit, size_sum, slice_get, Some, sp_to_args_end, subst, suc, sym, table_of, tail_call_of, TailCall, take}
+use Rattle.rv_asm.proofs.Words.{target_exit, target_labels, target_names as labels_of, targets_of, To, ToLabel as Label, too_large, Trap, TrapIf, true, try_call_of, try_exit, try_labels, TryCallInfo, twice_from, twice_in, unbound_among, unbound_in, unwrap_or, Values, zero, ℕ, ◌*◌, ◌++◌, ◌+◌, ◌<◌}
+use Rattle.{rv_asm.proofs.Words.{◌^◌, ◌||◌, ◌∙◌, ◌∷◌, ◌≡◌, ◌≤◌}, rv_asm.specs.Refusal.{lines_refusal, refusal}, rv_inst.specs.Frames.{is_bad_frame, is_bad_frame_for, is_unrestorable_for}, rv_inst.specs.Plain.IsPlain, rv_inst.specs.declared.error.EmitError.TheVariants.BadFrame}
 use Rattle.rv_inst.specs.declared.error.Rule.{Rule}
-use Rattle.rv_inst.specs.declared.inst.CondBrTarget.TheVariants.{Label}
-use Rattle.rv_inst.specs.declared.tail_calls.TailCall.{TailCall}
-use Rattle.rv_machine.specs.Arithmetic.{low_word}
-use Rattle.rv_asm.proofs.Words.{bad_frame, Bind, binding_line, binds, both_ways, broken_from, broken_rule, BrTable, code_limit, compares, CondBr, CondBrTarget, Constant, constants_sum, Context, context_of, EmitError, Environment, eqb-true, Exit, exit_of, Fallthrough, Finds, first_of, FrameLayout}
-use Rattle.rv_asm.proofs.Words.{has_bad_frame, inner_count, Inst, inst_exit, inst_labels, is_bound, is_stuck, is_unfit, IsPlainLine, IsSurveyed, Jal, Job, leb-false, Line, line_sum, lines_sum, list_any, ltb-false, MachLabel, malformed, named_labels, Next, number_of, or_left, or_parts, or_right, Put}
-use Rattle.rv_asm.proofs.Words.{reg, return_exit, same_Some, size_limit, size_sum, sp_to_args_end, table_of, tail_call_of, target_exit, target_labels, targets_of, To, too_large, Trap, TrapIf, try_call_of, try_exit, try_labels, TryCallInfo, twice_from, twice_in, twice_of, unbound_among, unbound_in}
-use Rattle.rv_asm.proofs.Words.{Values, AllByRecursion, le-ltb}
+use mathlib.Core.Path.{fun_ext}
 
 -- ---- what is so of each
 
@@ -57,14 +47,6 @@ table_bound lines default [] index b all = b
 table_bound lines default (l ∷ labels) zero b all = all.0
 table_bound lines default (l ∷ labels) (suc i) b all = table_bound lines default labels i b all.1
 
-inst_bound : (lines : List Line) (env : Environment) (inst : Inst) (v : Values) → AllBound lines (inst_labels inst) → ExitBound lines (inst_exit env inst v)
-inst_bound lines env (Jal label) v b = b.0
-inst_bound lines env (CondBr t f kind) v b = branch_bound lines (compares kind v) t f (all_first (λ (l : MachLabel). is_bound lines l.number ≡ true) (target_labels t ++ target_labels f) [] b)
-inst_bound lines env (BrTable index tmp1 tmp2 []) v b = tt
-inst_bound lines env (BrTable index tmp1 tmp2 (default ∷ labels)) v b = table_bound lines default labels (low_word (reg v (number_of index))) b.0 b.1
-inst_bound lines env (TrapIf cmp code) v b = cond_both (compares cmp v) (Trap code) Next (ExitBound lines) (λ e. tt) (λ e. tt)
-inst_bound lines env _ v b = tt
-
 -- a call goes on to a label that it names
 try_bound : (lines : List Line) (t : Option TryCallInfo) (more : List MachLabel) → AllBound lines (try_labels t ++ more) → ExitBound lines (try_exit t)
 try_bound lines None more b = tt
@@ -74,8 +56,12 @@ pub return_bound : (lines : List Line) (inst : Inst) → AllBound lines (inst_la
 return_bound lines inst b = try_bound lines (try_call_of inst) (labels_of (targets_of inst)) (all_first (λ (l : MachLabel). is_bound lines l.number ≡ true) (try_labels (try_call_of inst) ++ labels_of (targets_of inst)) (table_of inst) b)
 
 pub exit_bound : (lines : List Line) (env : Environment) (line : Line) (v : Values) → AllBound lines (named_labels line) → ExitBound lines (exit_of env line v)
-exit_bound lines env (Put inst) v b = inst_bound lines env inst v b
-exit_bound lines env (Bind label) v b = tt
+exit_bound lines env (Put (Jal label)) v b = b.0
+exit_bound lines env (Put (CondBr t f kind)) v b = branch_bound lines (compares kind v) t f (all_first (λ (l : MachLabel). is_bound lines l.number ≡ true) (target_labels t ++ target_labels f) [] b)
+exit_bound lines env (Put (BrTable index tmp1 tmp2 [])) v b = tt
+exit_bound lines env (Put (BrTable index tmp1 tmp2 (default ∷ labels))) v b = table_bound lines default labels (low_word (reg v (number_of index))) b.0 b.1
+exit_bound lines env (Put (TrapIf cmp code)) v b = cond_both (compares cmp v) (Trap code) Next (ExitBound lines) (λ e. tt) (λ e. tt)
+exit_bound lines env line v b = tt
 
 -- the first line that binds a label
 pub bind_at : (lines : List Line) (label : ℕ) → is_bound lines label ≡ true → (l : MachLabel) × (slice_get lines (binding_line lines label) ≡ Some (Bind l)) × (l.number ≡ label)
@@ -83,8 +69,7 @@ bind_at [] label e = absurd (cc)
 bind_at (Put inst ∷ lines) label e = bind_at lines label e
 bind_at (Bind l ∷ lines) label e =
     cond_both (nat_eq l.number label) 0 (suc (binding_line lines label)) (λ n. (m : MachLabel) × (slice_get (Bind l ∷ lines) n ≡ Some (Bind m)) × (m.number ≡ label))
-    (λ h. (l, refl, eqb-true l.number label h))
-    (λ h. bind_at lines label ((λ i. sym h i || is_bound lines label) ∙ e))
+    (λ h. (l, refl, eqb-true l.number label h)) (λ h. bind_at lines label ((λ i. sym h i || is_bound lines label) ∙ e))
 
 -- ==== What holds of lines that are not refused, by index.
 
@@ -99,13 +84,9 @@ finds_by_test bound test lines r same found = subst (λ (t : ℕ → Bool). Find
 
 -- ---- the parts of a refusal
 
-pub none_left : {X : Type 0} (a b : Option X) → first_of a b ≡ None → a ≡ None
-none_left None b e = refl
-none_left (Some x) b e = absurd (cc)
-
-pub none_right : {X : Type 0} (a b : Option X) → first_of a b ≡ None → b ≡ None
-none_right None b e = e
-none_right (Some x) b e = absurd (cc)
+none_both : {X : Type 0} (a b : Option X) → first_of a b ≡ None → (a ≡ None) × (b ≡ None)
+none_both None b e = (refl, e)
+none_both (Some x) b e = absurd (cc)
 
 pub record Parts (context : Context) (lines : List Line) : Type 0 where
   pub broken : broken_from context 0 lines ≡ None
@@ -116,14 +97,14 @@ pub record Parts (context : Context) (lines : List Line) : Type 0 where
 pub parts : (context : Context) (lines : List Line) → lines_refusal context lines ≡ None → Parts context lines
 unfolding lines_refusal
 parts context lines e =
-    let e1 = none_right (broken_from context 0 lines) _ e in
-    let e2 = none_right (twice_from (λ label. false) lines) _ e1 in
-    record { broken = none_left _ _ e; twice = none_left _ _ e1; unbound = none_left _ _ e2; large = none_right (unbound_in (is_bound lines) lines) _ e2 }
+    let e1 = (none_both (broken_from context 0 lines) _ e).1 in
+    let e2 = (none_both (twice_from (λ label. false) lines) _ e1).1 in
+    record { broken = (none_both _ _ e).0; twice = (none_both _ _ e1).0; unbound = (none_both _ _ e2).0; large = (none_both (unbound_in (is_bound lines) lines) _ e2).1 }
 
 -- a job that isn't refused: its lines aren't, and its frame is one that all of them can restore
 pub accepted_lines : (job : Job) → refusal job ≡ None → lines_refusal (context_of job) job.lines ≡ None
 unfolding refusal
-accepted_lines job e = none_right (bad_frame job.frame job.lines) _ e
+accepted_lines job e = (none_both (bad_frame job.frame job.lines) _ e).1
 
 -- what is an error where a test holds is none, so it doesn't hold
 pub test_none : {X : Type 0} (c : Bool) (x : X) → (if c then Some x else None) ≡ None → c ≡ false
@@ -132,22 +113,18 @@ test_none false x e = refl
 
 pub accepted_frame : (job : Job) → refusal job ≡ None → has_bad_frame job.frame job.lines ≡ false
 unfolding refusal
-accepted_frame job e = test_none (has_bad_frame job.frame job.lines) BadFrame (none_left (bad_frame job.frame job.lines) _ e)
+accepted_frame job e = test_none (has_bad_frame job.frame job.lines) BadFrame (none_both (bad_frame job.frame job.lines) _ e).0
 
 -- its sizes sum to less than 2^31
 pub frame_small : (frame : FrameLayout) (lines : List Line) → has_bad_frame frame lines ≡ false → sp_to_args_end frame < 2 ^ 31
 frame_small frame lines e = leb-false (2 ^ 31) (sp_to_args_end frame) (or_parts (nat_le (2 ^ 31) (sp_to_args_end frame)) _ (or_parts (is_bad_frame frame) _ e).0).0
-
--- none of the lines is one that can't restore it
-none_unfit : (frame : FrameLayout) (lines : List Line) → has_bad_frame frame lines ≡ false → (i : ℕ) (line : Line) → slice_get lines i ≡ Some line → is_unfit frame line ≡ false
-none_unfit frame lines e = all_at (λ (l : Line). is_unfit frame l ≡ false) lines (none_any (is_unfit frame) lines (or_parts (is_bad_frame frame) _ e).1)
 
 not_stuck : (frame : FrameLayout) (tail : Option TailCall) → is_bad_frame frame ≡ false → is_unrestorable_for frame tail ≡ false → is_bad_frame_for frame tail ≡ false
 not_stuck frame None sound fit = refl
 not_stuck frame (Some tail) sound fit = λ i. sound i || fit i
 
 pub none_stuck : (frame : FrameLayout) (lines : List Line) → has_bad_frame frame lines ≡ false → (i : ℕ) (line : Line) → slice_get lines i ≡ Some line → is_stuck frame line ≡ false
-none_stuck frame lines e i (Put inst) at = not_stuck frame (tail_call_of inst) (or_parts (is_bad_frame frame) _ e).0 (none_unfit frame lines e i (Put inst) at)
+none_stuck frame lines e i (Put inst) at = not_stuck frame (tail_call_of inst) (or_parts (is_bad_frame frame) _ e).0 (all_at (λ (l : Line). is_unfit frame l ≡ false) lines (none_any (is_unfit frame) lines (or_parts (is_bad_frame frame) _ e).1) i (Put inst) at)
 none_stuck frame lines e i (Bind label) at = refl
 
 -- ---- rules
@@ -158,7 +135,7 @@ rule_none index (Some r) e = absurd (cc)
 
 unbroken : (context : Context) (index : ℕ) (lines : List Line) → broken_from context index lines ≡ None → AllByRecursion (λ (l : Line). broken_rule context l ≡ None) lines
 unbroken context index [] e = tt
-unbroken context index (line ∷ lines) e = (rule_none index (broken_rule context line) (none_left _ _ e), unbroken context (suc index) lines (none_right (malformed index (broken_rule context line)) _ e))
+unbroken context index (line ∷ lines) e = (rule_none index (broken_rule context line) (none_both _ _ e).0, unbroken context (suc index) lines (none_both (malformed index (broken_rule context line)) _ e).1)
 
 -- no line breaks a rule
 pub no_rule_broken : (context : Context) (lines : List Line) → lines_refusal context lines ≡ None → (i : ℕ) (line : Line) → slice_get lines i ≡ Some line → broken_rule context line ≡ None
@@ -166,29 +143,14 @@ no_rule_broken context lines e = all_at (λ (l : Line). broken_rule context l �
 
 -- ---- labels that are bound
 
-bound_twice : (bound : ℕ → Bool) (l : MachLabel) → bound l.number ≡ true → twice_of bound l ≡ None → ⊥
-bound_twice bound l b e = both_ways (bound l.number) (test_none (bound l.number) _ e) b
-
--- a label that is bound before these lines is bound by none of them
-none_again : (bound : ℕ → Bool) (lines : List Line) → twice_from bound lines ≡ None → (j : ℕ) (b : MachLabel) → bound b.number ≡ true → slice_get lines j ≡ Some (Bind b) → ⊥
-none_again bound [] e j b is h = absurd (cc)
-none_again bound (line ∷ lines) e zero b is h = bound_twice bound b is (subst (λ (l : Line). twice_in bound l ≡ None) (same_Some _ _ h) (none_left _ _ e))
-none_again bound (line ∷ lines) e (suc j) b is h = none_again (λ label. binds line label || bound label) lines (none_right (twice_in bound line) _ e) j b (or_right (binds line b.number) (bound b.number) is) h
-
--- the first of these lines binds a label, and then none after it
-first_binds : (bound : ℕ → Bool) (line : Line) (lines : List Line) (a b : MachLabel) → Some line ≡ Some (Bind a) → a.number ≡ b.number → (binds line b.number || bound b.number) ≡ true
-first_binds bound line lines a b h same = or_left (binds line b.number) (bound b.number) (subst (λ (l : Line). binds l b.number ≡ true) (sym (same_Some _ _ h)) (eq-eqb a.number b.number same))
-
-once_from : (bound : ℕ → Bool) (lines : List Line) → twice_from bound lines ≡ None → (i j : ℕ) (a b : MachLabel) → slice_get lines i ≡ Some (Bind a) → slice_get lines j ≡ Some (Bind b) → a.number ≡ b.number → i ≡ j
-once_from bound [] e i j a b h g same = absurd (cc)
-once_from bound (line ∷ lines) e zero zero a b h g same = refl
-once_from bound (line ∷ lines) e zero (suc j) a b h g same = absurd (none_again (λ label. binds line label || bound label) lines (none_right (twice_in bound line) _ e) j b (first_binds bound line lines a b h same) g)
-once_from bound (line ∷ lines) e (suc i) zero a b h g same = absurd (none_again (λ label. binds line label || bound label) lines (none_right (twice_in bound line) _ e) i a (first_binds bound line lines b a g (sym same)) h)
-once_from bound (line ∷ lines) e (suc i) (suc j) a b h g same = ap suc (once_from (λ label. binds line label || bound label) lines (none_right (twice_in bound line) _ e) i j a b h g same)
-
--- two lines that bind the same label are one
-pub bound_once : (context : Context) (lines : List Line) → lines_refusal context lines ≡ None → (i j : ℕ) (a b : MachLabel) → slice_get lines i ≡ Some (Bind a) → slice_get lines j ≡ Some (Bind b) → a.number ≡ b.number → i ≡ j
-bound_once context lines e = once_from (λ label. false) lines (parts context lines e).twice
+-- what a line binds is bound neither before these lines nor by those of them in front of it
+pub not_before : (bound : ℕ → Bool) (lines : List Line) (n : ℕ) (l : MachLabel) → twice_from bound lines ≡ None → slice_get lines n ≡ Some (Bind l) → (is_bound (take n lines) l.number || bound l.number) ≡ false
+not_before bound [] n l e h = absurd (cc)
+not_before bound (line ∷ lines) zero l e h = test_none (bound l.number) _ (subst (λ x. twice_in bound x ≡ None) (same_Some line (Bind l) h) (none_both _ _ e).0)
+not_before bound (line ∷ lines) (suc n) l e h =
+    let later = or_parts (is_bound (take n lines) l.number) _ (not_before (λ label. binds line label || bound label) lines n l (none_both (twice_in bound line) _ e).1 h) in
+    let here = or_parts (binds line l.number) _ later.1 in
+    λ j. (here.0 j || later.0 j) || here.1 j
 
 -- ---- labels that are named
 
@@ -206,7 +168,7 @@ names_bound all lines e = all_at (λ (l : Line). AllBound all (named_labels l)) 
   where
     among : (ls : List Line) → unbound_in (is_bound all) ls ≡ None → AllByRecursion (λ (l : Line). AllBound all (named_labels l)) ls
     among [] e = tt
-    among (l ∷ ls) e = (all_bound all (named_labels l) (none_left _ _ e), among ls (none_right (unbound_among (is_bound all) (named_labels l)) _ e))
+    among (l ∷ ls) e = (all_bound all (named_labels l) (none_both _ _ e).0, among ls (none_both (unbound_among (is_bound all) (named_labels l)) _ e).1)
 
 -- ---- sizes
 
@@ -229,8 +191,7 @@ count_least (c ∷ constants) = let rest = count_least constants in omega (arith
 
 -- and the constants are no more than a buffer takes
 pub constants_few : (context : Context) (lines : List Line) → lines_refusal context lines ≡ None → length context.constants ≤ inner_count
-constants_few context lines e =
-    omega (arith, sum_small context lines e, count_least context.constants)
+constants_few context lines e = omega (arith, sum_small context lines e, count_least context.constants)
 
 -- ==== Jobs that were surveyed: a line of a plain instruction; and that a surveyed job is refused for a label that isn't bound, if at all.
 

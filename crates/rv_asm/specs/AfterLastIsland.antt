@@ -11,6 +11,7 @@ use Rattle.mach_uses.specs.declared.uses.Use.{Use}
 use Rattle.mach_uses.specs.Reach.{is_pending}
 use Rattle.mach_buffer.specs.Buffer.{uses_of, place_of, constants_of}
 use Rattle.rv_sequences.specs.Emitted.{Buffer}
+use Rattle.rv_asm.specs.Spans.{Gap}
 use Rattle.rv_asm.specs.Reach.{uses_after_island, bound_by, constants_taken}
 
 -- those uses for which a test holds
@@ -25,7 +26,7 @@ pub record EndsIn (uses : List (Use LabelUse)) (count : ℕ) (b : Buffer) : Type
 
 -- no use of a line before the last island is pending, the constants that stand are those that lines before it named, and each label
 -- stands where a line binds it
-pub record AfterLastIsland (context : Context) (lines : List Line) (spans : List LineSpan) (b : Buffer) : Type 0 where
-  pub ends : EndsIn (uses_after_island context lines spans) (length (constants_taken context lines spans)) b
+pub record AfterLastIsland (context : Context) (lines : List Line) (spans : List LineSpan) (gaps : List Gap) (b : Buffer) : Type 0 where
+  pub ends : EndsIn (uses_after_island context lines spans gaps) (length (constants_taken context lines spans gaps)) b
   pub places : (label : ℕ) → label < first_inner → place_of b label ≡ bound_by spans 0 lines label
   pub ruled : (i : ℕ) (line : Line) → slice_get lines i ≡ Some line → broken_rule context line ≡ None

@@ -12,16 +12,18 @@ use Rattle.rv_asm.specs.LinesInBuffer.{LinesStand, Named, Sized}
 use Rattle.rv_asm.specs.Reported.{returns_from}
 use Rattle.rv_asm.specs.AfterLastIsland.{AfterLastIsland}
 use Rattle.rv_asm.specs.Reach.{NotEarly}
+use Rattle.rv_asm.specs.Spans.{Gap}
 use Rattle.rv_asm.specs.StraightUses.{GoStraight}
 
 pub record IsFinished (context : Context) (lines : List Line) (code : Code) : Type 0 where
   pub sink : Buffer
-  pub built : LinesStand context lines code.lines sink
+  pub gaps : List Gap
+  pub built : LinesStand context lines code.lines gaps sink
   pub named : Named lines code.lines sink
   pub sized : Sized context lines sink
-  pub since : AfterLastIsland context lines code.lines sink
-  pub early : NotEarly context lines code.lines
-  pub straight : GoStraight context lines code.lines sink
+  pub since : AfterLastIsland context lines code.lines gaps sink
+  pub early : NotEarly context lines code.lines gaps
+  pub straight : GoStraight context lines code.lines gaps sink
   pub ready : CanFinish label_kinds (shape_of sink)
   pub finished : Finishes label_kinds (shape_of sink) code.bytes
   pub constants : code.constants ≡ finished.put.constants

@@ -7,6 +7,7 @@ pub mod Refusal
 pub mod Placed
 pub mod Simulation
 pub mod AfterLastIsland
+pub mod Spans
 pub mod Reported
 pub mod ShortSpans
 pub mod SavedRegisters

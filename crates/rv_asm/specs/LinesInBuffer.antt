@@ -1,6 +1,6 @@
 -- What stands in the buffer after some lines: what the loop of `assemble` keeps, and what one line adds. Links of the
 -- proof.
-use Rattle.std.specs.Prelude.{◌≡◌, ◌≢◌, ℕ, ◌+◌, ◌*◌, ◌%◌, ◌^◌, ◌<◌, ◌≤◌, ◌⊎◌, Bool, true, false, List, [], ◌++◌, length, Some, None, is_some, slice_get}
+use Rattle.std.specs.Prelude.{◌≡◌, ◌≢◌, ℕ, ◌+◌, ◌-◌, ◌*◌, ◌%◌, ◌^◌, ◌<◌, ◌≤◌, ◌⊎◌, Bool, true, false, List, [], ◌++◌, length, Option, Some, None, is_some, slice_get}
 use Rattle.std.specs.List.{AllByRecursion}
 use Rattle.rv_base.specs.declared.flags.IsaFlags.{IsaFlags}
 use Rattle.rv_base.specs.declared.label.MachLabel.{MachLabel}
@@ -19,16 +19,17 @@ use Rattle.rv_inst.specs.Rules.{broken_rule}
 use Rattle.rv_inst.specs.LabelUse.{label_kinds, has_veneer_of}
 use Rattle.mach_uses.specs.declared.uses.Use.{Use}
 use Rattle.mach_uses.specs.Reach.{CanReach, due_by}
+use Rattle.mach_buffer.specs.Shape.{Shape}
 use Rattle.mach_buffer.specs.Buffer.{shape_of, bytes_of, uses_of, place_of, labels_of, allocated_of, records_of, registered_of, named_of, constants_of}
 use Rattle.mach_uses.specs.Labels.{listed}
 use Rattle.mach_buffer.specs.Constants.{reserve_of, AllStand}
 use Rattle.mach_buffer.specs.Islands.{is_far}
-use Rattle.rv_sequences.specs.Emitted.{Buffer, IsSoundBuffer, HasWindows, pending, IslandIfNeeded}
+use Rattle.rv_sequences.specs.Emitted.{Buffer, IsSoundBuffer, HasLeast, HasReturn, HasWindows, pending, IslandIfNeeded}
 use Rattle.rv_sequences.specs.NewConstants.{StandInTurn}
 use Rattle.rv_emit.specs.Emission.{EmitsIn}
 use Rattle.rv_sequences.specs.Images.{FieldsStand}
 use Rattle.rv_code.specs.InstParts.{parts_of}
-use Rattle.rv_emit.specs.Standing.{GapStandsIn, PartsIn, SpansIn}
+use Rattle.rv_emit.specs.Standing.{GapStandsIn, PartsIn}
 use Rattle.rv_code.specs.declared.state.EmitVState.{EmitVState}
 use Rattle.rv_code.specs.declared.state.EmitVState.TheVariants.{Unknown}
 use Rattle.rv_emit.specs.State.{setting_after, setting_beyond}
@@ -36,30 +37,46 @@ use Rattle.rv_asm.specs.Reported.{start_of, end_of, end_before, binds_from, line
 use Rattle.rv_base.specs.declared.frame.FrameLayout.{FrameLayout}
 use Rattle.rv_inst.specs.Frames.{is_bad_frame_for}
 use Rattle.rv_asm.specs.Refusal.{binds, is_bound, size_sum}
-use Rattle.rv_inst.specs.Sizes.{extent_of, line_space, line_sum}
+use Rattle.rv_inst.specs.Sizes.{IsOfSize, Request, first_in, inst_size, request_of, line_space, line_sum}
+use Rattle.rv_asm.specs.Spans.{Gap, from_of, to_of}
 
 -- ---- where lines stand
 
--- the parts of an instruction stand between two offsets, by some setting of the vector unit, and are as long as they must be; a bind
--- has no bytes
-abbrev pub LineStands : Context → Line → Buffer → ℕ → ℕ → Type 0
-LineStands context (Put inst) b start end = (setting : EmitVState) × PartsIn context.flags (parts_of context setting inst) (shape_of b) start end × SpansIn context.flags (shape_of b) (extent_of context inst) start end
-LineStands context (Bind label) b start end = (start ≡ end) × (place_of b label.number ≡ Some start)
+-- in the gap of an instruction stands nothing, or, where it asks for one, an island
+abbrev pub GapAsked : IsaFlags → Option Request → Shape LabelUse → ℕ → ℕ → Type 0
+GapAsked flags None f from to = from ≡ to
+GapAsked flags (Some r) f from to = GapStandsIn flags f from to
+
+-- and before it, and around it, stand as many bytes as it may have
+pub record SpansIn (context : Context) (inst : Inst) (f : Shape LabelUse) (start from to end : ℕ) : Type 0 where
+  pub first : start ≤ from
+  pub gap : GapAsked context.flags (request_of context inst) f from to
+  pub last : to ≤ end
+  pub begins : IsOfSize (first_in (request_of context inst)) (from - start)
+  pub size : IsOfSize (inst_size context inst) (from - start + (end - to))
+  pub least : is_some (request_of context inst) ≡ true → HasLeast context inst (from - start) (end - to)
+  pub back : HasReturn context inst start end
+
+-- the parts of an instruction stand between two offsets, by some setting of the vector unit; a bind has no bytes
+abbrev pub LineStands : Context → Line → Buffer → ℕ → ℕ → ℕ → ℕ → Type 0
+LineStands context (Put inst) b start from to end = (setting : EmitVState) × PartsIn context.flags (parts_of context setting inst) (shape_of b) start end × SpansIn context inst (shape_of b) start from to end
+LineStands context (Bind label) b start from to end = (start ≡ end) × (place_of b label.number ≡ Some start) × (from ≡ to)
 
 -- after the offset where the line before ends stands nothing, or an island, and then the line
-pub record StandsAfter (context : Context) (line : Line) (b : Buffer) (before start end : ℕ) : Type 0 where
+pub record StandsAfter (context : Context) (line : Line) (b : Buffer) (before start from to end : ℕ) : Type 0 where
   pub gap : GapStandsIn context.flags (shape_of b) before start
-  pub there : LineStands context line b start end
+  pub there : LineStands context line b start from to end
   pub even : start % 2 ≡ 0
   pub within : start ≤ length (bytes_of b)
   pub ends : end ≤ length (bytes_of b)
 
 -- each line stands at its span, and before it nothing or an island; the constants that islands took with them stand, one after
 -- the other, and apart from the words of instructions; and what relocations fill is apart from the windows of uses
-pub record LinesStand (context : Context) (lines : List Line) (spans : List LineSpan) (b : Buffer) : Type 0 where
+pub record LinesStand (context : Context) (lines : List Line) (spans : List LineSpan) (gaps : List Gap) (b : Buffer) : Type 0 where
   pub count : length spans ≡ length lines
+  pub gap_count : length gaps ≡ length lines
   pub indices : (i : ℕ) (s : LineSpan) → slice_get spans i ≡ Some s → s.index ≡ i
-  pub each : (i : ℕ) (line : Line) → slice_get lines i ≡ Some line → StandsAfter context line b (end_before spans i) (start_of spans i) (end_of spans i)
+  pub each : (i : ℕ) (line : Line) → slice_get lines i ≡ Some line → StandsAfter context line b (end_before spans i) (start_of spans i) (from_of gaps i) (to_of gaps i) (end_of spans i)
   pub ends : length (bytes_of b) ≡ end_before spans (length lines)
   pub first : start_of spans 0 ≡ 0
   pub nothing : length lines ≡ 0 → uses_of b ≡ []
@@ -68,7 +85,7 @@ pub record LinesStand (context : Context) (lines : List Line) (spans : List Line
   pub named : named_of b ≡ constants_named lines
   pub stand : AllStand label_kinds (shape_of b)
   pub in_turn : StandInTurn (shape_of b)
-  pub apart : StandApart context lines spans (constants_of b)
+  pub apart : StandApart context lines spans gaps (constants_of b)
   pub windows : HasWindows b
   pub fields : FieldsStand (shape_of b)
   pub sound : IsSoundBuffer b

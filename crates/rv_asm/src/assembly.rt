@@ -6,10 +6,8 @@ ghost use Rattle.rv_listing.specs.CodeRanges.{CodeFits};
 ghost use Rattle.rv_asm.specs.Job.{job_of};
 ghost use Rattle.rv_asm.specs.Refusal.{has_bad_frame, lines_refusal, refusal, Finds};
 ghost use Rattle.rv_asm.specs.Reported.{Reported};
-ghost use Rattle.rv_asm.specs.Jumps.{HasJumps};
 ghost use Rattle.rv_asm.specs.Simulation.{RunsAsListed, HasOperations};
 ghost use Rattle.rv_asm.specs.FullSimulation.{FullRuns, HasFullOperations};
-ghost use Rattle.rv_asm.specs.Reach.{InReach};
 ghost use Rattle.rv_asm.specs.FinishedCode.{IsFinished};
 ghost use Rattle.rv_inst.specs.Context.{context_by};
 
@@ -38,8 +36,6 @@ pub fn assemble(
     ensures full_runs { IfOk result (λ code. FullRuns (job_of lines.now flags frame.now constants.now) code) }
     ensures operations { IfOk result (λ code. HasOperations (job_of lines.now flags frame.now constants.now) code) }
     ensures full_operations { IfOk result (λ code. HasFullOperations (job_of lines.now flags frame.now constants.now) code) }
-    ensures jumps { IfOk result (λ code. HasJumps (job_of lines.now flags frame.now constants.now) code) }
-    ensures reach { IfOk result (λ code. InReach (job_of lines.now flags frame.now constants.now) code) }
     ensures ranges { IfOk result CodeFits }
     ensures refused { Finds (refusal (job_of lines.now flags frame.now constants.now)) result }
 {

@@ -43,7 +43,6 @@ pub fn only_memory_left()
 {}
 
 /// The code of lines that record nothing has no record: nothing is left to a linker.
-#[tactic(auto, using(crate::proofs::Laws::silent_lines_unrecorded))]
 pub fn silent_lines_unrecorded()
     ensures { SilentLinesUnrecorded }
 {}
@@ -76,7 +75,7 @@ pub fn elsewhere_unchanged()
     ensures { ElsewhereUnchanged }
 {}
 
-/// The span of a line is at most as long as lines of its kind may be, an island in it apart.
+/// The span of a line that asks for no island itself is at most as long as lines of its kind may be, and a bind's is empty.
 #[tactic(auto, using(crate::proofs::Laws::spans_are_short))]
 pub fn spans_are_short()
     ensures { SpansAreShort }

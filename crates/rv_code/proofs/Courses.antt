@@ -1,91 +1,42 @@
 -- Offsets, addresses and numbers that are computed in registers, and the way of a machine through a sequence.
 use Rattle.std.proofs.Common.{◌≡◌, ℕ, suc, ◌+◌, ◌-◌, ◌*◌, ◌/◌, ◌%◌, ◌^◌, ◌<◌, ◌≤◌, true, ℤ, pos, negsuc, ◌+ℤ◌, ◌-ℤ◌, arith, ap, ◌∙◌, ⊎_elim, ◌≢◌, Bool, false, List, [], ◌∷◌, ◌++◌, length, Some, refl, sym, subst, lit<, eqb-true, None, ◌==◌, lit≤, if◌then◌else◌, unwrap_or, slice_index, rules}
-use Rattle.std.proofs.lemmas.Bool.{cases_lt, and_parts}
-use Rattle.std.proofs.lemmas.Bool.Decides.{nat_tests}
-use Rattle.std.proofs.lemmas.Int.{ints}
-use Rattle.std.specs.Int.{to_le_bytes, w64}
-use Rattle.std.proofs.lemmas.Option.{same_Some}
+use Rattle.rv_code.proofs.Words.{act, Add, Addi, address_at, address_slots, AimsFrom, Allocate, alu_rri, alu_rrr, AluOPRRI, AluOPRRR, and_parts, at, AtConstant, AtLabel, Base, Based, between, byte, BytesAt, cases_lt, CodeHas, constant_label, Decoded, decoded, decoded_addi, decoded_load, Environment}
+use Rattle.rv_code.proofs.Words.{Goes, Here, immediate_of, immediate_slots, inline_slots, ints, is_beyond, is_near, is_splittable, IsaFlags, IsAt, IsState, jump_size, Label, load_bytes, load_op, load_over, load_result, LoadOP, Location, low32, low64, lower_of, lower_of_distance, lower_part}
+use Rattle.rv_code.proofs.Words.{MachLabel, Memory, Names, nat_tests, Notes, number_slots, offset_slots, Op, PCRelHi20, reg, Same, same_Some, set_reg, shift_limit, short_jump, short_lui, short_rri, short_rrr, signed, Site, size_of, Slot, slot_size, StandsIn, State, to_le_bytes, upper_of}
+use Rattle.rv_code.proofs.Words.{upper_of_distance, upper_part, Values, w64, wrap}
 use Rattle.rv_base.specs.LabelUse.{code_limit}
-use Rattle.rv_machine.specs.State.{wrap, low64, signed, Memory, State, IsState, Values, byte, reg, set_reg, at}
-use Rattle.rv_inst.specs.Addresses.{is_splittable, Location, Based, AtLabel, AtConstant, is_near}
-use Rattle.rv_inst.specs.LabelUse.{low32, upper_part, lower_part}
 pub use Rattle.rv_inst.proofs.ImmediateSums.{IsRead, read_low, sum_of_parts, sum_of_negative, offset_sums, address_sums}
-use Rattle.rv_base.specs.declared.flags.IsaFlags.{IsaFlags}
-use Rattle.rv_base.specs.declared.label.MachLabel.{MachLabel}
-use Rattle.rv_ops.specs.declared.alu.AluOPRRR.TheVariants.{Add}
-use Rattle.rv_ops.specs.declared.alu.AluOPRRI.TheVariants.{Addi}
-use Rattle.rv_ops.specs.declared.memory.LoadOP.{LoadOP}
-use Rattle.rv_ops.specs.declared.memory.LoadOP.TheVariants as loads
-use Rattle.rv_machine.specs.declared.ops.MOp.TheVariants.{Base}
-use Rattle.rv_machine.specs.declared.ops.BaseOp.TheVariants as base
-use Rattle.rv_machine.specs.declared.decoding.Decoded.{Decoded}
-use Rattle.rv_machine.specs.Effects.{act}
-use Rattle.rv_machine.specs.Memory.{load_bytes, load_result}
-use Rattle.rv_encode.specs.Operations.{decoded, load_op, decoded_load}
 pub use Rattle.rv_inst.proofs.Sequences.{set_twice, bits_back}
-use Rattle.rv_inst.specs.declared.label_use.LabelUse.TheVariants.{PCRelHi20}
-use Rattle.mach_uses.specs.Labels.{constant_label}
-use Rattle.rv_inst.specs.Meaning.{Environment, address_at, alu_rrr, alu_rri}
-use Rattle.rv_inst.specs.Forms.{short_rrr, short_rri, short_lui}
-use Rattle.rv_inst.specs.SameValues.{Same}
-use Rattle.rv_ops.specs.declared.alu.AluOPRRR.{AluOPRRR}
-use Rattle.rv_ops.specs.declared.alu.AluOPRRI.{AluOPRRI}
-use Rattle.rv_ops.specs.Operations.{immediate_of, shift_limit}
-use Rattle.rv_inst.specs.Rules.{is_beyond}
-use Rattle.rv_code.specs.Immediates.{upper_of_distance, lower_of_distance, upper_of, lower_of}
-use Rattle.rv_code.specs.Slots.{between, Label, Slot, Op, Notes, Names, Allocate, Here, size_of, slot_size}
 use Rattle.rv_code.proofs.Steps.{lands, goes_both, goes_at_least, goes_none, goes_second, pc_in_code, step_at, at_next}
-pub use Rattle.rv_code.proofs.LineSlots.{size_append}
-use Rattle.rv_code.proofs.LineSlots.{closed_even, offsets, addresses, numbers, is_low, slots_by}
-use Rattle.rv_code.specs.Chains.{Goes, IsAt}
-use Rattle.rv_code.specs.InstParts.{load_over, inline_slots, immediate_slots, offset_slots, address_slots, number_slots}
+pub use Rattle.rv_code.proofs.LineSlots.{size_append, closed_even, offsets, addresses, numbers, is_low, slots_by}
 use Rattle.rv_code.specs.InstRuns.{environment}
-use Rattle.rv_code.specs.Operations.{decoded_addi, short_jump, jump_size}
-use Rattle.rv_code.specs.Sites.{Site, BytesAt, AimsFrom, CodeHas, StandsIn}
 use Rattle.rv_code.proofs.OperationActs.{IsIntegerLoad, rrr_acts, rri_acts, lui_acts, jump_acts, rrr_sized, rri_sized, lui_sized, jump_len, least_even, least_some, least_few, load_acts_wide, small_number, HasSize, rrr_fits}
 use Rattle.rv_code.proofs.Registers.{are_values_set, reads_back, reads_other}
+use Rattle.rv_ops.specs.declared.memory.LoadOP.TheVariants as loads
+use Rattle.rv_machine.specs.declared.ops.BaseOp.TheVariants as base
 
 -- ---- the numbers that upper and lower immediates sum to.
 
-abbrev Sums : ℕ → ℤ → Type 0
-Sums p d = wrap (wrap (p + low64 (upper_of_distance d) * 2 ^ 12) + low64 (lower_of_distance (d -ℤ pos 4))) ≡ wrap (p + low64 d)
+-- the parts of a distance are the immediates of an offset
+upper_same : (d : ℤ) → is_splittable d ≡ true → upper_part d ≡ (low64 d + 2 ^ 11) / 2 ^ 12 % 2 ^ 20
+upper_same (pos n) h = let e : pos n +ℤ pos 2048 ≡ pos (n + 2048) = omega (arith, ints) in ap (λ z. low32 z / 4096) e ∙ omega arith
+upper_same (negsuc n) h =
+    let fits : suc n ≤ 2 ^ 31 + 2 ^ 11 = grind (arith, ints, nat_tests) in
+    let own : low64 (negsuc n) ≡ 2 ^ 64 - suc n = refl in
+    ⊎_elim
+    (λ (lt : 2047 < n). let e : negsuc n +ℤ pos 2048 ≡ negsuc (n - 2048) = omega (arith, ints) in ap (λ z. low32 z / 4096) e ∙ omega (arith, fits, own))
+    (λ (le : n ≤ 2047). let e : negsuc n +ℤ pos 2048 ≡ pos (2047 - n) = omega (arith, ints) in ap (λ z. low32 z / 4096) e ∙ omega (arith, fits, own)) (cases_lt 2047 n)
 
--- by the parts
-sums_by : (p : ℕ) (d : ℤ) (u l : ℕ) → upper_part d ≡ u → lower_part (d -ℤ pos 4) ≡ l → u < 2 ^ 20 → l < 2 ^ 12 → ((x y : ℕ) → IsRead (2 ^ 19) u x → IsRead (2 ^ 11) l y → wrap (wrap (p + x * 2 ^ 12) + y) ≡ wrap (p + low64 d)) → Sums p d
-sums_by p d u l eu el fu fl sums =
-    (λ i. wrap (wrap (p + low64 (signed (2 ^ 19) (eu i)) * 2 ^ 12) + low64 (signed (2 ^ 11) (el i))))
-    ∙ sums (low64 (signed (2 ^ 19) u)) (low64 (signed (2 ^ 11) l)) (read_low (2 ^ 19) u (omega arith) (omega arith)) (read_low (2 ^ 11) l (omega arith) (omega arith))
+lower_same : (d : ℤ) → is_splittable d ≡ true → lower_part (d -ℤ pos 4) ≡ low64 d % 2 ^ 12
+lower_same (pos n) h = let e : pos n -ℤ pos 4 +ℤ pos 4 ≡ pos n = omega (arith, ints) in ap (λ z. low32 z % 4096) e ∙ omega arith
+lower_same (negsuc n) h =
+    let fits : suc n ≤ 2 ^ 31 + 2 ^ 11 = grind (arith, ints, nat_tests) in
+    let e : negsuc n -ℤ pos 4 +ℤ pos 4 ≡ negsuc n = omega (arith, ints) in
+    let own : low64 (negsuc n) ≡ 2 ^ 64 - suc n = refl in ap (λ z. low32 z % 4096) e ∙ omega (arith, fits, own)
 
 -- the upper part of a distance that two words hold, and the lower part, which the next word has, sum to it
 pub parts_sum : (p : ℕ) (d : ℤ) → is_splittable d ≡ true → wrap (wrap (p + low64 (upper_of_distance d) * 2 ^ 12) + low64 (lower_of_distance (d -ℤ pos 4))) ≡ wrap (p + low64 d)
-parts_sum p (pos n) h =
-    let fits : n < 2 ^ 31 - 2 ^ 11 = grind (arith, ints, nat_tests) in
-    let eu : pos n +ℤ pos 2048 ≡ pos (n + 2048) = omega (arith, ints) in
-    let el : pos n -ℤ pos 4 +ℤ pos 4 ≡ pos n = omega (arith, ints) in
-    sums_by p (pos n) ((n + 2048) % 4294967296 / 4096) (n % 4294967296 % 4096) (ap (λ z. low32 z / 4096) eu) (ap (λ z. low32 z % 4096) el) (omega arith) (omega arith)
-    (λ x y hx hy. sum_of_parts p _ _ x y hx hy n (omega arith) (omega arith) (omega arith) (omega arith) ∙ omega arith)
-parts_sum p (negsuc n) h =
-    let fits : suc n ≤ 2 ^ 31 + 2 ^ 11 = grind (arith, ints, nat_tests) in
-    let el : negsuc n -ℤ pos 4 +ℤ pos 4 ≡ negsuc n = omega (arith, ints) in
-    let low = 4294967295 - n % 4294967296 in
-    ⊎_elim
-    (λ (lt : 2047 < n).
-    let eu : negsuc n +ℤ pos 2048 ≡ negsuc (n - 2048) = omega (arith, ints) in
-    sums_by p (negsuc n) ((4294967295 - (n - 2048) % 4294967296) / 4096) (low % 4096) (ap (λ z. low32 z / 4096) eu) (ap (λ z. low32 z % 4096) el) (omega arith) (omega arith)
-    (λ x y hx hy. sum_of_negative p _ _ x y hx hy (suc n) (omega arith) fits (omega (arith, fits)) (omega (arith, fits))))
-    (λ (le : n ≤ 2047).
-    let eu : negsuc n +ℤ pos 2048 ≡ pos (2047 - n) = omega (arith, ints) in
-    sums_by p (negsuc n) ((2047 - n) % 4294967296 / 4096) (low % 4096) (ap (λ z. low32 z / 4096) eu) (ap (λ z. low32 z % 4096) el) (omega arith) (omega arith)
-    (λ x y hx hy. sum_of_negative p _ _ x y hx hy (suc n) (omega arith) fits (omega (arith, fits)) (omega (arith, fits))))
-    (cases_lt 2047 n)
-
--- so those of a distance within the code lead from one offset to another
-pub distance_sums : (base from to : ℕ) → from < code_limit → to < code_limit → wrap (wrap (wrap (base + from) + low64 (upper_of_distance (between from to)) * 2 ^ 12) + low64 (lower_of_distance (between (from + 4) to))) ≡ wrap (base + to)
-distance_sums base from to near near_to =
-    let next : between (from + 4) to ≡ between from to -ℤ pos 4 = omega (arith, ints) in
-    (λ i. wrap (wrap (wrap (base + from) + low64 (upper_of_distance (between from to)) * 2 ^ 12) + low64 (lower_of_distance (next i))))
-    ∙ parts_sum (wrap (base + from)) (between from to) (grind (arith, ints, nat_tests))
-    ∙ lands base from to (omega arith)
+parts_sum p d h = (λ i. wrap (wrap (p + low64 (signed (2 ^ 19) (upper_same d h i)) * 2 ^ 12) + low64 (signed (2 ^ 11) (lower_same d h i)))) ∙ address_sums p d h
 
 -- ---- what the rules give of the place of an address.
 
@@ -114,8 +65,6 @@ stands_split site allocated from (Names k ∷ slots) more s = let r = stands_spl
 stands_split site allocated from (Allocate ∷ slots) more s = let r = stands_split site allocated from slots more s in (r.0, subst (λ n. StandsIn site allocated n more) (omega arith) r.1)
 stands_split site allocated from (Here k ∷ slots) more s = let r = stands_split site allocated from slots more s.1 in ((s.0, r.0), subst (λ n. StandsIn site allocated n more) (omega arith) r.1)
 stands_split site allocated from (slot ∷ slots) more s = let r = stands_split site allocated (from + slot_size slot) slots more s.1 in ((s.0, r.0), subst (λ n. StandsIn site allocated n more) (omega arith) r.1)
-
--- ---- one register, written
 
 -- the machine goes on over so many bytes, and a register holds a number
 abbrev pub Sets : IsaFlags → ℕ → State → ℕ → ℕ → Type 0
@@ -152,33 +101,7 @@ sets_then : {site : Site} {offset size : ℕ} {s : State} (d : Decoded) (k n x y
 sets_then {site} {s = s} d k n x y f g lt fits even some is_state h long has acts same =
     let s1 = at (wrap (s.pc + k)) (set_reg s.values n x) in
     let next : IsState s1 = record { pc = omega arith; values = are_values_set s.values n x is_state.values lt fits } in
-    let does = acts s1 next ∙ ap (λ z. Some (at (wrap (s1.pc + d.len)) (set_reg s1.values n z))) same in
-    subst (λ m. Sets site.context.flags m s n y) (sym long) (sets_both k d.len n x y g (sets_one d n y (set_at k n x (shorter (k + d.len) h (omega arith)) even) some has does))
-
--- ---- an offset, by immediates
-
--- the lower immediate, where it isn't 0
-abbrev lower_if : IsaFlags → ℕ → ℤ → Bool → List Slot
-lower_if flags rd o none = if none then [] else Op (short_rri flags Addi rd rd (lower_of o)) ∷ []
-
--- where the lower immediate is 0, the upper one is the offset
-immediate_goes : {site : Site} {offset : ℕ} {s : State} (allocated rd : ℕ) (o : ℤ) (none : Bool) → (low64 (lower_of o) == 0) ≡ none → 0 < rd → rd < 32 → is_splittable o ≡ true → IsState s →
-    IsAt site offset (size_of (Op (short_lui site.context.flags rd (upper_of o)) ∷ lower_if site.context.flags rd o none)) s → StandsIn site allocated offset (Op (short_lui site.context.flags rd (upper_of o)) ∷ lower_if site.context.flags rd o none) →
-    Sets site.context.flags (size_of (Op (short_lui site.context.flags rd (upper_of o)) ∷ lower_if site.context.flags rd o none)) s rd (wrap (low64 o))
-immediate_goes {site} {s = s} allocated rd o true test some lt fits is_state h stands =
-    let sum = offset_sums o fits in
-    let zero_low : low64 (lower_of o) ≡ 0 = eqb-true (low64 (lower_of o)) 0 test in
-    sets_alone allocated (short_lui site.context.flags rd (upper_of o)) rd _ (wrap (low64 o)) (lui_sized site.context.flags rd (upper_of o)) (omega arith) (lui_acts site.context.flags rd (upper_of o) s is_state) h stands
-immediate_goes {site} {s = s} allocated rd o false test some lt fits is_state h stands =
-    let d = short_lui site.context.flags rd (upper_of o) in
-    let d_size = lui_sized site.context.flags rd (upper_of o) in
-    let l_size = rri_sized site.context.flags Addi rd rd (lower_of o) in
-    let u = wrap (low64 (upper_of o) * 2 ^ 12) in
-    let upper = sets_one d rd u h (omega arith) stands.0 (lui_acts site.context.flags rd (upper_of o) s is_state) in
-    sets_then (short_rri site.context.flags Addi rd rd (lower_of o)) d.len rd u (wrap (low64 o)) (λ v. wrap (reg v rd + low64 (lower_of o))) upper lt (omega arith) d_size.even (omega arith) is_state h (omega arith) stands.1.0
-    (λ t is. rri_acts site.context.flags Addi rd rd (lower_of o) t refl is) ((λ i. wrap (reads_back s.values rd u is_state.values some lt i + low64 (lower_of o))) ∙ offset_sums o fits)
-
--- ---- an offset, from among the code
+    subst (λ m. Sets site.context.flags m s n y) (sym long) (sets_both k d.len n x y g (sets_one d n y (set_at k n x (shorter (k + d.len) h (omega arith)) even) some has (acts s1 next ∙ ap (λ z. Some (at (wrap (s1.pc + d.len)) (set_reg s1.values n z))) same)))
 
 -- the auipc, the load of bytes that stand after the code, and the jump over them
 pub over_goes : {site : Site} {offset : ℕ} {s : State} (allocated rd size x : ℕ) (op : LoadOP) (bytes : List ℕ) → IsIntegerLoad op → 0 < rd → rd < 32 → size < 16 → length bytes ≡ size → ((mem : Memory) (a : ℕ) → BytesAt mem a bytes → load_result (load_op op) mem a ≡ x) → 0 < size → IsState s →
@@ -199,10 +122,9 @@ over_goes {site} {offset} {s} allocated rd size x op bytes integer some lt littl
     let s1 = at (wrap (s.pc + 4)) (set_reg s.values rd a) in
     let s2 = at (wrap (s.pc + 8)) (set_reg s.values rd x) in
     let h : IsAt site offset (4 + (4 + jump.len)) s = shorter (4 + (4 + jump.len)) whole (omega arith) in
-    let room = there.room in
     let here : s.pc ≡ site.base + offset = pc_in_code h (omega arith) in
     let back : reg s1.values rd ≡ a = reads_back s.values rd a is_state.values some lt in
-    let address : wrap (reg s1.values rd + low64 (pos (8 + j))) ≡ site.base + (offset + 4 + 4 + jump.len) = (λ i. wrap (back i + low64 (pos (8 + j)))) ∙ omega (arith, none, ahead, here, room, filled, long, jump_long) in
+    let address : wrap (reg s1.values rd + low64 (pos (8 + j))) ≡ site.base + (offset + 4 + 4 + jump.len) = (λ i. wrap (back i + low64 (pos (8 + j)))) ∙ omega (arith, none, ahead, here, there.room, filled, long, jump_long) in
     let read : load_result (load_op op) s.values.mem (wrap (reg s1.values rd + low64 (pos (8 + j)))) ≡ x = ap (load_result (load_op op) s.values.mem) address ∙ reads s.values.mem (site.base + (offset + 4 + 4 + jump.len)) there in
     let loaded : Sets flags 8 s rd x =
     sets_then (decoded_load op rd rd (pos (8 + j))) 4 rd a x (λ v. load_result (load_op op) v.mem (wrap (reg v rd + low64 (pos (8 + j))))) (sets_one (decoded (Base base.Auipc) rd 0 0 (pos 0)) rd a h (omega arith) stands.0 refl)
@@ -231,15 +153,24 @@ eight_there mem a w there =
 -- an offset is put into a register
 pub offset_goes : {site : Site} {offset : ℕ} {s : State} (allocated rd : ℕ) (o : ℤ) → 0 < rd → rd < 32 → IsState s → IsAt site offset (size_of (offset_slots site.context.flags rd o)) s → StandsIn site allocated offset (offset_slots site.context.flags rd o) → Sets site.context.flags (size_of (offset_slots site.context.flags rd o)) s rd (wrap (low64 o))
 offset_goes {site} {offset} {s} allocated rd o some lt is_state =
+    let flags = site.context.flags in
+    let up = short_lui flags rd (upper_of o) in
+    let down = short_rri flags Addi rd rd (lower_of o) in
+    let u = wrap (low64 (upper_of o) * 2 ^ 12) in
     let bytes = to_le_bytes w64 (low64 o) in
-    let slots = λ (c : Bool). if c then immediate_slots site.context.flags rd (upper_of o) (lower_of o) else inline_slots site.context.flags rd loads.Ld 8 bytes in
-    (elim (is_splittable o) as (λ c. is_splittable o ≡ c → IsAt site offset (size_of (slots c)) s → StandsIn site allocated offset (slots c) → Sets site.context.flags (size_of (slots c)) s rd (wrap (low64 o))) [
-      | true ↦ λ fits h stands. immediate_goes allocated rd o (low64 (lower_of o) == 0) refl some lt fits is_state h stands
-      | false ↦ λ other h stands. subst (λ n. Sets site.context.flags n s rd (wrap (low64 o))) (sym (inline_size site.context.flags rd 8 loads.Ld bytes refl))
+    let Goal = λ (slots : List Slot). IsAt site offset (size_of slots) s → StandsIn site allocated offset slots → Sets flags (size_of slots) s rd (wrap (low64 o)) in
+    let up_size = lui_sized flags rd (upper_of o) in
+    let down_size = rri_sized flags Addi rd rd (lower_of o) in
+    (elim (is_splittable o) as (λ c. is_splittable o ≡ c → Goal (if c then immediate_slots flags rd (upper_of o) (lower_of o) else inline_slots flags rd loads.Ld 8 bytes)) [
+      | true ↦ λ fits. (elim (low64 (lower_of o) == 0) as (λ c. (low64 (lower_of o) == 0) ≡ c → Goal (Op up ∷ (if c then [] else Op down ∷ []))) [
+        | true ↦ λ test h stands. sets_alone allocated up rd u (wrap (low64 o)) up_size (omega (arith, offset_sums o fits, eqb-true (low64 (lower_of o)) 0 test)) (lui_acts flags rd (upper_of o) s is_state) h stands
+        | false ↦ λ test h stands. sets_then down up.len rd u (wrap (low64 o)) (λ v. wrap (reg v rd + low64 (lower_of o))) (sets_one up rd u h (omega (arith, up_size.some)) stands.0 (lui_acts flags rd (upper_of o) s is_state))
+            lt (omega arith) up_size.even (omega (arith, down_size.some)) is_state h (omega arith) stands.1.0
+            (λ t is. rri_acts flags Addi rd rd (lower_of o) t refl is) ((λ i. wrap (reads_back s.values rd u is_state.values some lt i + low64 (lower_of o))) ∙ offset_sums o fits)
+      ]) refl
+      | false ↦ λ other h stands. subst (λ n. Sets flags n s rd (wrap (low64 o))) (sym (inline_size flags rd 8 loads.Ld bytes refl))
           (inline_goes allocated rd 8 (wrap (low64 o)) loads.Ld bytes refl some lt (lit< tt) refl (λ mem a there. eight_there mem a (low64 o) there) (lit< tt) is_state h stands)
     ]) refl
-
--- ---- an address that counts from a register
 
 -- the slots of an address that counts from a register, by whether it is near
 abbrev based_slots : IsaFlags → ℕ → ℕ → ℤ → Bool → List Slot
@@ -264,8 +195,6 @@ based_goes {site} {offset} {s} allocated rd r o some lt apart is_state =
           (λ t is. rrr_acts flags Add rd rd r t is) sum
     ]
 
--- ---- the address of a label
-
 -- where a label is bound
 abbrev pub label_address : Site → MachLabel → ℕ
 label_address site l = wrap (site.base + unwrap_or (site.place l.number) 0)
@@ -289,10 +218,10 @@ pub lower_sums : {site : Site} {offset size : ℕ} {s : State} (rd : ℕ) (l : M
 lower_sums {site} {offset} {s = s} rd l to to_next some lt bounds is_state h bound bound_next =
     let le = bounds.labels l.number to bound in
     let one : to_next ≡ to = same_Some to_next to (sym bound_next ∙ bound) in
+    let next : between (offset + 4) to ≡ between offset to -ℤ pos 4 = omega (arith, ints) in
     (λ i. wrap (reads_back s.values rd (upper_sum s.pc offset to) is_state.values some lt i + low64 (lower_of_distance (between (offset + 4) (one i)))))
-    ∙ (λ i. wrap (upper_sum (h.pc i) offset to + low64 (lower_of_distance (between (offset + 4) to))))
-    ∙ distance_sums site.base offset to (omega arith) (omega arith)
-    ∙ ap (λ o. wrap (site.base + unwrap_or o 0)) (sym bound)
+    ∙ (λ i. wrap (upper_sum (h.pc i) offset to + low64 (lower_of_distance (next i))))
+    ∙ parts_sum (wrap (site.base + offset)) (between offset to) (grind (arith, ints, nat_tests)) ∙ lands site.base offset to (omega arith) ∙ ap (λ o. wrap (site.base + unwrap_or o 0)) (sym bound)
 
 pub label_goes : {site : Site} {offset : ℕ} {s : State} (allocated rd : ℕ) (l : MachLabel) → 0 < rd → rd < 32 → AreShort site → IsState s → IsAt site offset 8 s → StandsIn site allocated offset (address_slots site.context.flags rd (AtLabel l)) → Sets site.context.flags 8 s rd (label_address site l)
 label_goes {site} {offset} {s} allocated rd l some lt bounds is_state h stands =
@@ -301,8 +230,6 @@ label_goes {site} {offset} {s} allocated rd l some lt bounds is_state h stands =
     let z = lower_of_distance (between (offset + 4) b.to) in
     sets_then (decoded_addi rd rd z) 4 rd (upper_sum s.pc offset a.to) (label_address site l) (λ v. wrap (reg v rd + low64 z)) (upper_goes rd l h (omega arith) a) lt (omega arith) refl (lit< tt) is_state h refl b.has (λ t is. refl)
     (lower_sums rd l a.to b.to some lt bounds is_state h a.reaches.0 b.reaches.0)
-
--- ---- any address
 
 pub address_goes : {site : Site} {offset : ℕ} {s : State} (start after allocated rd : ℕ) (loc : Location) → 0 < rd → rd < 32 → IsApartAt rd loc → AreShort site → IsState s → IsAt site offset (size_of (address_slots site.context.flags rd loc)) s → StandsIn site allocated offset (address_slots site.context.flags rd loc) → Sets site.context.flags (size_of (address_slots site.context.flags rd loc)) s rd (address_at (environment site start after) s.values loc)
 address_goes start after allocated rd (Based r o) some lt apart bounds is_state h stands = based_goes allocated rd r o some lt (λ e. apart (sym e)) is_state h stands
@@ -346,14 +273,10 @@ comes_here {site} {s = s} k = record { state = s; goes = goes_none site.context.
 pub course_before : {site : Site} {offset size : ℕ} {Such : Values → Type 0} {s : State} (less : ℕ) → InCourse site offset size Such s → less ≤ size → InCourse site offset less Such s
 course_before less k le = record { here = shorter less k.here le; is_state = k.is_state; values = k.values }
 
--- ---- an operation writes a register
-
 -- so many bytes do
 pub sets_comes : {site : Site} {offset size : ℕ} {Such : Values → Type 0} {s : State} (After : Values → Type 0) (k n x : ℕ) → k % 2 ≡ 0 → n < 32 → x < 2 ^ 64 → Sets site.context.flags k s n x → InCourse site offset (k + size) Such s → After (set_reg s.values n x) → Comes site (offset + k) size After s
 sets_comes {s = s} After k n x even lt fits goes c after =
-    let here = set_at k n x c.here even in
-    let values = are_values_set s.values n x c.is_state.values lt fits in
-    record { state = at (wrap (s.pc + k)) (set_reg s.values n x); goes = goes; course = search (rules, arith, here, values, after) }
+    record { state = at (wrap (s.pc + k)) (set_reg s.values n x); goes = goes; course = search (rules, arith, (set_at k n x c.here even), (are_values_set s.values n x c.is_state.values lt fits), after) }
 
 pub writes : {site : Site} {offset size : ℕ} {Such : Values → Type 0} {s : State} (After : Values → Type 0) (d : Decoded) (n x : ℕ) → HasSize d → CodeHas site offset (d ∷ []) → act d s ≡ Some (at (wrap (s.pc + d.len)) (set_reg s.values n x)) → n < 32 → x < 2 ^ 64 → InCourse site offset (d.len + size) Such s → After (set_reg s.values n x) → Comes site (offset + d.len) size After s
 writes After d n x sized has acts lt fits k after = let some = sized.some in sets_comes After d.len n x sized.even lt fits (sets_one d n x k.here (omega arith) has acts) k after
@@ -373,8 +296,6 @@ rrr_writes {site} {s = s} After op rd rs1 rs2 x has is lt k after =
     let d = short_rrr flags op rd rs1 rs2 in
     writes After d rd x (rrr_sized flags op rd rs1 rs2) has (rrr_acts flags op rd rs1 rs2 s k.is_state ∙ ap (λ y. Some (at (wrap (s.pc + d.len)) (set_reg s.values rd y))) is) lt fits k after
 
--- ---- an operation only goes elsewhere
-
 leads : {site : Site} {offset size : ℕ} {Such : Values → Type 0} {s : State} (d : Decoded) (to more : ℕ) → CodeHas site offset (d ∷ []) → act d s ≡ Some (at (wrap (site.base + to)) s.values) → to % 2 ≡ 0 → to + more ≤ length site.bytes → 0 < size → InCourse site offset size Such s → Comes site to more Such s
 leads {site} {s = s} d to more has acts even room some k =
     let t = at (wrap (site.base + to)) s.values in
@@ -392,15 +313,12 @@ goes_back {site} {offset} {size} {s = s} d n to more has acts there few even roo
     let e : wrap (s.pc + (2 ^ 64 - n)) ≡ wrap (site.base + to) = omega arith in
     leads d to more has (acts ∙ ap (λ a. Some (at a s.values)) e) even room some k
 
--- ---- a number is put into a register.
-
 -- a number without an upper immediate is its lower one
 lower_whole : (z : ℤ) → is_low z ≡ true → wrap (0 + low64 (lower_of z)) ≡ wrap (low64 z)
 lower_whole z low =
     let both = and_parts (is_splittable z) (low64 (upper_of z) == 0) low in
-    let sum = offset_sums z both.0 in
     let none : low64 (upper_of z) ≡ 0 = eqb-true (low64 (upper_of z)) 0 both.1 in
-    omega (arith, sum, none)
+    omega (arith, (offset_sums z both.0), none)
 
 pub number_even : (flags : IsaFlags) (rd : ℕ) (z : ℤ) → size_of (number_slots flags rd z) % 2 ≡ 0
 number_even flags rd z = closed_even (λ k. None) 0 (number_slots flags rd z) ((numbers flags rd z).closed _ 0)
@@ -419,5 +337,4 @@ pub number_comes : {site : Site} {offset size : ℕ} {Such : Values → Type 0} 
 number_comes {site} {s = s} After allocated rd x z some lt is stands k after =
     let flags = site.context.flags in
     let n = size_of (number_slots flags rd z) in
-    let goes = number_goes allocated rd z some lt k.is_state (shorter n k.here (omega arith)) stands in
-    sets_comes After n rd x (number_even flags rd z) lt (omega arith) (subst (λ m. Sets flags n s rd m) is goes) k after
+    sets_comes After n rd x (number_even flags rd z) lt (omega arith) (subst (λ m. Sets flags n s rd m) is (number_goes allocated rd z some lt k.is_state (shorter n k.here (omega arith)) stands)) k after

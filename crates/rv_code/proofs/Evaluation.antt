@@ -1,55 +1,26 @@
 -- Where pieces stand, the machine does what their evaluation says.
 use Rattle.std.proofs.Common.{◌≡◌, ℕ, zero, suc, ◌+◌, ◌*◌, ◌%◌, ◌^◌, ◌<◌, ◌≤◌, ℤ, Bool, true, false, nat_eq, [], ◌∷◌, List, length, Option, Some, None, arith, refl, sym, ap, subst, ◌∙◌, lit<, lit≤, eqb-true, if◌then◌else◌, rules}
-use Rattle.std.proofs.lemmas.Option.{same_Some}
-use Rattle.rv_base.specs.declared.condcodes.IntCC.{IntCC}
-use Rattle.rv_base.specs.declared.condcodes.IntCC.TheVariants.{Equal}
-use Rattle.rv_base.specs.declared.flags.IsaFlags.{IsaFlags}
-use Rattle.rv_base.specs.CondCodes.{holds}
-use Rattle.rv_machine.specs.declared.decoding.Decoded.{Decoded}
-use Rattle.rv_machine.specs.Effects.{act}
-use Rattle.rv_machine.specs.Memory.{load_result, store_bytes}
-use Rattle.rv_machine.specs.State.{State, IsState, Values, AreValues, reg, wrap, low64, at}
-use Rattle.rv_machine.specs.Steps.{istep}
-use Rattle.rv_machine.proofs.Ranges.{alu_result_fits}
-use Rattle.rv_ops.specs.Operations.{rri_op}
-use Rattle.rv_encode.specs.Operations.{load_op, store_op}
-use Rattle.rv_inst.specs.Meaning.{alu_rrr, alu_rri}
+use Rattle.rv_code.proofs.Words.{act, Action, after, alu_result_fits, AreInRange, AreValues, at, between, Bind, Branch, branches, CodeHas, Copy, Decoded, Do, Equal, holds, IntCC, IsaFlags, IsInRange, IsPlacedAt, IsState, istep, Jump, low64, New, op_of, own_label, Piece, piece_size, reg, same_Some}
+use Rattle.rv_code.proofs.Words.{short_jump, Site, slots_of, StandsIn, State, store_bytes, store_op, Trap, trap_bytes, trap_size, Values, wrap}
+use Rattle.rv_code.specs.Pieces.{Lui, Store}
 use Rattle.rv_code.specs.Evaluation.{Point, at as points, to, address, is_of_integers, effect, wrote, AllOutside, next, and_then, evaluate, StandIn, IsAtPoint, ComesToPoint}
-use Rattle.rv_code.specs.Operations.{short_jump}
-use Rattle.rv_code.specs.Pieces.{Action, Rrr, Rri, Lui, Load, Store, Copy, Piece, Do, Branch, Jump, New, Bind, Go, Trap, branches, op_of, slots_of, piece_size, after, IsInRange, AreInRange}
-use Rattle.rv_code.specs.Sites.{Site, CodeHas, IsPlacedAt, StandsIn}
-use Rattle.rv_code.specs.Slots.{own_label, between}
 use Rattle.rv_code.proofs.Steps.{istep_here, aims_at, iter_none, iter_one, iter_after}
 use Rattle.rv_code.proofs.OperationActs.{rrr_fits, HasSize, rrr_acts, rri_acts, lui_acts, rrr_sized, rri_sized, lui_sized, load_acts, load_sized, store_acts, store_sized, jump_acts, window_long, least_even, least_some}
 use Rattle.rv_code.proofs.Registers.{are_values_set}
 use Rattle.rv_code.proofs.StackRuns.{placed_after, put_values, stored_bytes, load_fits}
 
--- ---- an operation
-
 pub action_sized : (flags : IsaFlags) (a : Action) → HasSize (op_of flags a)
-action_sized flags (Rrr op rd a b) = rrr_sized flags op rd a b
-action_sized flags (Rri op rd rs imm) = rri_sized flags op rd rs imm
-action_sized flags (Lui rd imm) = lui_sized flags rd imm
-action_sized flags (Load op rd base offset) = load_sized flags op rd base offset
-action_sized flags (Store op base src offset) = store_sized flags op base src offset
 action_sized flags (Copy width rd rs) = record { even = refl; some = lit< tt; few = lit≤ tt }
+action_sized flags _ = search (rules, rrr_sized, rri_sized, lui_sized, load_sized, store_sized)
 
 -- one of integers, in whatever form it stands
 action_acts : (flags : IsaFlags) (a : Action) (s : State) → is_of_integers a ≡ true → IsInRange a → IsState s → act (op_of flags a) s ≡ Some (at (wrap (s.pc + (op_of flags a).len)) (effect a s.values))
-action_acts flags (Rrr op rd a b) s e h is = rrr_acts flags op rd a b s is
-action_acts flags (Rri op rd rs imm) s e h is = rri_acts flags op rd rs imm s h.1 is
-action_acts flags (Lui rd imm) s e h is = lui_acts flags rd imm s is
-action_acts flags (Load op rd base offset) s e h is = load_acts flags op rd base offset s h.1 is
-action_acts flags (Store op base src offset) s e h is = store_acts flags op base src offset s h is
 action_acts flags (Copy width rd rs) s e h is = absurd (cc)
+action_acts flags _ s e h is = search (rules, rrr_acts, rri_acts, lui_acts, load_acts, store_acts)
 
 pub effect_values : (a : Action) (v : Values) → IsInRange a → AreValues v → AreValues (effect a v)
-effect_values (Rrr op rd a b) v h hv = are_values_set v rd (alu_rrr op (reg v a) (reg v b)) hv h (rrr_fits op (reg v a) (reg v b) (hv.fits a) (hv.fits b))
-effect_values (Rri op rd rs imm) v h hv = are_values_set v rd (alu_rri op (reg v rs) imm) hv h.0 (alu_result_fits (rri_op op) (reg v rs) 0 (low64 imm) (hv.fits rs) (lit< tt) h.2)
 effect_values (Lui rd imm) v h hv = are_values_set v rd (wrap (low64 imm * 2 ^ 12)) hv h (omega arith)
-effect_values (Load op rd base offset) v h hv = are_values_set v rd (load_result (load_op op) v.mem (address v base offset)) hv h.0 (load_fits (load_op op) v.mem (address v base offset) hv.bytes)
-effect_values (Store op base src offset) v h hv = put_values v (address v base offset) (store_bytes (store_op op) (reg v src)) hv (stored_bytes op (reg v src))
-effect_values (Copy width rd rs) v h hv = hv
+effect_values _ v h hv = search (rules, are_values_set, rrr_fits, alu_result_fits, load_fits, put_values, stored_bytes)
 
 -- it leaves the code as it was
 effect_placed : (site : Site) (a : Action) (v : Values) (m : List (List ℕ)) → AllOutside site (wrote a v m) → IsPlacedAt site v.mem → IsPlacedAt site (effect a v).mem
@@ -61,30 +32,21 @@ wrote_earlier : (site : Site) (a : Action) (v : Values) (m : List (List ℕ)) �
 wrote_earlier site (Store op base src offset) v m out = out.1
 wrote_earlier site _ v m out = out
 
--- ---- a branch
-
 branch_acts : (how : IntCC) (a b : ℕ) (d : ℤ) (s : State) → act (branches how a b d) s ≡ Some (at (if holds how (reg s.values a) (reg s.values b) then wrap (s.pc + low64 d) else wrap (s.pc + 4)) s.values)
 branch_acts Equal a b d s = refl
 branch_acts _ a b d s = refl
 
--- ---- where pieces stand
+pub trap_long : (flags : IsaFlags) → trap_size flags ≡ length (trap_bytes flags)
+trap_long flags = elim flags.has_zca as (λ c. (if c then 2 else 4) ≡ length {A = ℕ} (if c then 0 ∷ 0 ∷ [] else 0 ∷ 0 ∷ 0 ∷ 0 ∷ [])) [ true ↦ refl | false ↦ refl ]
 
 pub piece_even : (flags : IsaFlags) (p : Piece) → piece_size flags p % 2 ≡ 0
 piece_even flags (Do a) = (action_sized flags a).even
-piece_even flags (Branch how a b k) = refl
-piece_even flags (Jump k) = let e = window_long flags in let h = least_even flags in omega arith
-piece_even flags New = refl
-piece_even flags (Bind k) = refl
-piece_even flags (Go l) = let e = window_long flags in let h = least_even flags in omega arith
-piece_even flags (Trap code) = elim flags.has_zca as (λ c. length {A = ℕ} (if c then 0 ∷ 0 ∷ [] else 0 ∷ 0 ∷ 0 ∷ 0 ∷ []) % 2 ≡ 0) [ true ↦ refl | false ↦ refl ]
+piece_even flags _ = omega (arith, window_long flags, least_even flags, trap_long flags)
 
 -- what stands after the first piece
 pub rest : {site : Site} {allocated start end : ℕ} (p : Piece) (ps : List Piece) → StandIn site allocated start end (p ∷ ps) → StandIn site allocated (start + piece_size site.context.flags p) end ps
 rest {site} {allocated} {start} {end} p ps k =
-    let after = by p k.stand in
-    let even = piece_even site.context.flags p in
-    let range = ranges p k.ranges in
-    search (rules, arith, k, after, even, range)
+    search (rules, arith, k, (by p k.stand), (piece_even site.context.flags p), (ranges p k.ranges))
   where
     by : (p : Piece) → StandsIn site allocated start (slots_of site.context.flags (p ∷ ps)) → StandsIn site allocated (start + piece_size site.context.flags p) (slots_of site.context.flags ps)
     by New h = subst (λ n. StandsIn site allocated n (slots_of site.context.flags ps)) (omega arith) h
@@ -103,9 +65,6 @@ record IsBound (site : Site) (allocated start end k : ℕ) (ps : List Piece) : T
   place : site.place (own_label allocated k).number ≡ Some offset
   stand : StandIn site allocated offset end ps
 
-later : {site : Site} {allocated start end k : ℕ} {ps : List Piece} (size : ℕ) → IsBound site allocated (start + size) end k ps → IsBound site allocated start end k ps
-later size b = record { offset = b.offset; within = omega arith; place = b.place; stand = b.stand }
-
 bound : {site : Site} {allocated end : ℕ} (k start : ℕ) (whole ps : List Piece) → after k whole ≡ Some ps → StandIn site allocated start end whole → IsBound site allocated start end k ps
 bound k start [] ps e h = absurd (cc)
 bound {site} {allocated} {end} k start (Bind j ∷ more) ps e h =
@@ -114,9 +73,9 @@ bound {site} {allocated} {end} k start (Bind j ∷ more) ps e h =
       | true ↦ λ test f. record { offset = start; within = omega arith; place = ap (λ i. site.place (own_label allocated i).number) (sym (eqb-true j k test)) ∙ h.stand.0; stand = subst (StandIn site allocated start end) (same_Some more ps f) after_it }
       | false ↦ λ test f. bound k start more ps f after_it
     ]) refl e
-bound {site} k start (p ∷ more) ps e h = later (piece_size site.context.flags p) (bound k (start + piece_size site.context.flags p) more ps e (rest p more h))
-
--- ---- steps
+bound {site} k start (p ∷ more) ps e h =
+    let b = bound k (start + piece_size site.context.flags p) more ps e (rest p more h) in
+    record { offset = b.offset; within = omega arith; place = b.place; stand = b.stand }
 
 -- where the machine stands, by its counter and its values
 stands_at : {site : Site} {allocated start end : ℕ} {ps : List Piece} {v : Values} (t : State) (m : List (List ℕ)) (offset : ℕ) →
@@ -166,7 +125,6 @@ passes : {site : Site} {allocated start end : ℕ} {ps : List Piece} {v : Values
 passes {site} {ps = ps} {m = m} {s = s} p none h = stays (stands_at s m (h.offset + piece_size site.context.flags p) (omega arith) h.here.placed (let pc = h.here.pc in omega arith) h.is_state.values h.values (rest p ps h.stand))
 
 pub one : {site : Site} {allocated start end : ℕ} (whole : List Piece) → StandIn site allocated start end whole → (ps : List Piece) (v : Values) (m : List (List ℕ)) (q : Point) (s : State) → next whole ps v m ≡ Some q → AllOutside site q.written → IsAtPoint site allocated start end (points ps v m) s → ComesToPoint 1 site allocated start end q s
-one whole k [] v m q s e out h = absurd (cc)
 one {site} {allocated} {start} {end} whole k (Do a ∷ ps) v m q s e out h =
     (elim (is_of_integers a) as (λ c. is_of_integers a ≡ c → (if c then Some (points ps (effect a v) (wrote a v m)) else None) ≡ Some q → ComesToPoint 1 site allocated start end q s)
     [ true ↦ λ of f. is_there site allocated start end f (does a of (outside_at site f out) h) | false ↦ λ of f. absurd (cc) ]) refl e
@@ -187,10 +145,7 @@ one {site} {allocated} {start} {end} whole k (Jump j ∷ ps) v m q s e out h =
     leads j whole q (Jump j) (short_jump site.context.flags) aim.to k (after j whole) refl e h (omega arith) aim.reaches aim.has (λ z. jump_acts site.context.flags z s)
 one {site} {allocated} {start} {end} whole k (New ∷ ps) v m q s e out h = is_there site allocated start end e (passes New refl h)
 one {site} {allocated} {start} {end} whole k (Bind j ∷ ps) v m q s e out h = is_there site allocated start end e (passes (Bind j) refl h)
-one whole k (Go l ∷ ps) v m q s e out h = absurd (cc)
-one whole k (Trap code ∷ ps) v m q s e out h = absurd (cc)
-
--- ---- all of them
+one whole k _ v m q s e out h = absurd (cc)
 
 -- what was written before is outside, where all is
 to_earlier : (site : Site) (o : Option (List Piece)) (v : Values) (m : List (List ℕ)) (q : Point) → to o v m ≡ Some q → AllOutside site q.written → AllOutside site m
@@ -205,9 +160,7 @@ one_earlier site whole (Branch how a b k ∷ ps) v m q e out =
     (elim (holds how (reg v a) (reg v b)) as (λ c. (if c then to (after k whole) v m else Some (points ps v m)) ≡ Some q → AllOutside site m)
     [ true ↦ λ f. to_earlier site (after k whole) v m q f out | false ↦ λ f. outside_at site f out ]) e
 one_earlier site whole (Jump k ∷ ps) v m q e out = to_earlier site (after k whole) v m q e out
-one_earlier site whole (New ∷ ps) v m q e out = outside_at site e out
-one_earlier site whole (Bind k ∷ ps) v m q e out = outside_at site e out
-one_earlier site whole _ v m q e out = absurd (cc)
+one_earlier site whole _ v m q e out = search (rules, outside_at)
 
 all_earlier : (site : Site) (whole : List Piece) (n : ℕ) (p q : Point) → evaluate n whole p ≡ Some q → AllOutside site q.written → AllOutside site p.written
 all_earlier site whole zero p q e out = outside_at site e out

@@ -1,3 +1,4 @@
+pub mod Words
 pub mod Steps
 pub mod Courses
 pub mod MadeOfPieces

@@ -1,22 +1,11 @@
 -- What a write to a register leaves, and the registers of a count of bits.
-use Rattle.std.proofs.Common.{◌≡◌, ℕ, ◌/◌, ◌^◌, ◌<◌, ◌≤◌, pos, Bool, true, false, arith, refl, ap, ◌∙◌, suc, nat_eq, zero, ◌≢◌, List, length, sym, ⊎_elim, eqb-true, ◌∷◌, subst, ◌*◌, [], rules, nat_le, nat_lt, int_lt, ◌||◌, slice_index, slice_set}
-use Rattle.std.proofs.lemmas.Bool.{lt-ltb, cases_eq, eqb-false}
-use Rattle.std.proofs.lemmas.Bool.Decides.{nat_tests}
-use Rattle.std.proofs.lemmas.Int.{ints}
-use Rattle.std.proofs.Math.Nat.{pow-suc}
+use Rattle.std.proofs.Common.{◌≡◌, ℕ, ◌/◌, ◌^◌, ◌<◌, ◌≤◌, pos, Bool, true, false, arith, refl, ap, ◌∙◌, suc, nat_eq, zero, ◌≢◌, List, length, sym, ⊎_elim, eqb-true, ◌∷◌, subst, ◌*◌, [], rules, nat_le, nat_lt, int_lt, ◌||◌}
+use Rattle.rv_code.proofs.Words.{AreValues, bits_of, cases_eq, eqb-false, ints, IrType, is_among, lt-ltb, nat_tests, number_of, pow-suc, reg, Reg, reg_of, Same, SameBut, set_reg, set_reg_of, signed64, signed_below, Values, Writable}
 use Rattle.std.proofs.Math.Seq.{get_or-set_other}
 use Rattle.std.proofs.Math.ListN.{length-set}
 use Rattle.std.proofs.lemmas.Grind.{get_or-set_at}
-use Rattle.rv_base.specs.CondCodes.{signed64, signed_below}
-use Rattle.rv_machine.specs.State.{Values, AreValues, reg, reg_of, set_reg, set_reg_of}
 pub use Rattle.rv_machine.proofs.States.{are_values_set}
-use Rattle.rv_inst.specs.SameValues.{Same, SameBut, is_among}
 pub use Rattle.rv_inst.proofs.Sequences.{reads_set}
-use Rattle.rv_base.specs.declared.ir_type.IrType.{IrType}
-use Rattle.rv_base.specs.declared.regs.Reg.{Reg}
-use Rattle.rv_base.specs.declared.regs.Writable.{Writable}
-use Rattle.rv_base.specs.IrType.{bits_of}
-use Rattle.rv_base.specs.Regs.{number_of}
 
 -- ---- tests of numbers, and halves of powers of two, as the proofs of several sequences have them.
 
@@ -46,24 +35,17 @@ half_power k = let e = pow-suc 2 k in omega arith
 
 -- ---- what a write to a register leaves.
 
--- at an index, the same number written to two lists
-index_set : (xs ys : List ℕ) (n m v : ℕ) → length xs ≡ 31 → length ys ≡ 31 → n < 31 → slice_index xs m ≡ slice_index ys m → slice_index (slice_set xs n v) m ≡ slice_index (slice_set ys n v) m
-index_set xs ys n m v lx ly lt e =
-    ⊎_elim
-    (λ (here : m ≡ n). get_or-set_at xs n m v 0 here (omega arith) ∙ sym (get_or-set_at ys n m v 0 here (omega arith)))
-    (λ (other : m ≢ n). get_or-set_other xs n m v 0 other ∙ e ∙ sym (get_or-set_other ys n m v 0 other))
-    (cases_eq m n)
-
 reg_set : (xs ys : List ℕ) (n m v : ℕ) → length xs ≡ 31 → length ys ≡ 31 → n < 32 → reg_of xs m ≡ reg_of ys m → reg_of (set_reg_of xs n v) m ≡ reg_of (set_reg_of ys n v) m
 reg_set xs ys zero m v lx ly lt e = e
 reg_set xs ys (suc n) zero v lx ly lt e = refl
-reg_set xs ys (suc n) (suc m) v lx ly lt e = index_set xs ys n m v lx ly (omega arith) e
+reg_set xs ys (suc n) (suc m) v lx ly lt e =
+    ⊎_elim
+    (λ (here : m ≡ n). get_or-set_at xs n m v 0 here (omega arith) ∙ sym (get_or-set_at ys n m v 0 here (omega arith)))
+    (λ (other : m ≢ n). get_or-set_other xs n m v 0 other ∙ e ∙ sym (get_or-set_other ys n m v 0 other)) (cases_eq m n)
 
 -- one number written to one register of values that are the same
 pub same_set : (v w : Values) (n x : ℕ) → AreValues v → AreValues w → n < 32 → Same v w → Same (set_reg v n x) (set_reg w n x)
 same_set v w n x hv hw lt same = record { regs = λ m below. reg_set v.regs w.regs n m x hv.count hw.count lt (same.regs m below); mem = same.mem }
-
--- ---- what is read after a write
 
 pub count_set : (v : Values) (n x : ℕ) → length v.regs ≡ 31 → length (set_reg v n x).regs ≡ 31
 count_set v zero x h = h
@@ -73,11 +55,8 @@ pub reads_back : (v : Values) (n x : ℕ) → AreValues v → 0 < n → n < 32 �
 reads_back v n x h some lt = reads_set v n x h.count some lt
 
 pub reads_other : (v : Values) (n m x : ℕ) → m ≢ n → reg (set_reg v n x) m ≡ reg v m
-reads_other v zero m x other = refl
-reads_other v (suc n) zero x other = refl
 reads_other v (suc n) (suc m) x other = get_or-set_other v.regs n m x 0 (λ e. other (ap suc e))
-
--- ---- beside temporaries
+reads_other v _ _ x other = refl
 
 -- one number written to one register of both
 pub but_set : {free : List ℕ} (v w : Values) (n x : ℕ) → AreValues v → AreValues w → n < 32 → SameBut free v w → SameBut free (set_reg v n x) (set_reg w n x)
@@ -85,17 +64,11 @@ but_set v w n x hv hw lt same = record { regs = λ m below other. reg_set v.regs
 
 -- a temporary is written
 pub temporary_set : {free : List ℕ} (v w : Values) (n x : ℕ) → is_among free n ≡ true → SameBut free v w → SameBut free v (set_reg w n x)
-temporary_set {free} v w n x among same = record {
-  regs = λ m below other. same.regs m below other ∙ sym (reads_other w n m x (λ (e : m ≡ n). let f = ap (is_among free) e in absurd (cc)));
-  mem = same.mem;
-}
+temporary_set {free} v w n x among same = record { regs = λ m below other. same.regs m below other ∙ sym (reads_other w n m x (λ (e : m ≡ n). let f = ap (is_among free) e in absurd (cc))); mem = same.mem }
 
 -- x30 or x31 is written
 pub spare_set : {free : List ℕ} (v w : Values) (n x : ℕ) → 30 ≤ n → SameBut free v w → SameBut free v (set_reg w n x)
-spare_set v w n x high same = record {
-  regs = λ m below other. same.regs m below other ∙ sym (reads_other w n m x (λ e. omega arith));
-  mem = same.mem;
-}
+spare_set v w n x high same = record { regs = λ m below other. same.regs m below other ∙ sym (reads_other w n m x (λ e. omega arith)); mem = same.mem }
 
 -- a register holds what is written to the same one, and only temporaries differ beside it
 pub own_set : {free : List ℕ} (v w : Values) (n x : ℕ) → AreValues v → 0 < n → n < 30 → reg w n ≡ x → SameBut (n ∷ free) v w → SameBut free (set_reg v n x) w
@@ -167,16 +140,8 @@ source_kept {c} h k =
 pub sum_set : {c : Count} {left next count : ℕ} {v w : Values} (x : ℕ) → IsCount c → length w.regs ≡ 31 → CountHolds c left next count v w → CountHolds c left next x v (set_reg w c.sum x)
 sum_set {c} {v = v} {w = w} x h hw k = search (rules, reads_other, reads_set, k, h, temporary_set)
 
-pub tmp_set : {c : Count} {left next count : ℕ} {v w : Values} (x : ℕ) → IsCount c → length w.regs ≡ 31 → CountHolds c left next count v w → CountHolds c left x count v (set_reg w c.tmp x)
-tmp_set {c} {v = v} {w = w} x h hw k = search (rules, reads_other, reads_set, k, h, temporary_set)
-
-pub step_set : {c : Count} {left next count : ℕ} {v w : Values} (x : ℕ) → IsCount c → length w.regs ≡ 31 → CountHolds c left next count v w → CountHolds c x next count v (set_reg w c.step x)
-step_set {c} {v = v} {w = w} x h hw k = search (rules, reads_other, reads_set, k, h, temporary_set)
-
 pub spare_kept : {c : Count} {left next count : ℕ} {v w : Values} (x : ℕ) → IsCount c → CountHolds c left next count v w → CountHolds c left next count v (set_reg w 30 x)
 spare_kept {c} {v = v} {w = w} x h k = search (rules, arith, reads_other, k, h, spare_set)
-
--- ---- as the count ends
 
 -- how many are counted; the temporaries hold anything
 pub record Counted (c : Count) (count : ℕ) (v w : Values) : Type 0 where

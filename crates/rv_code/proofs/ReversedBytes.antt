@@ -1,14 +1,7 @@
 -- Bits in reverse order: the registers of a reversal, and the bits of bytes as a sum of single bits.
 use Rattle.std.proofs.Common.{◌≡◌, ◌≢◌, ℕ, ◌%◌, ◌<◌, ◌≤◌, false, [], ◌∷◌, List, length, arith, sym, rules, zero, suc, ◌+◌, ◌-◌, ◌*◌, ◌/◌, ◌^◌, refl, ap, subst, ◌∙◌, lit<, bit_or, bit_and, max}
-use Rattle.std.proofs.lemmas.Bool.Decides.{nat_tests}
-use Rattle.std.specs.Int.{bit_at}
-use Rattle.std.specs.Int.Bits.{or_add_and}
-use Rattle.std.proofs.Math.Nat.{pow-suc}
-use Rattle.std.proofs.lemmas.Nat.{pow-add, pow_below, shr-shr}
+use Rattle.rv_code.proofs.Words.{AreValues, bit_at, is_among, nat_tests, or_add_and, pow-add, pow-suc, pow_below, reg, reversed_bits, reversed_bytes, SameBut, set_reg, shr-shr, Values}
 use Rattle.std.proofs.lemmas.Nat.Bits.{and_pow, bit_at_or, bit_at-pow_other, bit_at-zero}
-use Rattle.rv_machine.specs.State.{Values, AreValues, reg, set_reg}
-use Rattle.rv_inst.specs.SameValues.{SameBut, is_among}
-use Rattle.rv_inst.specs.Bits.{reversed_bits, reversed_bytes}
 use Rattle.rv_code.proofs.Registers.{count_set, reads_set, reads_other, temporary_set, spare_set, own_set}
 
 -- ---- the registers of a reversal of bits, and what they hold in its course.
@@ -68,15 +61,11 @@ pub record Tests (c : Reversal) (left next place got tested : ℕ) (v w : Values
   pub now : InReversal c left next place got v w
   pub spare : reg w 30 ≡ tested
 
--- ---- which are written
-
 -- what is reversed is as it was
 pub source_kept : {c : Reversal} {left next place got : ℕ} {v w : Values} → IsReversal c → Holds c left next place got v w → reg w c.rs ≡ reg v c.rs
 source_kept {c} h k =
     let other : is_among (written c) c.rs ≡ false = (let a = h.rd_rs in let b = h.tmp_rs in let d = h.tmp2_rs in let e = h.step_rs in grind (arith, nat_tests)) in
     sym (k.others.regs c.rs h.rs_usable other)
-
--- ---- after a write
 
 pub rd_set : {c : Reversal} {left next place got : ℕ} {v w : Values} (x : ℕ) → IsReversal c → length w.regs ≡ 31 → Holds c left next place got v w → Holds c left next place x v (set_reg w c.rd x)
 rd_set {c} {v = v} {w = w} x h hw k = search (rules, reads_other, reads_set, k, h, temporary_set)
@@ -93,8 +82,6 @@ step_set {c} {v = v} {w = w} x h hw k = search (rules, reads_other, reads_set, k
 pub spare_tests : {c : Reversal} {left next place got : ℕ} {v w : Values} (x : ℕ) → IsReversal c → length w.regs ≡ 31 → Holds c left next place got v w → Tests c left next place got x v (set_reg w 30 x)
 spare_tests {c} {v = v} {w = w} x h hw k = search (rules, arith, reads_other, reads_set, count_set, k, h, spare_set)
 
--- ---- at the end
-
 -- what is set stands in its register, and only temporaries differ beside it
 pub same_beside : {c : Reversal} {left next place got : ℕ} {v w : Values} → IsReversal c → AreValues v → Holds c left next place got v w → SameBut (c.step ∷ c.tmp ∷ c.tmp2 ∷ []) (set_reg v c.rd got) w
 same_beside {c} {got = got} {v = v} {w = w} h hv k = own_set v w c.rd got hv h.rd_written h.rd_usable k.rd k.others
@@ -110,8 +97,6 @@ abbrev pub mirrored_bits : ℕ → ℕ → ℕ
 mirrored_bits zero n = 0
 mirrored_bits (suc i) n = bit_at n i * 2 ^ mirrored i + mirrored_bits i n
 
--- ---- all bits of all bytes
-
 scaled : (b p l r : ℕ) → b * (2 ^ 8 * p) + (l + 2 ^ 8 * r) ≡ l + 2 ^ 8 * (b * p + r)
 scaled b p l r = omega arith
 
@@ -119,24 +104,19 @@ scaled b p l r = omega arith
 byte_below : (m n : ℕ) → mirrored_bits (8 + m) n ≡ mirrored_bits 8 n + 2 ^ 8 * mirrored_bits m (n / 2 ^ 8)
 byte_below zero n = omega arith
 byte_below (suc i) n =
-    let rest = byte_below i n in
     let bit : bit_at n (8 + i) ≡ bit_at (n / 2 ^ 8) i = ap (λ m. m % 2) (sym (shr-shr n 8 i)) in
     let there : mirrored (8 + i) ≡ 8 + mirrored i = omega arith in
     let power : 2 ^ mirrored (8 + i) ≡ 2 ^ 8 * 2 ^ mirrored i = ap (λ k. 2 ^ k) there ∙ pow-add 2 8 (mirrored i) in
     let next : 8 + suc i ≡ suc (8 + i) = omega arith in
-    ap (λ m. mirrored_bits m n) next ∙ (λ k. bit k * power k + rest k) ∙ scaled (bit_at (n / 2 ^ 8) i) (2 ^ mirrored i) (mirrored_bits 8 n) (mirrored_bits i (n / 2 ^ 8))
+    ap (λ m. mirrored_bits m n) next ∙ (λ k. bit k * power k + (byte_below i n) k) ∙ scaled (bit_at (n / 2 ^ 8) i) (2 ^ mirrored i) (mirrored_bits 8 n) (mirrored_bits i (n / 2 ^ 8))
 
 -- so many bytes
 pub whole_bytes : (bytes n : ℕ) → mirrored_bits (8 * bytes) n ≡ reversed_bytes bytes n
 whole_bytes zero n = refl
 whole_bytes (suc bytes) n =
     let e : 8 * suc bytes ≡ 8 + 8 * bytes = omega arith in
-    let more = whole_bytes bytes (n / 2 ^ 8) in
-    let below = byte_below (8 * bytes) n in
     let lowest : mirrored_bits 8 n ≡ reversed_bits 8 n = omega arith in
-    ap (λ m. mirrored_bits m n) e ∙ below ∙ (λ i. lowest i + 2 ^ 8 * more i)
-
--- ---- bit by bit
+    ap (λ m. mirrored_bits m n) e ∙ (byte_below (8 * bytes) n) ∙ (λ i. lowest i + 2 ^ 8 * (whole_bytes bytes (n / 2 ^ 8)) i)
 
 -- a bit that isn't set is added
 pub or_plus : (a k : ℕ) → bit_at a k ≡ 0 → bit_or a (2 ^ k) ≡ a + 2 ^ k
@@ -152,20 +132,14 @@ IsClear left a = (j : ℕ) → j < left → bit_at a (mirrored j) ≡ 0
 pub all_clear : (left : ℕ) → IsClear left 0
 all_clear left j lt = bit_at-zero (mirrored j)
 
-clear_set : (i a : ℕ) → IsClear (suc i) a → IsClear i (bit_or a (2 ^ mirrored i))
-clear_set i a clear j lt =
-    let other : mirrored j ≢ mirrored i = omega arith in
-    let own = clear j (omega arith) in
-    let new = bit_at-pow_other (mirrored i) (mirrored j) other in
-    bit_at_or a (2 ^ mirrored i) (mirrored j) ∙ (λ k. max (own k) (new k))
-
 -- also after the next bit
 pub clear_after : (i a b : ℕ) → b < 2 → IsClear (suc i) a → IsClear i (a + b * 2 ^ mirrored i)
 clear_after i a zero lt clear = subst (IsClear i) (let e : a ≡ a + 0 * 2 ^ mirrored i = omega arith in e) (λ j below. clear j (omega arith))
-clear_after i a (suc zero) lt clear = subst (IsClear i) (let e : a + 2 ^ mirrored i ≡ a + 1 * 2 ^ mirrored i = omega arith in or_plus a (mirrored i) (clear i (omega arith)) ∙ e) (clear_set i a clear)
+clear_after i a (suc zero) lt clear =
+    let e : a + 2 ^ mirrored i ≡ a + 1 * 2 ^ mirrored i = omega arith in
+    subst (IsClear i) (or_plus a (mirrored i) (clear i (omega arith)) ∙ e)
+    (λ j below. let other : mirrored j ≢ mirrored i = omega arith in bit_at_or a (2 ^ mirrored i) (mirrored j) ∙ (λ k. max (clear j (omega arith) k) (bit_at-pow_other (mirrored i) (mirrored j) other k)))
 clear_after i a (suc (suc b)) lt clear = absurd (omega arith)
-
--- ---- where the next bit goes
 
 -- the bit to which the next of so many goes, and none where none is left
 abbrev pub place_of : ℕ → ℕ

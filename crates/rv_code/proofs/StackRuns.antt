@@ -1,39 +1,17 @@
 -- What loads and stores do to memories that are the same, and what comes from the stack.
 use Rattle.std.proofs.Common.{◌≡◌, ◌≢◌, ℕ, zero, suc, ◌+◌, ◌*◌, ◌^◌, ◌<◌, ◌≤◌, true, false, cond, List, [], ◌∷◌, length, Some, arith, refl, sym, ap, subst, ◌∙◌, ⊎_elim, rules, ◌==◌, Bool, ℤ, pos, ◌++◌, Option, None, lit<, lit≤, eqb-true, unwrap_or, if◌then◌else◌}
-use Rattle.std.specs.List.{AllByRecursion}
+use Rattle.rv_code.proofs.Words.{act, Add, Addi, address_slots, addresses_from, AllByRecursion, append-nil, AreOutside, AreValues, at, Based, byte, CodeHas, Decoded, decoded_load, far_step_slots, FloatFormat, half_load_slots, ints, is_float_load, is_near, IsaFlags, IsPlacedAt, load_bytes}
+use Rattle.rv_code.proofs.Words.{load_format, load_line_slots, load_op, load_result, load_slots, loaded, LoadOP, loads_float, low64, Memory, nat_tests, number_slots, Op, or_parts, put_bytes, reg, SameBut, set_reg, short_load, short_rri, short_rrr, Site, size_of, Slot, stack_load_slots, stack_loaded}
+use Rattle.rv_code.proofs.Words.{stack_step_slots, StackLoad, StandsIn, State, store, store_bytes, store_op, store_size, StoreOP, Values, wrap}
+use Rattle.rv_code.proofs.OperationActs.{HasSize, IsIntegerLoad, has_integer_load, plus_none, set_own, load_acts, load_acts_wide, load_sized, no_format}
+use Rattle.rv_code.proofs.Courses.{Sets, size_append, stands_split, shorter, based_goes, address_even, InCourse, Comes, comes_on, comes_here, course_before, writes, sets_comes, rrr_writes, rri_writes, number_comes}
 use Rattle.std.specs.Cmp.{nat_cmp_total, unsigned_tied}
-use Rattle.std.specs.FinMap as map
 use Rattle.std.specs.FinMap.{get-insert}
-use Rattle.std.proofs.lemmas.Bool.Decides.{nat_tests}
-use Rattle.std.proofs.lemmas.Int.{ints}
-use mir.Syntax.{w8, w16, w32}
-use Rattle.std.proofs.lemmas.Bool.{or_parts}
-use Rattle.std.proofs.lemmas.List.{append-nil}
-use Rattle.rv_ops.specs.declared.memory.StoreOP.{StoreOP}
-use Rattle.rv_ops.specs.declared.memory.StoreOP.TheVariants as stores
-use Rattle.rv_ops.specs.Memory.{store_size, is_float_load, load_format}
-use Rattle.rv_encode.specs.Operations.{store_op, load_op, decoded_load}
 use Rattle.rv_machine.specs.declared.ops.LoadOp.{LoadOp}
-use Rattle.rv_machine.specs.declared.ops.LoadOp.TheVariants as load
-use Rattle.rv_machine.specs.Memory.{sign_extend, load_bytes, load_result, store_bytes}
-use Rattle.rv_machine.specs.State.{Memory, Values, AreValues, byte, store, wrap, State, reg, set_reg, low64, at}
-use Rattle.rv_inst.specs.Meaning.{AreOutside, addresses_from, put_bytes, loaded, stack_loaded}
-use Rattle.rv_inst.specs.SameValues.{SameBut}
-use Rattle.rv_base.specs.declared.flags.IsaFlags.{IsaFlags}
-use Rattle.rv_ops.specs.declared.alu.AluOPRRR.TheVariants.{Add}
-use Rattle.rv_ops.specs.declared.alu.AluOPRRI.TheVariants.{Addi}
-use Rattle.rv_ops.specs.declared.memory.LoadOP.{LoadOP}
-use Rattle.rv_machine.specs.declared.ops.FloatFormat.{FloatFormat}
-use Rattle.rv_inst.specs.Addresses.{Based, is_near}
-use Rattle.rv_inst.specs.Forms.{short_rrr, short_rri, short_load}
-use Rattle.rv_inst.specs.Operands.{loads_float}
-use Rattle.rv_inst.specs.Returns.{StackLoad}
-use Rattle.rv_code.specs.Sites.{Site, IsPlacedAt, CodeHas, StandsIn}
-use Rattle.rv_code.specs.InstParts.{number_slots, address_slots, half_load_slots, load_line_slots, load_slots, stack_load_slots, far_step_slots, stack_step_slots}
-use Rattle.rv_code.specs.Slots.{Slot, Op, size_of}
-use Rattle.rv_code.proofs.OperationActs.{IsIntegerLoad, has_integer_load, plus_none, set_own, load_acts, load_acts_wide, load_sized, no_format}
-use Rattle.rv_code.proofs.Courses.{size_append, stands_split, shorter, based_goes, address_even, InCourse, Comes, comes_on, comes_here, course_before, writes, sets_comes, rrr_writes, rri_writes, number_comes}
 use Rattle.rv_code.proofs.Registers.{are_values_set, but_set, spare_set, reads_back, reads_other}
+use Rattle.std.specs.FinMap as map
+use Rattle.rv_ops.specs.declared.memory.StoreOP.TheVariants as stores
+use Rattle.rv_machine.specs.declared.ops.LoadOp.TheVariants as load
 
 -- ---- what loads read and stores write of memories that are the same, and the code that a store leaves as it was.
 
@@ -42,8 +20,6 @@ byte_inserted : (mem : Memory) (k b a : ℕ) → byte (map.insert mem k b) a ≡
 byte_inserted mem k b a =
     ap (λ o. unwrap_or o 0) (get-insert nat_cmp_total mem k b a ∙ ap (λ c. cond c (Some b) (map.get mem a)) (unsigned_tied a k))
     ∙ elim (a == k) as (λ c. unwrap_or (cond c (Some b) (map.get mem a)) 0 ≡ cond c b (byte mem a)) [ true ↦ refl | false ↦ refl ]
-
--- ---- stores
 
 -- the same bytes, stored at the same address of memories that are the same
 pub store_same : (m w : Memory) (at : ℕ) (bytes : List ℕ) → ((a : ℕ) → byte m a ≡ byte w a) → (a : ℕ) → byte (store m at bytes) a ≡ byte (store w at bytes) a
@@ -74,8 +50,6 @@ put_same v w at bytes same = record { regs = same.regs; mem = store_same v.mem w
 pub put_values : (v : Values) (at : ℕ) (bytes : List ℕ) → AreValues v → AllByRecursion (λ b. b < 256) bytes → AreValues (put_bytes v at bytes)
 put_values v at bytes h fits = record { count = h.count; fits = h.fits; bytes = store_fits v.mem at bytes fits h.bytes }
 
--- ---- what a store writes
-
 pub stored_bytes : (op : StoreOP) (x : ℕ) → AllByRecursion (λ b. b < 256) (store_bytes (store_op op) x)
 stored_bytes stores.Sb x = search rules
 stored_bytes _ x = search (rules, arith)
@@ -84,20 +58,13 @@ pub stored_length : (op : StoreOP) (x : ℕ) → length (store_bytes (store_op o
 stored_length stores.Sb x = refl
 stored_length _ x = refl
 
--- ---- loads
-
 pub loaded_same : (m w : Memory) (at n : ℕ) → ((a : ℕ) → byte m a ≡ byte w a) → load_bytes m at n ≡ load_bytes w at n
 loaded_same m w at zero same = refl
 loaded_same m w at (suc n) same = λ i. loaded_same m w at n same i + same (wrap (at + n)) i * 2 ^ (8 * n)
 
 pub load_same : (op : LoadOp) (m w : Memory) (at : ℕ) → ((a : ℕ) → byte m a ≡ byte w a) → load_result op m at ≡ load_result op w at
-load_same load.Lb m w at same = ap (sign_extend w8) (loaded_same m w at 1 same)
-load_same load.Lh m w at same = ap (sign_extend w16) (loaded_same m w at 2 same)
-load_same load.Lw m w at same = ap (sign_extend w32) (loaded_same m w at 4 same)
-load_same load.Lbu m w at same = loaded_same m w at 1 same
-load_same load.Lhu m w at same = loaded_same m w at 2 same
-load_same load.Lwu m w at same = loaded_same m w at 4 same
-load_same load.Ld m w at same = loaded_same m w at 8 same
+load_same load.Lb m w at same = cc (loaded_same m w at 1 same, loaded_same m w at 2 same, loaded_same m w at 4 same, loaded_same m w at 8 same)
+load_same _ m w at same = cc (loaded_same m w at 1 same, loaded_same m w at 2 same, loaded_same m w at 4 same, loaded_same m w at 8 same)
 
 -- eight bytes, or fewer, are below 2 ^ 64
 pub eight_fit : (mem : Memory) (at : ℕ) → ((a : ℕ) → byte mem a < 256) → load_bytes mem at 8 < 2 ^ 64
@@ -168,8 +135,6 @@ pub stack_apart : (loads : List StackLoad) → AreLoadable loads → AreOthers 2
 stack_apart [] h = tt
 stack_apart (l ∷ loads) h = (h.0.register.apart, stack_apart loads h.1)
 
--- ---- values
-
 -- the same as these, x30 and x31 apart
 pub record IsAs (u w : Values) : Type 0 where
   pub same : SameBut [] u w
@@ -184,12 +149,7 @@ as_set : (u w : Values) (n x : ℕ) → n < 32 → x < 2 ^ 64 → AreValues w �
 as_set u w n x lt fits hw k = record { same = but_set u w n x k.are_values hw lt k.same; are_values = are_values_set u n x k.are_values lt fits }
 
 spare_holds : (u w : Values) (x : ℕ) → AreValues w → IsAs u w → HasSpare x u (set_reg w 31 x)
-spare_holds u w x hw k = record {
-  as_these = record { same = spare_set u w 31 x (lit≤ tt) k.same; are_values = k.are_values };
-  spare = reads_back w 31 x hw (lit< tt) (lit< tt);
-}
-
--- ---- one load
+spare_holds u w x hw k = record { as_these = record { same = spare_set u w 31 x (lit≤ tt) k.same; are_values = k.are_values }; spare = reads_back w 31 x hw (lit< tt) (lit< tt) }
 
 -- a load of integers sets its register
 pub integer_loaded : (op : LoadOP) (rd a : ℕ) (v : Values) → IsIntegerLoad op → loaded op rd a v ≡ set_reg v rd (load_result (load_op op) v.mem a)
@@ -199,73 +159,52 @@ integer_loaded op rd a v integer = ap (λ (c : Bool). if c then v else set_reg v
 abbrev read_at : LoadOP → ℕ → ℤ → Values → ℕ
 read_at op r o v = load_result (load_op op) v.mem (wrap (reg v r + low64 o))
 
-read_same : {u w : Values} (op : LoadOP) (r : ℕ) (o : ℤ) → r < 30 → SameBut [] u w → read_at op r o w ≡ read_at op r o u
-read_same {u} {w} op r o usable same = sym (load_same (load_op op) u.mem w.mem (wrap (reg u r + low64 o)) same.mem ∙ (λ i. load_result (load_op op) w.mem (wrap (same.regs r usable refl i + low64 o))))
-
-near_comes : {site : Site} {offset size : ℕ} {u : Values} {s : State} (rd r : ℕ) (op : LoadOP) (o : ℤ) → IsIntegerLoad op → rd < 30 → r < 30 → CodeHas site offset (short_load site.context.flags op rd r o ∷ []) → InCourse site offset ((short_load site.context.flags op rd r o).len + size) (IsAs u) s → Comes site (offset + (short_load site.context.flags op rd r o).len) size (IsAs (set_reg u rd (read_at op r o u))) s
-near_comes {site} {u = u} {s} rd r op o integer usable based has k =
-    let flags = site.context.flags in
-    let d = short_load flags op rd r o in
-    let x = read_at op r o u in
-    let fits = load_fits (load_op op) u.mem (wrap (reg u r + low64 o)) k.values.are_values.bytes in
-    writes (IsAs (set_reg u rd x)) d rd x (load_sized flags op rd r o) has
-    (load_acts flags op rd r o s integer k.is_state ∙ ap (λ y. Some (at (wrap (s.pc + d.len)) (set_reg s.values rd y))) (read_same op r o based k.values.same))
-    (omega arith) fits k (as_set u s.values rd x (omega arith) fits k.is_state.values k.values)
-
--- its address is in x31
-last_comes : {site : Site} {offset size a : ℕ} {u : Values} {s : State} (rd : ℕ) (op : LoadOP) → IsIntegerLoad op → rd < 30 → a < 2 ^ 64 → CodeHas site offset (decoded_load op rd 31 (pos 0) ∷ []) → InCourse site offset (4 + size) (HasSpare a u) s → Comes site (offset + 4) size (IsAs (set_reg u rd (load_result (load_op op) u.mem a))) s
-last_comes {site} {a = a} {u} {s} rd op integer usable small has k =
-    let d = decoded_load op rd 31 (pos 0) in
+-- a load whose address is known sets its register
+set_read : {site : Site} {offset size : ℕ} {Such : Values → Type 0} {u : Values} {s : State} (a : ℕ) (d : Decoded) (rd y : ℕ) (op : LoadOP) → HasSize d → rd < 30 → act d s ≡ Some (at (wrap (s.pc + d.len)) (set_reg s.values rd y)) → y ≡ load_result (load_op op) u.mem a → IsAs u s.values →
+    CodeHas site offset (d ∷ []) → InCourse site offset (d.len + size) Such s → Comes site (offset + d.len) size (IsAs (set_reg u rd (load_result (load_op op) u.mem a))) s
+set_read {u = u} {s} a d rd y op sized usable acts same these has k =
     let x = load_result (load_op op) u.mem a in
-    let fits = load_fits (load_op op) u.mem a k.values.as_these.are_values.bytes in
-    let there : wrap (reg s.values 31 + low64 (pos 0)) ≡ a = ap (λ n. wrap (n + low64 (pos 0))) k.values.spare ∙ plus_none a small in
-    let read : load_result (load_op op) s.values.mem (wrap (reg s.values 31 + low64 (pos 0))) ≡ x = ap (load_result (load_op op) s.values.mem) there ∙ sym (load_same (load_op op) u.mem s.values.mem a k.values.as_these.same.mem) in
-    writes (IsAs (set_reg u rd x)) d rd x (record { even = refl; some = lit< tt; few = lit≤ tt }) has
-    (load_acts_wide op rd 31 (pos 0) s integer ∙ (λ i. Some (at (wrap (s.pc + 4)) (set_reg s.values rd (read i)))))
-    (omega arith) fits k (as_set u s.values rd x (omega arith) fits k.is_state.values k.values.as_these)
+    let fits = load_fits (load_op op) u.mem a these.are_values.bytes in
+    writes (IsAs (set_reg u rd x)) d rd x sized has (acts ∙ ap (λ y. Some (at (wrap (s.pc + d.len)) (set_reg s.values rd y))) same) (omega arith) fits k (as_set u s.values rd x (omega arith) fits k.is_state.values these)
 
--- a load at an address that is computed in x31
-abbrev far_load : IsaFlags → ℕ → LoadOP → ℕ → ℤ → List Slot
-far_load flags rd op r o = address_slots flags 31 (Based r o) ++ Op (decoded_load op rd 31 (pos 0)) ∷ []
+-- a machine goes through slots, and its values are then such
+abbrev Through : Site → (allocated offset size : ℕ) → List Slot → (Values → Type 0) → (Values → Type 0) → State → Type 0
+Through site allocated offset size slots Such After s = StandsIn site allocated offset slots → InCourse site offset (size_of slots + size) Such s → Comes site (offset + size_of slots) size After s
 
-far_comes : {site : Site} {offset size : ℕ} {u : Values} {s : State} (allocated rd r : ℕ) (op : LoadOP) (o : ℤ) → IsIntegerLoad op → rd < 30 → r < 30 → StandsIn site allocated offset (far_load site.context.flags rd op r o) → InCourse site offset (size_of (far_load site.context.flags rd op r o) + size) (IsAs u) s → Comes site (offset + size_of (far_load site.context.flags rd op r o)) size (IsAs (set_reg u rd (read_at op r o u))) s
-far_comes {site} {offset} {size} {u} {s} allocated rd r op o integer usable based stands k =
-    let flags = site.context.flags in
-    let slots = address_slots flags 31 (Based r o) in
-    let d = decoded_load op rd 31 (pos 0) in
-    let n = size_of slots in
-    let a = wrap (reg u r + low64 o) in
-    let long : size_of (far_load flags rd op r o) ≡ n + 4 = size_append slots (Op d ∷ []) in
-    let over : offset + n + 4 ≡ offset + size_of (far_load flags rd op r o) = omega arith in
-    let both = stands_split site allocated offset slots (Op d ∷ []) stands in
-    let k0 = course_before (n + (4 + size)) k (omega arith) in
-    let there : wrap (reg s.values r + low64 o) ≡ a = (λ i. wrap (sym (k.values.same.regs r based refl) i + low64 o)) in
-    let goes = based_goes allocated 31 r o (lit< tt) (lit< tt) (λ e. absurd (omega arith)) k.is_state (shorter n k0.here (omega arith)) both.0 in
-    subst (λ m. Comes site m size (IsAs (set_reg u rd (read_at op r o u))) s) over
-    (comes_on
-    (sets_comes (HasSpare (wrap (reg s.values r + low64 o)) u) n 31 (wrap (reg s.values r + low64 o)) (address_even flags 31 (Based r o)) (lit< tt) (omega arith) goes k0 (spare_holds u s.values (wrap (reg s.values r + low64 o)) k.is_state.values k.values))
-    (λ t k1. last_comes rd op integer usable (omega arith) both.1.0 (subst (λ b. InCourse site (offset + n) (4 + size) (HasSpare b u) t) there k1)))
+-- through an operation alone, and through slots and others after them
+through_one : {site : Site} {offset size : ℕ} {Such After : Values → Type 0} {s : State} (allocated : ℕ) (d : Decoded) → (CodeHas site offset (d ∷ []) → InCourse site offset (d.len + size) Such s → Comes site (offset + d.len) size After s) → Through site allocated offset size (Op d ∷ []) Such After s
+through_one {site} {offset} {size} {After = After} {s} allocated d on stands k =
+    let over : offset + d.len ≡ offset + (d.len + 0) = omega arith in
+    subst (λ n. Comes site n size After s) over (on stands.0 (course_before (d.len + size) k (omega arith)))
+
+through_both : {site : Site} {offset size : ℕ} {Such Mid After : Values → Type 0} {s : State} (allocated : ℕ) (first more : List Slot) → Through site allocated offset (size_of more + size) first Such Mid s →
+    ((t : State) → Through site allocated (offset + size_of first) size more Mid After t) → Through site allocated offset size (first ++ more) Such After s
+through_both {site} {offset} {size} {After = After} {s} allocated first more one two stands k =
+    let long = size_append first more in
+    let over : offset + size_of first + size_of more ≡ offset + size_of (first ++ more) = omega arith in
+    let both = stands_split site allocated offset first more stands in
+    subst (λ n. Comes site n size After s) over (comes_on (one both.0 (course_before (size_of first + (size_of more + size)) k (omega arith))) (λ t k1. two t both.1 k1))
 
 -- a load that can't trap sets its register, and beside it x31 at most
-load_comes : {site : Site} {offset size : ℕ} {u : Values} {s : State} (allocated rd r : ℕ) (op : LoadOP) (o : ℤ) → IsIntegerLoad op → rd < 30 → r < 30 → StandsIn site allocated offset (load_slots site.context.flags rd op None (Based r o)) → InCourse site offset (size_of (load_slots site.context.flags rd op None (Based r o)) + size) (IsAs u) s →
-    Comes site (offset + size_of (load_slots site.context.flags rd op None (Based r o))) size (IsAs (set_reg u rd (read_at op r o u))) s
-load_comes {site} {offset} {size} {u} {s} allocated rd r op o integer usable based =
-    let Goal = λ (xs : List Slot). StandsIn site allocated offset xs → InCourse site offset (size_of xs + size) (IsAs u) s → Comes site (offset + size_of xs) size (IsAs (set_reg u rd (read_at op r o u))) s in
-    let near = short_load site.context.flags op rd r o in
-    let far = decoded_load op rd 31 (pos 0) in
-    elim (is_near o) as (λ c. Goal (if c then Op near ∷ [] else address_slots site.context.flags 31 (Based r o) ++ [] ++ Op far ∷ [])) [
-      | true ↦ λ stands k. subst (λ m. Comes site m size (IsAs (set_reg u rd (read_at op r o u))) s) (omega arith) (near_comes rd r op o integer usable based stands.0 (course_before (near.len + size) k (omega arith)))
-      | false ↦ subst (λ xs. Goal (xs ++ Op far ∷ [])) (sym (append-nil (address_slots site.context.flags 31 (Based r o)))) (far_comes allocated rd r op o integer usable based)
-    ]
-
 pub line_comes : {site : Site} {offset size : ℕ} {u : Values} {s : State} (allocated rd r : ℕ) (op : LoadOP) (o : ℤ) → IsIntegerLoad op → rd < 30 → r < 30 → StandsIn site allocated offset (load_line_slots site.context.flags rd op None (Based r o)) → InCourse site offset (size_of (load_line_slots site.context.flags rd op None (Based r o)) + size) (IsAs u) s →
     Comes site (offset + size_of (load_line_slots site.context.flags rd op None (Based r o))) size (IsAs (set_reg u rd (read_at op r o u))) s
 line_comes {site} {offset} {size} {u} {s} allocated rd r op o integer usable based =
-    subst (λ xs. StandsIn site allocated offset xs → InCourse site offset (size_of xs + size) (IsAs u) s → Comes site (offset + size_of xs) size (IsAs (set_reg u rd (read_at op r o u))) s)
-    (ap (λ (c : Bool). if c then load_slots site.context.flags rd op None (Based r o) else half_load_slots site.context.flags rd None (Based r o)) (sym (has_integer_load site.context.flags op integer)))
-    (load_comes allocated rd r op o integer usable based)
-
--- ---- loads one after the other
+    let flags = site.context.flags in
+    let Goal = λ (xs : List Slot). Through site allocated offset size xs (IsAs u) (IsAs (set_reg u rd (read_at op r o u))) s in
+    let slots = address_slots flags 31 (Based r o) in
+    let near = short_load flags op rd r o in
+    let far = decoded_load op rd 31 (pos 0) in
+    let long : HasSize far = record { even = refl; some = lit< tt; few = lit≤ tt } in
+    let a = wrap (reg u r + low64 o) in
+    let at_once : Goal (Op near ∷ []) = through_one allocated near (λ has k.
+    set_read a near rd (read_at op r o s.values) op (load_sized flags op rd r o) usable (load_acts flags op rd r o s integer k.is_state) (sym (load_same (load_op op) u.mem s.values.mem a k.values.same.mem ∙ (λ i. load_result (load_op op) s.values.mem (wrap (k.values.same.regs r based refl i + low64 o))))) k.values has k) in
+    let at_last : Goal (slots ++ Op far ∷ []) = through_both {Mid = HasSpare a u} allocated slots (Op far ∷ [])
+    (λ stands k. sets_comes (HasSpare a u) (size_of slots) 31 a (address_even flags 31 (Based r o)) (lit< tt) (omega arith)
+    (subst (λ b. Sets flags (size_of slots) s 31 b) (λ i. wrap (sym (k.values.same.regs r based refl) i + low64 o)) (based_goes allocated 31 r o (lit< tt) (lit< tt) (λ e. absurd (omega arith)) k.is_state (shorter (size_of slots) k.here (omega arith)) stands)) k (spare_holds u s.values a k.is_state.values k.values))
+    (λ t. through_one allocated far (λ has k. set_read a far rd (load_result (load_op op) t.values.mem (wrap (reg t.values 31 + low64 (pos 0)))) op long usable (load_acts_wide op rd 31 (pos 0) t integer)
+    (ap (load_result (load_op op) t.values.mem) (ap (λ n. wrap (n + low64 (pos 0))) k.values.spare ∙ plus_none a (omega arith)) ∙ sym (load_same (load_op op) u.mem t.values.mem a k.values.as_these.same.mem)) k.values.as_these has k)) in
+    subst Goal (ap (λ (c : Bool). if c then load_slots flags rd op None (Based r o) else half_load_slots flags rd None (Based r o)) (sym (has_integer_load flags op integer)))
+    (elim (is_near o) as (λ c. Goal (if c then Op near ∷ [] else slots ++ [] ++ Op far ∷ [])) [ true ↦ at_once | false ↦ subst (λ xs. Goal (xs ++ Op far ∷ [])) (sym (append-nil slots)) at_last ])
 
 -- each counts from the same stack pointer
 pub loads_come : {site : Site} {size : ℕ} (allocated sp : ℕ) (loads : List StackLoad) (offset : ℕ) (u : Values) (s : State) → AreLoadable loads → reg u 2 ≡ sp → StandsIn site allocated offset (stack_load_slots site.context.flags loads) → InCourse site offset (size_of (stack_load_slots site.context.flags loads) + size) (IsAs u) s →
@@ -273,44 +212,14 @@ pub loads_come : {site : Site} {size : ℕ} (allocated sp : ℕ) (loads : List S
 loads_come {site} {size} allocated sp [] offset u s h from stands k = subst (λ n. Comes site n size (IsAs u) s) (omega arith) (comes_here (course_before size k (omega arith)))
 loads_come {site} {size} allocated sp (l ∷ loads) offset u s h from stands k =
     let flags = site.context.flags in
-    let first = load_line_slots flags l.register l.op None (Based 2 l.offset) in
-    let rest = stack_load_slots flags loads in
-    let long : size_of (first ++ rest) ≡ size_of first + size_of rest = size_append first rest in
-    let over : offset + size_of first + size_of rest ≡ offset + size_of (first ++ rest) = omega arith in
-    let both = stands_split site allocated offset first rest stands in
-    let x = load_result (load_op l.op) u.mem (wrap (sp + low64 l.offset)) in
-    let is = integer_loaded l.op l.register (wrap (sp + low64 l.offset)) u h.0.integer in
-    let one = line_comes allocated l.register 2 l.op l.offset h.0.integer h.0.register.usable (lit< tt) both.0 (course_before (size_of first + (size_of rest + size)) k (omega arith)) in
-    subst (λ n. Comes site n size (IsAs (stack_loaded sp (l ∷ loads) u)) s) over
-    (subst (λ w. Comes site (offset + size_of first + size_of rest) size (IsAs (stack_loaded sp loads w)) s) (sym is)
-    (comes_on (subst (λ b. Comes site (offset + size_of first) (size_of rest + size) (IsAs (set_reg u l.register (load_result (load_op l.op) u.mem (wrap (b + low64 l.offset))))) s) from one)
-    (λ t k1. loads_come allocated sp loads (offset + size_of first) (set_reg u l.register x) t h.1 (reads_other u l.register 2 x (λ e. h.0.register.apart (sym e)) ∙ from) both.1 k1)))
-
--- ---- the stack pointer
+    let x = read_at l.op 2 l.offset u in
+    let is : loaded l.op l.register (wrap (sp + low64 l.offset)) u ≡ set_reg u l.register x = integer_loaded l.op l.register (wrap (sp + low64 l.offset)) u h.0.integer ∙ (λ i. set_reg u l.register (load_result (load_op l.op) u.mem (wrap (sym from i + low64 l.offset)))) in
+    subst (λ w. Comes site (offset + size_of (stack_load_slots flags (l ∷ loads))) size (IsAs (stack_loaded sp loads w)) s) (sym is)
+    (through_both allocated (load_line_slots flags l.register l.op None (Based 2 l.offset)) (stack_load_slots flags loads) (line_comes allocated l.register 2 l.op l.offset h.0.integer h.0.register.usable (lit< tt))
+    (λ t. loads_come allocated sp loads (offset + size_of (load_line_slots flags l.register l.op None (Based 2 l.offset))) (set_reg u l.register x) t h.1 (reads_other u l.register 2 x (λ e. h.0.register.apart (sym e)) ∙ from)) stands k)
 
 abbrev step_by : IsaFlags → ℤ → Bool → Bool → List Slot
-step_by flags z none near =
-    if none then [] else
-    if near then Op (short_rri flags Addi 2 2 z) ∷ [] else
-    far_step_slots flags z
-
--- by a number in x31
-far_steps : {site : Site} {offset size : ℕ} {u : Values} {s : State} (allocated : ℕ) (z : ℤ) → StandsIn site allocated offset (far_step_slots site.context.flags z) → InCourse site offset (size_of (far_step_slots site.context.flags z) + size) (IsAs u) s →
-    Comes site (offset + size_of (far_step_slots site.context.flags z)) size (IsAs (set_reg u 2 (wrap (reg u 2 + low64 z)))) s
-far_steps {site} {offset} {size} {u} {s} allocated z stands k =
-    let flags = site.context.flags in
-    let number = number_slots flags 31 z in
-    let d = short_rrr flags Add 2 2 31 in
-    let n = wrap (low64 z) in
-    let x = wrap (reg u 2 + low64 z) in
-    let long : size_of (number ++ Op d ∷ []) ≡ size_of number + (d.len + 0) = size_append number (Op d ∷ []) in
-    let over : offset + size_of number + d.len ≡ offset + size_of (number ++ Op d ∷ []) = omega arith in
-    let both = stands_split site allocated offset number (Op d ∷ []) stands in
-    let sum : wrap (reg u 2 + n) ≡ x = omega arith in
-    let k0 = course_before (size_of number + (d.len + size)) k (omega arith) in
-    subst (λ m. Comes site m size (IsAs (set_reg u 2 x)) s) over
-    (comes_on (number_comes (HasSpare n u) allocated 31 n z (lit< tt) (lit< tt) refl both.0 k0 (spare_holds u s.values n k.is_state.values k.values))
-    (λ t k1. rrr_writes (IsAs (set_reg u 2 x)) Add 2 2 31 x both.1.0 ((λ i. wrap (sym (k1.values.as_these.same.regs 2 (lit< tt) refl) i + k1.values.spare i)) ∙ sum) (lit< tt) k1 (as_set u t.values 2 x (lit< tt) (omega arith) k1.is_state.values k1.values.as_these)))
+step_by flags z none near = if none then [] else if near then Op (short_rri flags Addi 2 2 z) ∷ [] else far_step_slots flags z
 
 -- it rises or falls by a number, and beside it x31 changes at most
 pub step_comes : {site : Site} {offset size : ℕ} {u : Values} {s : State} (allocated : ℕ) (z : ℤ) → StandsIn site allocated offset (stack_step_slots site.context.flags z) → InCourse site offset (size_of (stack_step_slots site.context.flags z) + size) (IsAs u) s →
@@ -318,15 +227,17 @@ pub step_comes : {site : Site} {offset size : ℕ} {u : Values} {s : State} (all
 step_comes {site} {offset} {size} {u} {s} allocated z = on (low64 z == 0) (is_near z) refl
   where
     on : (none near : Bool) → (low64 z == 0) ≡ none → StandsIn site allocated offset (step_by site.context.flags z none near) → InCourse site offset (size_of (step_by site.context.flags z none near) + size) (IsAs u) s → Comes site (offset + size_of (step_by site.context.flags z none near)) size (IsAs (set_reg u 2 (wrap (reg u 2 + low64 z)))) s
-    on true near test stands k =
+    on true near test = λ stands k.
         let none : low64 z ≡ 0 = eqb-true (low64 z) 0 test in
         let kept : set_reg u 2 (wrap (reg u 2 + low64 z)) ≡ u = (λ i. set_reg u 2 (wrap (reg u 2 + none i))) ∙ ap (set_reg u 2) (plus_none (reg u 2) (k.values.are_values.fits 2)) ∙ set_own u 2 in
         subst (λ (w : Values). Comes site (offset + 0) size (IsAs w) s) (sym kept)
         (subst (λ m. Comes site m size (IsAs u) s) (omega arith) (comes_here (course_before size k (omega arith))))
-    on false true test stands k =
-        let d = short_rri site.context.flags Addi 2 2 z in
+    on false true test =
         let x = wrap (reg u 2 + low64 z) in
-        subst (λ m. Comes site m size (IsAs (set_reg u 2 x)) s) (omega arith)
-        (rri_writes (IsAs (set_reg u 2 x)) Addi 2 2 z x refl stands.0 (λ i. wrap (sym (k.values.same.regs 2 (lit< tt) refl) i + low64 z)) (lit< tt) (omega arith) (course_before (d.len + size) k (omega arith))
-        (as_set u s.values 2 x (lit< tt) (omega arith) k.is_state.values k.values))
-    on false false test stands k = far_steps allocated z stands k
+        through_one allocated (short_rri site.context.flags Addi 2 2 z) (λ has k. rri_writes (IsAs (set_reg u 2 x)) Addi 2 2 z x refl has (λ i. wrap (sym (k.values.same.regs 2 (lit< tt) refl) i + low64 z)) (lit< tt) (omega arith) k (as_set u s.values 2 x (lit< tt) (omega arith) k.is_state.values k.values))
+    on false false test =
+        let n = wrap (low64 z) in
+        let x = wrap (reg u 2 + low64 z) in
+        let sum : wrap (reg u 2 + n) ≡ x = omega arith in
+        through_both allocated (number_slots site.context.flags 31 z) (Op (short_rrr site.context.flags Add 2 2 31) ∷ []) (λ stands k. number_comes (HasSpare n u) allocated 31 n z (lit< tt) (lit< tt) refl stands k (spare_holds u s.values n k.is_state.values k.values))
+        (λ t. through_one allocated (short_rrr site.context.flags Add 2 2 31) (λ has k. rrr_writes (IsAs (set_reg u 2 x)) Add 2 2 31 x has ((λ i. wrap (sym (k.values.as_these.same.regs 2 (lit< tt) refl) i + k.values.spare i)) ∙ sum) (lit< tt) k (as_set u t.values 2 x (lit< tt) (omega arith) k.is_state.values k.values.as_these)))

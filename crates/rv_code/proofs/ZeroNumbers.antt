@@ -1,17 +1,7 @@
 -- The numbers of a count of zeros: which bit is the next, and how many zeros are left.
 use Rattle.std.proofs.Common.{◌≡◌, ℕ, zero, suc, ◌+◌, ◌-◌, ◌*◌, ◌/◌, ◌%◌, ◌^◌, ◌<◌, ◌≤◌, pos, Bool, true, false, arith, refl, ap, subst, ◌∙◌, lit≤, ◌==◌, if◌then◌else◌}
-use Rattle.std.specs.Int.{bit_at}
-use Rattle.std.proofs.lemmas.Nat.{pow_below}
-use Rattle.std.proofs.Math.Nat.{pow-suc, div-div-eq-div-mul}
-use Rattle.rv_machine.specs.State.{wrap}
-use Rattle.rv_ops.specs.Operations.{immediate_of, shift_limit}
-use Rattle.rv_inst.specs.Bits.{leading_zeros, trailing_zeros, zeros}
-use Rattle.rv_inst.specs.Meaning.{alu_rri}
-use Rattle.rv_inst.specs.Rules.{is_beyond}
-use Rattle.rv_inst.specs.Sizes.{bit_shift}
+use Rattle.rv_code.proofs.Words.{alu_rri, bit_at, bit_shift, div-div-eq-div-mul, leading_zeros, pow-suc, pow_below, trailing_zeros, wrap, zeros}
 use Rattle.rv_code.proofs.Registers.{half_power}
-
--- ---- numbers
 
 -- which bit is the next, where so many are left and one more: the highest of them or the lowest
 abbrev pub index_of : Bool → ℕ → ℕ → ℕ
@@ -43,10 +33,6 @@ power_up bits left lt =
 pub power_next : (leading : Bool) (bits left : ℕ) → left < bits → alu_rri (bit_shift leading) (2 ^ index_of leading bits left) (pos 1) ≡ power_of leading bits left
 power_next true bits left lt = refl
 power_next false bits left lt = ap wrap (power_up bits left lt)
-
-pub in_range : (leading : Bool) → is_beyond (shift_limit (immediate_of (bit_shift leading))) (pos 1) ≡ false
-in_range true = refl
-in_range false = refl
 
 -- the zeros where one more bit is left
 pub zeros_more : (leading : Bool) (bits left n : ℕ) → left < bits → zeros_left leading bits (suc left) n ≡ (if bit_at n (index_of leading bits left) == 1 then 0 else suc (zeros_left leading bits left n))

@@ -31,7 +31,8 @@ use Rattle.rv_ops.specs.Memory.{is_float_load}
 use Rattle.rv_inst.specs.Context.{Context}
 use Rattle.rv_inst.specs.Returns.{StackLoad, restores, frame_above, result_loads, loads_unless}
 use Rattle.rv_inst.specs.Records.{site_event}
-use Rattle.rv_inst.specs.Sizes.{table_space, fall, call_size, return_size, results_space}
+use Rattle.rv_inst.specs.Limits.{table_space}
+use Rattle.rv_inst.specs.Sizes.{fall, results_space}
 use Rattle.rv_inst.specs.UnitWords.{UnitWord, unit_of}
 use Rattle.rv_inst.specs.declared.inst.Inst.{Inst}
 use Rattle.rv_inst.specs.declared.inst.Inst.TheVariants.{Nop0, Nop4, EBreak, SequencePoint, Args, Rets, DummyUse, EmitIsland, RawData, Lui, Auipc, LoadInlineConst, AluRRR, AluRRImm12, Mov, MovFromPReg, Extend, Select, Load, Store, LoadAddr, LabelAddress, Ret, TrapIf, Jal, CondBr, BrTable, Udf, Jalr, Popcnt, Cltz, Brev8, StackProbeLoop, LoadExtNameGot, LoadExtNameNear, LoadExtNameFar, Call, CallInd, ReturnCall, ReturnCallInd, Unwind}
@@ -60,7 +61,7 @@ use Rattle.rv_code.specs.Pieces.{slots_of}
 use Rattle.rv_code.specs.Probes.{probe_turn}
 use Rattle.rv_code.specs.Traps.{trap_if_pieces}
 use Rattle.rv_code.specs.Tables.{jump_slots}
-use Rattle.rv_code.specs.Slots.{AddressOf, SlotOf, Target, Label, Slot, Op, Aim, Data, Notes, Names, Fill, Address, CallTo, Part, Ask, Slots}
+use Rattle.rv_code.specs.Slots.{AddressOf, SlotOf, Target, Label, Slot, Op, Aim, Data, Notes, Names, Fill, Address, CallTo, Part, Ask, Slots, size_of}
 
 -- ---- jumps
 
@@ -239,6 +240,10 @@ stack_step_slots flags z =
 abbrev pub return_slots : IsaFlags → FrameLayout → ℕ → List Slot
 return_slots flags frame arguments = stack_load_slots flags (restores frame) ++ stack_step_slots flags (pos (frame_above frame arguments))
 
+-- in so many bytes
+abbrev pub return_size : IsaFlags → FrameLayout → ℕ → ℕ
+return_size flags frame arguments = size_of (return_slots flags frame arguments)
+
 -- to a symbol by the distance to it, by way of a register; another one is the address after it
 abbrev pub call_to : ℕ → ℕ → ExternalName → Slot
 call_to link tmp name = CallTo name (λ d. decoded (Base base.Auipc) tmp 0 0 (upper_of d) ∷ decoded_jalr link tmp (lower_of d) ∷ [])
@@ -255,6 +260,10 @@ t0_slots flags frame arguments = return_slots flags frame arguments ++ Op (short
 -- the stack pointer falls by what the callee took away
 abbrev pub after_call : IsaFlags → ℕ → List Slot
 after_call flags popped = stack_step_slots flags (fall popped)
+
+-- after the words of a call, which are so long: how long that is in all
+abbrev pub call_size : IsaFlags → ℕ → ℕ → ℕ
+call_size flags jump popped = jump + size_of (after_call flags popped)
 
 -- the record of a call of so many bytes that may be patched, where it is one
 abbrev pub patch_notes : Bool → ℕ → List Slot

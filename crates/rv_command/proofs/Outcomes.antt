@@ -91,7 +91,7 @@ refused_job job errors.TooLarge is = is
 pub runs_fully : (c : Call) (returned : Outcome) → Ended c returned → RunsFully c returned
 runs_fully c (ends.Done code) ended =
     let (request, is, job, has, means) = ended.1 in
-    let (accepted, reported, runs, full, operations, full_operations, jumps, reach, ranges) = means.0 in
+    let (accepted, reported, runs, full, operations, full_operations, ranges) = means.0 in
     (request, is, job, has, full)
 runs_fully c ends.Usage ended = tt
 runs_fully c ends.TooLong ended = tt
@@ -222,7 +222,7 @@ settles_refused c (ends.Refused other) ended fine request job error is known due
     inl (ap (λ (e : EmitError). ends.Refused e) same)
 settles_refused c (ends.Done code) ended fine request job error is known due =
     let (own, words, mine, has, means) = ended.1 in
-    let (found, reported, runs, full, operations, full_operations, jumps, reach, ranges) = means.0 in
+    let (found, reported, runs, full, operations, full_operations, ranges) = means.0 in
     let jobs : mine ≡ job = job_is c request own job mine (one_request c.words request own is words) known has in
     absurd (cc (ap (λ (j : Job). refusal j) jobs))
 

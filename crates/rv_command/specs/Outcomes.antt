@@ -21,8 +21,6 @@ use Rattle.rv_asm.specs.Refusal.{refusal}
 use Rattle.rv_asm.specs.Reported.{Reported}
 use Rattle.rv_asm.specs.Simulation.{RunsAsListed, HasOperations}
 use Rattle.rv_asm.specs.FullSimulation.{FullRuns, HasFullOperations}
-use Rattle.rv_asm.specs.Jumps.{HasJumps}
-use Rattle.rv_asm.specs.Reach.{InReach}
 use Rattle.rv_command.specs.Words.{asked}
 use Rattle.rv_command.specs.declared.words.Request.{Request}
 use Rattle.rv_command.specs.declared.words.Request.TheVariants.{Listing, Generated}
@@ -84,10 +82,10 @@ status_of ends.OutOfMemory = 8
 
 -- ---- what a job means
 
--- the code of a job that isn't refused, which reports its lines and runs as they say, in operations as short as they have, whose
--- jumps go straight where they can, with no island early, and its numbers in the ranges in which no other code has its report
+-- the code of a job that isn't refused, which reports its lines and runs as they say, in operations as short as they have, and its
+-- numbers in the ranges in which no other code has its report
 abbrev pub IsCodeOf : Job → Code → Type 0
-IsCodeOf job code = (refusal job ≡ None) × Reported job code × RunsAsListed job code × FullRuns job code × HasOperations job code × HasFullOperations job code × HasJumps job code × InReach job code × CodeFits code
+IsCodeOf job code = (refusal job ≡ None) × Reported job code × RunsAsListed job code × FullRuns job code × HasOperations job code × HasFullOperations job code × CodeFits code
 
 -- the job is refused so; never when out of memory
 abbrev pub IsRefused : Job → EmitError → Type 0

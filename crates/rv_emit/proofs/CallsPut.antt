@@ -1,24 +1,21 @@
 -- What calls put: the call, and the results that are loaded after it.
-use Rattle.rv_emit.proofs.Terms.{◌≡◌, ℕ, ◌+◌, ◌≤◌, false, List, [], ◌∷◌, ◌++◌, length, append-nil, append_assoc, Option, pos, ap, ◌∙◌, subst, arith, zero, suc, ◌*◌, ◌<◌, ⊎_elim, Bool, true, cond, take, Some, None, refl, sym, TryCallInfo, IsaFlags, Reg, number_of, Context, StackLoad, typed_loads}
-use Rattle.rv_emit.proofs.Terms.{location_loads, result_loads, result_load, line_space, call_size, results_space, inst_records, Inst, shape_of, bytes_of, allocated_of, reserve_of, reserve_from, CanReach, is_needed, MachRecord, PutsAlone, PutsParts, Buffer, IsSoundBuffer, AppendsWords, pending}
-use Rattle.rv_emit.proofs.Terms.{AppendsIsland, IslandIfNeeded, try_slots, stack_load_slots, loading_parts, load_line_slots, Slot, Ask, Slots, appends_words, words_long, both_alone, alone_long, get_or, count_by, IsSome, length-append, take_all, take_more, code_limit, CallRetPair, RetLocation}
-use Rattle.rv_emit.proofs.Terms.{IrType, LoadOP, Based, I8, I16, I32, I64, F16, F32, F64, load_of, is_on_stack, is_stacked, IsFineResult, AreFineResults, results_short, size_of}
-use Rattle.rv_emit.proofs.CallAppends.{reach_first, words_pending}
-use Rattle.rv_emit.proofs.MostBytes.{stacked_in, stacked_counted, some_few}
-use Rattle.rv_emit.proofs.CallSlots.{IsCall, call_few}
 use Rattle.rv_base.specs.declared.call.RetLocation.TheVariants.{Reg as InReg, Stack as OnStack}
-use Rattle.rv_emit.proofs.TailCallCode.{loads_both, loads_plain, loads_room}
+use Rattle.rv_emit.proofs.{ReachAfterInst.reach_within, ReachAfterInst.still_pending, MostBytes.stacked_in, MostBytes.some_few, CallSlots.IsCall, TailCallCode.loads_both, TailCallCode.loads_plain, TailCallCode.loads_room}
+use Rattle.rv_emit.proofs.Terms.{◌≡◌, ℕ, ◌+◌, ◌≤◌, false, List, [], ◌∷◌, ◌++◌, length, append-nil, append_assoc, Option, pos, ap, ◌∙◌, subst, arith, zero, suc, ◌*◌, ◌<◌, Bool, cond, take, Some, None, refl, sym, TryCallInfo, IsaFlags, Reg, number_of, Context, StackLoad, typed_loads, location_loads}
+use Rattle.rv_emit.proofs.Terms.{result_loads, result_load, line_space, results_space, Inst, shape_of, bytes_of, allocated_of, reserve_of, reserve_from, CanReach, is_needed, PutsAlone, PutsParts, Buffer, IsSoundBuffer, AppendsCode, pending, IslandIfNeeded, try_slots, stack_load_slots, loading_parts}
+use Rattle.rv_emit.proofs.Terms.{load_line_slots, Slot, Ask, Slots, plain_put, both_alone, alone_long, get_or, count_by, IsSome, length-append, take_all, take_more, CallRetPair, RetLocation, IrType, LoadOP, Based, I8, I16, I32, I64, F16, F32, F64, load_of, is_on_stack, is_stacked, IsFineResult}
+use Rattle.rv_emit.proofs.Terms.{AreFineResults, results_short}
 
 -- ---- a call without loads
 
-pub call_put : {context : Context} {inst : Inst} {jump popped : ℕ} {call : List Slot → List Slot} {loads : List StackLoad} {t : Option TryCallInfo} (last : List Slot) (old mid new : Buffer) → IsCall context inst jump popped call loads t →
+pub call_put : {context : Context} {inst : Inst} {own : ℕ} {call : List Slot → List Slot} {loads : List StackLoad} {t : Option TryCallInfo} (last : List Slot) (old mid new : Buffer) → IsCall context inst own call loads t →
     PutsAlone context.flags (call []) old mid → PutsAlone context.flags last mid new → PutsAlone context.flags (call last) old new
 call_put {context} {call = call} last old mid new is p q = subst (λ slots. PutsAlone context.flags slots old new) (is.joined last) (both_alone (call []) last old mid new is.first.plain p q)
 
 -- how long its words are at most
-pub call_few_after : {context : Context} {inst : Inst} {jump popped : ℕ} {call : List Slot → List Slot} {loads : List StackLoad} {t : Option TryCallInfo} (old mid : Buffer) → IsCall context inst jump popped call loads t →
+pub call_few_after : {context : Context} {inst : Inst} {own : ℕ} {call : List Slot → List Slot} {loads : List StackLoad} {t : Option TryCallInfo} (old mid : Buffer) → IsCall context inst own call loads t →
     PutsAlone context.flags (call []) old mid → length (bytes_of mid) ≤ length (bytes_of old) + 32
-call_few_after {context} {jump = jump} {popped} {call} old mid is p = omega (arith, alone_long (call []) old mid p, is.first.long, call_few context.flags jump popped is.few)
+call_few_after {call = call} old mid is p = omega (arith, alone_long (call []) old mid p, is.short, is.few)
 
 -- ---- a call with loads
 
@@ -34,23 +31,20 @@ pub record Begun (old mid : Buffer) : Type 0 where
   pub reach : CanReach (length (bytes_of mid)) (pending mid)
   pub sound : IsSoundBuffer mid
 
-begun : (size : ℕ) (recorded : List MachRecord) (old mid : Buffer) → size ≤ 32 → is_needed (length (bytes_of old)) line_space (pending old) ≡ false → AppendsWords size [] recorded old mid → Begun old mid
-begun size recorded old mid few calm w = record {
-  few = let long = words_long size [] recorded old mid w in omega arith;
-  few_pending = ap length (words_pending size [] recorded old mid w ∙ append-nil (pending old));
-  reserve = λ j. reserve_from (w.adds.places j) 0 (w.adds.registered j);
-  allocated = w.adds.allocated;
-  reach = reach_first size recorded old mid few calm w;
-  sound = w.adds.sound;
-}
-
-pub call_begins : {context : Context} {inst : Inst} {jump popped : ℕ} {call : List Slot → List Slot} {loads : List StackLoad} {t : Option TryCallInfo} (old mid : Buffer) → IsCall context inst jump popped call loads t →
+pub call_begins : {context : Context} {inst : Inst} {own : ℕ} {call : List Slot → List Slot} {loads : List StackLoad} {t : Option TryCallInfo} (old mid : Buffer) → IsCall context inst own call loads t →
     is_needed (length (bytes_of old)) line_space (pending old) ≡ false → PutsAlone context.flags (call []) old mid → Begun old mid
-call_begins {context} {inst} {jump} {popped} {call} old mid is calm p =
-    let start = length (bytes_of old) in
-    let long : size_of (call []) ≡ call_size context.flags jump popped = (let e = is.first.long in omega arith) in
-    begun (call_size context.flags jump popped) (inst_records context start 0 inst) old mid (call_few context.flags jump popped is.few) calm
-    (appends_words context.flags (call []) _ [] _ old mid is.first.plain long (is.first.uses (allocated_of old) start) (is.first.records start 0) is.first.names p)
+call_begins {context} {call = call} old mid is calm p =
+    let a = plain_put context.flags (call []) old mid is.first.plain p in
+    let code = subst (λ us. AppendsCode a.code us old mid) (is.first.uses (allocated_of old) (length (bytes_of old))) a.adds in
+    let few : length (bytes_of mid) ≤ length (bytes_of old) + 32 = call_few_after old mid is p in
+    record {
+      few = few;
+      few_pending = ap length (still_pending code);
+      reserve = λ j. reserve_from (code.places j) 0 (code.registered j);
+      allocated = code.allocated;
+      reach = reach_within line_space old mid calm (omega arith) (still_pending code);
+      sound = code.sound;
+    }
 
 -- ---- how many there are
 
@@ -63,12 +57,9 @@ each_loads : (r : Reg) (location : RetLocation) (m n : ℕ) → IsFineResult r l
 each_loads r (InReg s) m n fine rest = omega arith
 each_loads r (OnStack offset type) m n fine rest = let single = typed_one (number_of r) offset (result_load type) fine.1 in omega arith
 
-all_load : (defs : List CallRetPair) → AreFineResults defs → length (result_loads defs) ≡ stacked_in defs
+pub all_load : (defs : List CallRetPair) → AreFineResults defs → length (result_loads defs) ≡ stacked_in defs
 all_load [] h = refl
 all_load (d ∷ defs) h = length-append (location_loads d.vreg.reg d.location) (result_loads defs) ∙ each_loads d.vreg.reg d.location (length (result_loads defs)) (stacked_in defs) h.0 (all_load defs h.1)
-
-pub results_counted : (defs : List CallRetPair) → AreFineResults defs → length (result_loads defs) ≡ count_by is_stacked defs
-results_counted defs h = all_load defs h ∙ stacked_counted defs
 
 -- ---- one more
 
@@ -124,12 +115,6 @@ typed_put {flags} register offset op found old new is p =
     (subst (λ slots. PutsAlone flags slots old new) (sym (append-nil (load_line_slots flags register op None (Based 2 (pos offset))))) p)
 
 -- ---- an island, and all of them after it
-
-pub results_room : (space more : ℕ) (old new : Buffer) (made : Bool) → length (bytes_of old) + more + reserve_of (shape_of old) + 8 * length (pending old) + 64 < code_limit → IslandIfNeeded space old new made → length (bytes_of new) + more + 47 < code_limit
-results_room space more old new made room m = ⊎_elim
-    (λ (same : (made ≡ false) × (new ≡ old)). let e : length (bytes_of new) ≡ length (bytes_of old) = ap (λ (b : Buffer). length (bytes_of b)) same.1 in omega arith)
-    (λ (put : (made ≡ true) × AppendsIsland old new). let short = put.1.short in omega arith)
-    m.put
 
 pub asked_put : {flags : IsaFlags} (defs : List CallRetPair) (t : Option TryCallInfo) (space : ℕ) (old mid last new : Buffer) (made : Bool) → space ≡ results_space (result_loads defs) → IslandIfNeeded space old mid made → PutsAlone flags (stack_load_slots flags (result_loads defs)) mid last → PutsAlone flags (try_slots flags t) last new → PutsParts flags (Ask (results_space (result_loads defs)) ∷ Slots (stack_load_slots flags (result_loads defs) ++ try_slots flags t) ∷ []) old new
 asked_put {flags} defs t space old mid last new made is island p q = (mid, made, subst (λ n. IslandIfNeeded n old mid made) is island, both_alone (stack_load_slots flags (result_loads defs)) (try_slots flags t) mid last new (loads_plain flags (result_loads defs)) p q)

@@ -1,12 +1,9 @@
 -- What was put runs wherever it stands in finished code, and leaves a buffer into which more can be put.
-use Rattle.rv_emit.proofs.Terms.{◌≡◌, ℕ, ◌%◌, ◌<◌, ◌≤◌, Bool, false, List, [], length, Option, Some, None, refl, ap, sym, ◌∙◌, subst, arith, slice_get, no_flags, IsaFlags, code_limit, UserStackMap, MachLabel, Context, is_bad_frame_for, label_kinds, inst_constant, named_by, tail_call_of, inst_rule}
-use Rattle.rv_emit.proofs.Terms.{Inst, Call, CallInd, LabelUse, ConstPlace, MachRecord, Use, shape_of, bytes_of, uses_of, records_of, named_of, constants_of, place_of, AllStand, AreWindows, Lasts, Shape, with_label, even_length, lasts_label, stands_last, windows_none, parts_of, Site, PartsStand}
-use Rattle.rv_emit.proofs.Terms.{EmitVState, inst_resumes, resumes_fully, runs_fully, inst_runs, reads_operation, EmitsIn, IsBuilt, HasCode, RunsBetween, EmitsRun, GapLeads, Buffer, IsSoundBuffer, CanEmit, IslandIfNeeded, FieldsStand, with_map, PartsIn}
-use Rattle.rv_emit.proofs.InstSlots.{appended_records, appended_named, emitted_keeps, parts_are_self_contained}
-use Rattle.rv_emit.proofs.PartsInBuffer.{gap_last, GapPut, gap_put, parts_last, PartsPut, parts_put}
-use Rattle.rv_emit.proofs.StackMaps.{can_given}
-use Rattle.rv_emit.proofs.Standing.{gap_stands, parts_stand}
-use Rattle.rv_emit.proofs.TailAppends.{appends}
+use Rattle.rv_emit.proofs.{OwnPieces.each_none, InstSlots.appends, InstSlots.emitted_keeps, InstSlots.parts_are_self_contained, PartsInBuffer.gap_last, PartsInBuffer.GapPut, PartsInBuffer.gap_put, PartsInBuffer.parts_last, PartsInBuffer.PartsPut, PartsInBuffer.parts_put, StackMaps.can_given}
+use Rattle.rv_emit.proofs.{Standing.gap_stands, Standing.parts_stand}
+use Rattle.rv_emit.proofs.Terms.{◌≡◌, ℕ, ◌%◌, ◌<◌, ◌≤◌, Bool, false, List, [], length, Option, Some, None, refl, ap, sym, ◌∙◌, subst, arith, slice_get, no_flags, IsaFlags, code_limit, UserStackMap, Context, is_bad_frame_for, label_kinds, inst_constant, named_by, tail_call_of, inst_rule, Inst, Call}
+use Rattle.rv_emit.proofs.Terms.{CallInd, LabelUse, Use, shape_of, bytes_of, uses_of, records_of, named_of, constants_of, AreWindows, Lasts, Shape, even_length, windows_none, parts_of, Site, PartsStand, EmitVState, inst_resumes, resumes_fully, runs_fully, inst_runs, reads_operation, EmitsIn}
+use Rattle.rv_emit.proofs.Terms.{IsBuilt, HasCode, RunsBetween, EmitsRun, GapLeads, Buffer, IsSoundBuffer, CanEmit, IslandIfNeeded, with_map, PartsIn}
 
 -- ---- in finished code
 
@@ -73,14 +70,14 @@ module _ (context : Context) (setting : EmitVState) (map : Option UserStackMap) 
 
   pub emits_run : EmitsRun context map inst old new
   emits_run =
-      let added = appends context setting (with_map map inst) old new given.rule built.sound put in
+      let added = appends context setting (with_map map inst) old new given.rule (omega (arith, given.room)) built.sound put in
       let keeps = emitted_keeps context (with_map map inst) old new added in
       record {
         runs = runs;
         built = record { sound = parts.sound; windows = parts.windows; fields = parts.fields; constants = parts.constants built.constants };
         lasts = parts.lasts;
-        records = appended_records context (with_map map inst) old new added;
-        named = appended_named context (with_map map inst) old new added ∙ ap (λ k. named_by k (named_of old)) (constant_given map inst);
+        records = added.records;
+        named = added.named ∙ ap (λ k. named_by k (named_of old)) (constant_given map inst);
         labels = keeps.0;
         places = keeps.1;
       }
@@ -104,30 +101,6 @@ empty_built b bytes uses records constants sound = record {
   sound = sound;
   windows = subst (λ (bs : List ℕ). AreWindows label_kinds bs (uses_of b)) (sym bytes)
       (subst (λ (us : List (Use LabelUse)). AreWindows label_kinds [] us) (sym uses) windows_none);
-  fields = record { ends = λ k r h. absurd (no_record k r (sym (ap (λ rs. slice_get rs k) records) ∙ h)); clear = λ j u h. absurd (no_use j u (sym (ap (λ us. slice_get us j) uses) ∙ h)) };
-  constants = λ j c h. absurd (no_constant j c (sym (ap (λ cs. slice_get cs j) constants) ∙ h));
+  fields = record { ends = λ k r h. absurd (each_none (λ r. ⊥) k r (sym (ap (λ rs. slice_get rs k) records) ∙ h)); clear = λ j u h. absurd (each_none (λ u. ⊥) j u (sym (ap (λ us. slice_get us j) uses) ∙ h)) };
+  constants = λ j c h. absurd (each_none (λ c. ⊥) j c (sym (ap (λ cs. slice_get cs j) constants) ∙ h));
 }
-  where
-    no_record : (k : ℕ) (r : MachRecord) → slice_get [] k ≡ Some r → ⊥
-    no_record k r h = absurd (cc)
-
-    no_use : (j : ℕ) (u : Use LabelUse) → slice_get [] j ≡ Some u → ⊥
-    no_use j u h = absurd (cc)
-
-    no_constant : (j : ℕ) (c : ConstPlace) → slice_get [] j ≡ Some c → ⊥
-    no_constant j c h = absurd (cc)
-
--- ---- a label
-
--- one that is bound puts nothing; so what was built stays so, and what stood lasts
-pub bound_built : (label : MachLabel) (old new : Buffer) → shape_of new ≡ with_label label (shape_of old) → place_of old label.number ≡ None → IsSoundBuffer new → IsBuilt old → IsBuilt new × Lasts label_kinds (shape_of old) (shape_of new)
-bound_built label old new is unbound sound built =
-    let lasts = lasts_label label_kinds label (shape_of old) unbound in (
-      record {
-        sound = sound;
-        windows = subst (λ (s : Shape LabelUse). AreWindows label_kinds s.bytes s.uses) (sym is) built.windows;
-        fields = subst FieldsStand (sym is) (record { ends = built.fields.ends; clear = built.fields.clear });
-        constants = subst (AllStand label_kinds) (sym is) (stands_last lasts refl built.constants);
-      },
-      subst (Lasts label_kinds (shape_of old)) (sym is) lasts,
-    )

@@ -1,10 +1,10 @@
 -- An island: what it asks once its jump is put, and the jump and the island as the buffer's calls put them.
+use Rattle.rv_emit.proofs.NewConstants.{adds_both, adds_none, adds_island}
 use Rattle.rv_emit.proofs.Terms.{◌≡◌, ◌≢◌, inl, inr, ℕ, suc, ◌+◌, ◌-◌, ◌*◌, ◌<◌, ◌≤◌, Bool, true, false, cond, not, ◌&&◌, List, [], ◌∷◌, ◌++◌, length, Option, Some, None, refl, ap, sym, ◌∙◌, subst, arith, ◌%◌, take, drop, slice_get, ne_eqb, length-append, append-nil, MachLabel, first_inner}
 use Rattle.rv_emit.proofs.Terms.{LabelUse, Jal20, label_kinds, word_bytes, code_limit, Kinds, Use, CanReach, deadline, deadlines, is_pending, is_other, shape_of, bytes_of, uses_of, place_of, allocated_of, registered_of, labels_of, records_of, IsUsable, with_allocated, with_bytes, with_use}
 use Rattle.rv_emit.proofs.Terms.{end_after, reserve_from, reserve_of, constants_end, AllStand, CanIsland, IsJumpOver, aligned, island_end, first_of, needs_own, others_of, Islanded, AddsOwn, deadlines_append, own_idle, aligned_near, ends_within, even_length, few_allocated, use_usable, bound_usable}
-use Rattle.rv_emit.proofs.Terms.{slice_get-append_last, island_rest, island_takes, island_reserve, lasts_more, lasts_allocated, lasts_island, stands_last, windows_with_use, Buffer, IsSoundBuffer, pending, HasWindows, AppendsCode, AppendsIsland, jump_word, use_at, same_Some, AreWindows, Grows}
-use Rattle.rv_emit.proofs.Terms.{IsaFlags, Label, Puts, wide_jump_to, lasts_after_slots, puts_named, puts_constants, no_flags}
-use Rattle.rv_emit.proofs.NewConstants.{adds_both, adds_none, adds_island}
+use Rattle.rv_emit.proofs.Terms.{slice_get-append_last, island_rest, island_takes, island_reserve, lasts_more, lasts_allocated, lasts_island, stands_last, windows_with_use, Buffer, IsSoundBuffer, pending, HasWindows, AppendsCode, AppendsIsland, ⊎_elim, named_of, IslandAsked, IslandIfNeeded}
+use Rattle.rv_emit.proofs.Terms.{jump_word, use_at, same_Some, AreWindows, Grows, IsaFlags, Label, Puts, wide_jump_to, lasts_after_slots, puts_named, puts_constants, no_flags}
 
 -- ---- what an island asks
 
@@ -13,13 +13,9 @@ pub deadlines_as : {L : Type 0} (test other : Use L → Bool) (kinds : Kinds L) 
 deadlines_as test other kinds [] same = refl
 deadlines_as test other kinds (u ∷ uses) same = let rest = deadlines_as test other kinds uses (λ j v e. same (suc j) v e) in λ i. cond (same 0 u refl i) (deadline kinds u ∷ rest i) (rest i)
 
-and_true : (b : Bool) → (b && true) ≡ b
-and_true true = refl
-and_true false = refl
-
 -- a use of another label
 other_label : (place : ℕ → Option ℕ) (after_island : MachLabel) (u : Use LabelUse) → u.label.number ≢ after_island.number → is_other label_kinds place (Some after_island) u ≡ is_pending label_kinds place u
-other_label place after_island u n = ap (λ b. is_pending label_kinds place u && not b) (ne_eqb u.label.number after_island.number n) ∙ and_true _
+other_label place after_island u n = ap (λ b. is_pending label_kinds place u && not b) (ne_eqb u.label.number after_island.number n) ∙ (elim (is_pending label_kinds place u) as (λ b. (b && true) ≡ b) [ true ↦ refl | false ↦ refl ])
 
 -- a jump to a fresh label was put, after what a buffer has
 pub record JumpPut (old new : Buffer) (after_island : MachLabel) : Type 0 where
@@ -36,11 +32,7 @@ pub record JumpPut (old new : Buffer) (after_island : MachLabel) : Type 0 where
 not_usable : (old new : Buffer) (after_island : MachLabel) → JumpPut old new after_island → (label : ℕ) → IsUsable (shape_of old) label → label ≢ after_island.number
 not_usable old new after_island p label (inl known) e = let at = p.fresh in absurd (omega arith)
 not_usable old new after_island p label (inr c) e =
-    let is = c.is in
-    let at = p.fresh in
-    let one_more = p.allocated in
-    let few = few_allocated label_kinds new p.sound in
-    absurd (omega arith)
+    absurd (omega (arith, few_allocated label_kinds new p.sound))
 
 not_named : (old new : Buffer) (after_island : MachLabel) → JumpPut old new after_island → (j : ℕ) (u : Use LabelUse) → slice_get (uses_of old) j ≡ Some u → u.label.number ≢ after_island.number
 not_named old new after_island p j u h = not_usable old new after_island p u.label.number (use_usable label_kinds old p.before j u h)
@@ -76,11 +68,9 @@ same_reserve p = λ i. reserve_from (p.places i) 0 (p.registered i)
 
 -- how far an island reaches: its own veneer, the others, the constants, and zero bytes to a multiple of four
 pub end_near : (b : Buffer) (start count last : ℕ) → IsSoundBuffer b → island_end (end_after (shape_of b)) start count last ≤ start + 8 + 8 * count + reserve_of (shape_of b) + 3
-end_near b start count last sound = omega (arith, on (needs_own (end_after (shape_of b)) start count last), ends_within label_kinds b sound (first_of (end_after (shape_of b)) start count last + 8 * count))
-  where
-    on : (c : Bool) → cond c (start + 8) start ≤ start + 8
-    on true = omega arith
-    on false = omega arith
+end_near b start count last sound =
+    let own : cond (needs_own (end_after (shape_of b)) start count last) (start + 8) start ≤ start + 8 = elim (needs_own (end_after (shape_of b)) start count last) as (λ c. cond c (start + 8) start ≤ start + 8) [ true ↦ omega arith | false ↦ omega arith ] in
+    omega (arith, ends_within label_kinds b sound (first_of (end_after (shape_of b)) start count last + 8 * count))
 
 unbound_fresh : (old new : Buffer) (after_island : MachLabel) → JumpPut old new after_island → place_of new after_island.number ≡ None
 unbound_fresh old new after_island p = ap (λ (place : ℕ → Option ℕ). place after_island.number) p.places ∙ on (place_of old after_island.number) refl
@@ -94,8 +84,6 @@ unfolding jumps_over
 can_island old new after_island p reach room =
     let others = others_pending old new after_island p in
     let long : length (bytes_of new) ≡ length (bytes_of old) + 4 = ap length p.bytes ∙ length-append (bytes_of old) (word_bytes jump_word) in
-    let fresh = p.fresh in
-    let allocated = p.allocated in
     let less : length (bytes_of old) ≡ length (bytes_of new) - 4 = omega arith in
     let near : aligned (length (bytes_of new)) ≤ length (bytes_of new) + 2 = aligned_near (length (bytes_of new)) (even_length label_kinds new p.sound) in
     let last = length (bytes_of old) + 1048574 in
@@ -141,11 +129,8 @@ jump_windows old new after_island s a w =
     (windows_with_use (shape_of old) w (even_length label_kinds old s) (word_bytes jump_word) (use_at (length (bytes_of old)) after_island Jal20) (record { at = refl; bare = refl; long = refl }) (refl, (refl, (refl, (refl, tt))))))
 
 -- an island's end is a multiple of four
-end_whole : (ends : ℕ → ℕ) (start count last : ℕ) → island_end ends start count last % 4 ≡ 0
-end_whole ends start count last = whole (ends (first_of ends start count last + 8 * count))
-  where
-    whole : (n : ℕ) → aligned n % 4 ≡ 0
-    whole n = omega arith
+end_whole : (n : ℕ) → aligned n % 4 ≡ 0
+end_whole n = omega arith
 
 -- the jump over an island is the use that was recorded last
 jump_is : (old mid new : Buffer) (after_island : MachLabel) → JumpPut old mid after_island → (i : Islanded label_kinds after_island (shape_of mid) (shape_of new)) → use_at (length (bytes_of old)) after_island Jal20 ≡ i.jump
@@ -168,7 +153,6 @@ puts_island old allocated mid new after_island p labels sound same_bytes windows
     let last = deadline label_kinds i.jump in
     let end : length (bytes_of new) ≡ island_end (end_after (shape_of mid)) (aligned (length (bytes_of mid))) count last = i.end in
     let allocated_fresh = p.fresh in
-    let one_more = p.allocated in
     let few = few_allocated label_kinds mid p.sound in
     let near = island_reserve label_kinds mid p.sound (omega arith) i in
     let reserve = same_reserve p in
@@ -197,7 +181,7 @@ puts_island old allocated mid new after_island p labels sound same_bytes windows
       settled = i.settled;
       end = end ∙ (λ j. island_end (λ n. constants_end (p.registered j) (drop (length (constants j)) (named j)) n) (aligned (long j)) (counted j) (deadline label_kinds (sym (jump_is old mid new after_island p i) j)));
       taken = island_takes label_kinds mid p.sound i;
-      whole = ap (λ n. n % 4) end ∙ end_whole (end_after (shape_of mid)) (aligned (length (bytes_of mid))) count last;
+      whole = ap (λ n. n % 4) end ∙ end_whole _;
       short = omega (arith, long, near, counted, reserve);
       adds = adds_both (adds_none (omega (arith, long)) constants p.registered) (adds_island label_kinds after_island (shape_of mid) (shape_of new) i);
       windows = λ w. kept (jump_windows allocated mid after_island sound a (windows w));
@@ -217,3 +201,43 @@ appends old new code u e sound = record {
   constants = ap (λ s. s.constants) e;
   sound = sound;
 }
+
+-- ---- an island where one is needed
+
+-- what is so of a buffer before it, and after one, is so after it
+pub room_by : (P : Buffer → Type 0) (distance : ℕ) (old new : Buffer) (made : Bool) → IslandIfNeeded distance old new made → P old → (AppendsIsland old new → P new) → P new
+room_by P distance old new made m h one = ⊎_elim (λ same. subst P (sym same.1) h) (λ put. one put.1) m.put
+
+pub room_sound : (distance : ℕ) (old new : Buffer) (made : Bool) → IslandIfNeeded distance old new made → IsSoundBuffer old → IsSoundBuffer new
+room_sound distance old new made m sound = room_by (λ b. IsSoundBuffer b) distance old new made m sound (λ put. put.sound)
+
+-- it makes no buffer shorter, records nothing and names nothing
+pub room_longer : (distance : ℕ) (old new : Buffer) (made : Bool) → IslandIfNeeded distance old new made → length (bytes_of old) ≤ length (bytes_of new)
+room_longer distance old new made m = room_by (λ b. length (bytes_of old) ≤ length (bytes_of b)) distance old new made m (omega arith) (λ put. omega (arith, put.longer))
+
+pub room_records : (distance : ℕ) (old new : Buffer) (made : Bool) → IslandIfNeeded distance old new made → (shape_of new).records ≡ (shape_of old).records
+room_records distance old new made m = room_by (λ b. (shape_of b).records ≡ (shape_of old).records) distance old new made m refl (λ put. put.records)
+
+pub room_named : (distance : ℕ) (old new : Buffer) (made : Bool) → IslandIfNeeded distance old new made → named_of new ≡ named_of old
+room_named distance old new made m = room_by (λ b. named_of b ≡ named_of old) distance old new made m refl (λ put. put.named)
+
+-- room is left after it for as many bytes as were counted
+pub room_left : (distance more : ℕ) (old new : Buffer) (made : Bool) → length (bytes_of old) + more + reserve_of (shape_of old) + 8 * length (pending old) + 64 < code_limit → IslandIfNeeded distance old new made → length (bytes_of new) + more + 47 < code_limit
+room_left distance more old new made room m = room_by (λ b. length (bytes_of b) + more + 47 < code_limit) distance old new made m (omega arith) (λ put. omega (arith, put.short, room))
+
+-- labels of lines stay as they are
+abbrev pub KeepsLow : Buffer → Buffer → Type 0
+KeepsLow old new = (labels_of new ≡ labels_of old) × ((label : ℕ) → label < first_inner → place_of new label ≡ place_of old label)
+
+pub room_keeps : (distance : ℕ) (old new : Buffer) (made : Bool) → IslandIfNeeded distance old new made → KeepsLow old new
+room_keeps distance old new made m =
+    room_by (λ b. KeepsLow old b) distance old new made m (refl, λ label low. refl) (λ put. (put.labels, λ label low. put.places label (omega arith) (λ e. let at = put.allocated_label in absurd (omega arith))))
+
+-- where one may be asked for
+pub asked_by : (P : Buffer → Type 0) (space : Option ℕ) (old new : Buffer) → IslandAsked space old new → P old → (AppendsIsland old new → P new) → P new
+asked_by P None old new same h one = subst P (sym same) h
+asked_by P (Some space) old new (made, room) h one = room_by P space old new made room h one
+
+pub asked_keeps : (space : Option ℕ) (old new : Buffer) → IslandAsked space old new → KeepsLow old new
+asked_keeps None old new same = subst (KeepsLow old) (sym same) (refl, λ label low. refl)
+asked_keeps (Some space) old new (made, room) = room_keeps space old new made room

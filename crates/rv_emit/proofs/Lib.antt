@@ -5,7 +5,7 @@ pub mod Laws
 mod OwnPieces
 mod PartsInBuffer
 mod VeneerRuns
-mod TailAppends
+mod TableSlots
 mod TableCode
 mod ReachAfterInst
 mod Bounds
@@ -15,7 +15,6 @@ mod Standing
 mod InstSlots
 mod TailCallCode
 mod CallSlots
-mod CallAppends
 mod CallsPut
 mod EmitRuns
 mod Terms

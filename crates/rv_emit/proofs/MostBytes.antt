@@ -1,29 +1,12 @@
 -- How many bytes the sequences of each kind have at most, and what counts for them.
-use Rattle.rv_emit.proofs.Terms.{◌≡◌, ℕ, ◌+◌, ◌*◌, ◌≤◌, Bool, true, false, List, [], ◌∷◌, length, Option, Some, None, refl, subst, arith, lit≤, pos, ◌-ℤ◌, cond, count_by, if◌then◌else◌, length-append, is_count_by, sp_to_fp_of, AMode, RegOffset, CallRetPair, RetLocation, TryCallInfo, Reg, load_size}
-use Rattle.rv_emit.proofs.Terms.{ways_of, ways_by, inst_ways, address_targets, Nowhere, Branches, IsaFlags, FrameLayout, number_of, Or, LoadOP, Lh, StoreOP, Sh, has_load, has_store, Location, load_size_at, store_size_at, Context, short_jalr, boxing_size, high_bits, load_line_size, store_line_size}
-use Rattle.rv_emit.proofs.Terms.{most_bytes, load_limit, store_limit, return_limit, call_limit, sequence_limit, StackLoad, saves_from, setup_loads, restores, frame_above, typed_loads, location_loads, result_loads, loads_unless, result_load, is_on_stack, is_stacked, space_in, extra_in, words_in}
-use Rattle.rv_emit.proofs.Terms.{island_space, inst_sum, return_size, fall, call_extent, CondBrTarget, Fallthrough, Inst, EmitIsland, Load, Store, LoadAddr, CondBr, BrTable, Call, CallInd, ReturnCall, ReturnCallInd, load_short, store_short, rrr_sized, lui_sized, AreShortLoads, loads_most}
-use Rattle.rv_emit.proofs.Terms.{restores_short, step_most, saves_long, setup_few, zero, suc, take, take_all}
 use Rattle.rv_base.specs.declared.call.RetLocation.TheVariants.{Reg as InReg, Stack as OnStack}
-use Rattle.rv_inst.specs.declared.inst.CondBrTarget.TheVariants.{Label}
-use Rattle.rv_emit.proofs.CallSlots.{try_few}
+use Rattle.rv_emit.proofs.Terms.{◌≡◌, ◌⊎◌, inl, inr, ℕ, zero, suc, ◌+◌, ◌*◌, ◌/◌, ◌≤◌, Bool, true, false, List, [], ◌∷◌, length, take, Option, Some, None, refl, subst, arith, lit≤, pos, ◌-ℤ◌, cond, nat_eq, count_by, if◌then◌else◌, length-append, take_all, is_count_by, sp_to_fp_of, AMode, RegOffset}
+use Rattle.rv_emit.proofs.Terms.{CallRetPair, RetLocation, TryCallInfo, Reg, IrType, I32, I64, bits_of, is_word_type, load_size, ways_of, ways_by, inst_ways, address_targets, Nowhere, Branches, IsaFlags, FrameLayout, number_of, LoadOP, StoreOP, has_load, has_store, Context, inst_rule, Exactly}
+use Rattle.rv_emit.proofs.Terms.{AtMost, most_of, move_size, branch_size, trap_size, inline_size, most_bytes, load_limit, store_limit, call_limit, sequence_limit, call_request, request_of, inst_sum, no_extra, StackLoad, saves_from, setup_loads, restores, typed_loads, location_loads, result_loads}
+use Rattle.rv_emit.proofs.Terms.{loads_unless, result_load, is_on_stack, is_stacked, CondBrTarget, Fallthrough, Inst, EmitIsland, RawData, LoadInlineConst, Mov, MovFromPReg, Load, Store, LoadAddr, TrapIf, Jal, CondBr, BrTable, Udf, LoadExtNameFar, Call, CallInd, ReturnCall, ReturnCallInd, least_few}
+use Rattle.{rv_emit.proofs.Terms.{saves_long, setup_few, fine, keeps, data_kept, constant_kept}, rv_inst.specs.declared.inst.CondBrTarget.TheVariants.Label}
 
 -- ---- pieces
-
--- a half by integer registers has three words more, or one
-pub load_line_short : (flags : IsaFlags) (op : LoadOP) (rd : ℕ) (at : Location) → load_line_size flags op rd at ≤ load_limit flags op
-load_line_short flags op rd at = by (has_load flags op)
-  where
-    by : (has : Bool) → (if has then load_size_at flags op rd at else load_size_at flags Lh 31 at + boxing_size flags) ≤ (if has then 28 else 28 + 12)
-    by true = load_short flags op rd at
-    by false = let one = load_short flags Lh 31 at in let lui = (lui_sized flags 30 high_bits).few in let orr = (rrr_sized flags Or 31 31 30).few in omega arith
-
-pub store_line_short : (flags : IsaFlags) (op : StoreOP) (src : ℕ) (at : Location) → store_line_size flags op src at ≤ store_limit flags op
-store_line_short flags op src at = by (has_store flags op)
-  where
-    by : (has : Bool) → (if has then store_size_at flags op src at else 4 + store_size_at flags Sh 30 at) ≤ (if has then 28 else 28 + 4)
-    by true = store_short flags op src at
-    by false = let one = store_short flags Sh 30 at in omega arith
 
 -- at most ten words
 load_most_bytes : (flags : IsaFlags) (op : LoadOP) → load_limit flags op ≤ 40
@@ -32,21 +15,31 @@ load_most_bytes flags op = elim (has_load flags op) as (λ has. (if has then 28 
 store_most_bytes : (flags : IsaFlags) (op : StoreOP) → store_limit flags op ≤ 40
 store_most_bytes flags op = elim (has_store flags op) as (λ has. (if has then 28 else 28 + 4) ≤ 40) [ true ↦ lit≤ tt | false ↦ lit≤ tt ]
 
-pub return_short : (flags : IsaFlags) (frame : FrameLayout) (arguments : ℕ) → return_size flags frame arguments ≤ return_limit frame
-return_short flags frame arguments = let a = loads_most flags (restores frame) (restores_short flags frame) in let b = step_most flags (pos (frame_above frame arguments)) in omega arith
+-- a call that asks for no island loads nothing
+call_alone : (own : ℕ) (loads : List StackLoad) → own ≤ 8 → call_request own loads ≡ None → call_limit own loads ≤ sequence_limit
+call_alone own [] few asks = omega (arith, few)
+call_alone own (l ∷ loads) few asks = absurd (cc)
 
-pub call_words : (flags : IsaFlags) (own jump popped : ℕ) (loads : List StackLoad) (t : Option TryCallInfo) → jump ≤ own → AreShortLoads flags loads → words_in (call_extent flags jump popped loads t) ≤ call_limit own loads
-call_words flags own jump popped [] t le short = let step = step_most flags (fall popped) in let few = try_few flags t in omega (arith, le, step, few)
-call_words flags own jump popped (l ∷ loads) t le short = omega (arith, le, step_most flags (fall popped), loads_most flags (l ∷ loads) short, try_few flags t)
+-- a trap, a branch with a jump after it, and a constant among the code
+trap_few : (flags : IsaFlags) → trap_size flags ≤ 4
+trap_few flags = elim flags.has_zca as (λ c. (if c then 2 else 4) ≤ 4) [ true ↦ lit≤ tt | false ↦ lit≤ tt ]
 
-call_extra : (flags : IsaFlags) (jump popped : ℕ) (loads : List StackLoad) (t : Option TryCallInfo) → extra_in (call_extent flags jump popped loads t) ≡ 0
-call_extra flags jump popped [] t = refl
-call_extra flags jump popped (l ∷ loads) t = refl
+branch_few : (flags : IsaFlags) (t f : CondBrTarget) → branch_size flags t f ≤ 8
+branch_few flags Fallthrough f = lit≤ tt
+branch_few flags (Label t) Fallthrough = lit≤ tt
+branch_few flags (Label t) (Label f) = omega (arith, least_few flags)
 
--- one that asks for no island loads nothing
-call_alone : (flags : IsaFlags) (own jump popped : ℕ) (loads : List StackLoad) (t : Option TryCallInfo) → own ≤ 8 → space_in (call_extent flags jump popped loads t) ≡ None → call_limit own loads ≤ sequence_limit
-call_alone flags own jump popped [] t few asks = omega (arith, few)
-call_alone flags own jump popped (l ∷ loads) t few asks = absurd (cc)
+move_few : (rd rs : ℕ) → most_of (move_size rd rs) ≤ 4
+move_few rd rs = elim (nat_eq rd rs) as (λ c. most_of (if c then Exactly 0 else AtMost 4) ≤ 4) [ true ↦ lit≤ tt | false ↦ lit≤ tt ]
+
+constant_few : (flags : IsaFlags) (type : IrType) → is_word_type type ≡ true → inline_size flags (bits_of type / 8) ≤ 20
+constant_few flags I32 word = omega (arith, least_few flags)
+constant_few flags I64 word = omega (arith, least_few flags)
+constant_few flags _ word = absurd (cc)
+
+data_few : (bytes : List ℕ) → (length bytes ≡ 4) ⊎ (length bytes ≡ 8) → length bytes ≤ 8
+data_few bytes (inl e) = omega arith
+data_few bytes (inr e) = omega arith
 
 -- how many results are on the stack, one after the other
 abbrev pub stacked_in : List CallRetPair → ℕ
@@ -84,8 +77,7 @@ unless_counted false defs = loads_counted defs
 
 -- how many labels some kinds go to, and how many registers a frame restores
 try_ways : (t : Option TryCallInfo) → length (ways_by t Nowhere) ≤ 1
-try_ways None = lit≤ tt
-try_ways (Some t) = lit≤ tt
+try_ways t = elim t as (λ t. length (ways_by t Nowhere) ≤ 1) [ None ↦ lit≤ tt | Some t ↦ lit≤ tt ]
 
 branch_ways : (t f : CondBrTarget) → length (ways_of (Branches t f)) ≤ 2
 branch_ways Fallthrough Fallthrough = lit≤ tt
@@ -103,26 +95,34 @@ restores_few frame =
 
 -- ---- the table
 
--- where it asks for no island, no kind has more than so many
-pub most_in_sequence : (context : Context) (inst : Inst) → island_space context inst ≡ None → most_bytes context inst ≤ sequence_limit
-most_in_sequence context (EmitIsland needed_space) asks = absurd (cc)
-most_in_sequence context (BrTable index tmp1 tmp2 targets) asks = absurd (cc)
-most_in_sequence context (Call info) asks = call_alone context.flags 8 8 info.callee_pop_size (loads_unless info.patchable info.defs) info.try_call_info (lit≤ tt) asks
-most_in_sequence context (CallInd info) asks = call_alone context.flags 4 (short_jalr context.flags 1 (number_of info.dest) (pos 0)).len info.callee_pop_size (result_loads info.defs) info.try_call_info (lit≤ tt) asks
-most_in_sequence context (ReturnCall info) asks = absurd (cc)
-most_in_sequence context (ReturnCallInd info) asks = absurd (cc)
-most_in_sequence context (Load rd op flags from) asks = let few = load_most_bytes context.flags op in omega (arith, few)
-most_in_sequence context (Store src op flags to) asks = let few = store_most_bytes context.flags op in omega (arith, few)
-most_in_sequence context inst asks = omega arith
+-- where it asks for no island, no kind has more than so many, with a veneer for each label to which it goes
+pub most_in_sequence : (context : Context) (inst : Inst) → inst_rule context inst ≡ None → request_of context inst ≡ None → most_bytes context inst + 8 * length (inst_ways inst) ≤ sequence_limit
+most_in_sequence context (EmitIsland needed_space) rule asks = absurd (cc)
+most_in_sequence context (BrTable index tmp1 tmp2 targets) rule asks = absurd (cc)
+most_in_sequence context (Call info) rule asks = omega (arith, call_alone 8 (loads_unless info.patchable info.defs) (lit≤ tt) asks, try_ways info.try_call_info)
+most_in_sequence context (CallInd info) rule asks = omega (arith, call_alone 4 (result_loads info.defs) (lit≤ tt) asks, try_ways info.try_call_info)
+most_in_sequence context (ReturnCall info) rule asks = absurd (cc)
+most_in_sequence context (ReturnCallInd info) rule asks = absurd (cc)
+most_in_sequence context (Load rd op flags from) rule asks = omega (arith, address_ways (load_size op) from, load_most_bytes context.flags op)
+most_in_sequence context (Store src op flags to) rule asks = omega (arith, address_ways 0 to, store_most_bytes context.flags op)
+most_in_sequence context (LoadAddr rd mem) rule asks = omega (arith, address_ways 0 mem)
+most_in_sequence context (CondBr t f kind) rule asks = omega (arith, branch_ways t f, branch_few context.flags t f)
+most_in_sequence context (RawData bytes) rule asks = omega (arith, data_few bytes (data_kept bytes (keeps context _ rule)))
+most_in_sequence context (LoadInlineConst rd type imm) rule asks = omega (arith, constant_few context.flags type (constant_kept rd type imm (keeps context _ rule)).typed)
+most_in_sequence context (Mov rd rm type) rule asks = omega (arith, move_few (number_of rd.reg) (number_of rm))
+most_in_sequence context (MovFromPReg rd rm) rule asks = omega (arith, move_few (number_of rd.reg) rm.number)
+most_in_sequence context (TrapIf cmp code) rule asks = omega (arith, trap_few context.flags)
+most_in_sequence context (Udf code) rule asks = omega (arith, trap_few context.flags)
+most_in_sequence context (Jal label) rule asks = omega (arith, least_few context.flags)
+most_in_sequence context (LoadExtNameFar rd name offset) rule asks = omega (arith, least_few context.flags)
+most_in_sequence context inst rule asks = omega arith
 
--- with a veneer for each label to which it goes, and two islands, it counts for as many
-pub most_counts : (context : Context) (inst : Inst) → most_bytes context inst + 8 * length (inst_ways inst) + 34 ≤ inst_sum context inst
-most_counts context (Call info) = let counted = unless_counted info.patchable info.defs in let extra = call_extra context.flags 8 info.callee_pop_size (loads_unless info.patchable info.defs) info.try_call_info in let few = try_ways info.try_call_info in omega (arith, counted, extra, few)
-most_counts context (CallInd info) = let counted = loads_counted info.defs in let extra = call_extra context.flags (short_jalr context.flags 1 (number_of info.dest) (pos 0)).len info.callee_pop_size (result_loads info.defs) info.try_call_info in let few = try_ways info.try_call_info in omega (arith, counted, extra, few)
-most_counts context (CondBr t f kind) = let few = branch_ways t f in omega (arith, few)
-most_counts context (ReturnCall info) = let few = restores_few context.frame in omega (arith, few)
-most_counts context (ReturnCallInd info) = let few = restores_few context.frame in omega (arith, few)
-most_counts context (Load rd op flags from) = let none = address_ways (load_size op) from in let few = load_most_bytes context.flags op in omega (arith, none, few)
-most_counts context (Store src op flags to) = let none = address_ways 0 to in let few = store_most_bytes context.flags op in omega (arith, none, few)
-most_counts context (LoadAddr rd mem) = let none = address_ways 0 mem in omega (arith, none)
-most_counts context inst = omega arith
+-- and with two islands, it counts for as many
+pub most_counts : (context : Context) (inst : Inst) → inst_rule context inst ≡ None → most_bytes context inst + 8 * length (inst_ways inst) + 34 ≤ inst_sum context inst
+most_counts context (EmitIsland needed_space) rule = omega arith
+most_counts context (BrTable index tmp1 tmp2 targets) rule = omega (arith, (fine context (BrTable index tmp1 tmp2 targets) rule).4)
+most_counts context (Call info) rule = omega (arith, unless_counted info.patchable info.defs, no_extra 8 (loads_unless info.patchable info.defs), try_ways info.try_call_info)
+most_counts context (CallInd info) rule = omega (arith, loads_counted info.defs, no_extra 4 (result_loads info.defs), try_ways info.try_call_info)
+most_counts context (ReturnCall info) rule = omega (arith, restores_few context.frame)
+most_counts context (ReturnCallInd info) rule = omega (arith, restores_few context.frame)
+most_counts context inst rule = omega (arith, most_in_sequence context inst rule refl)

@@ -1,12 +1,10 @@
 -- Labels that an instruction allocates and binds itself, and the pieces that name them.
-use Rattle.rv_emit.proofs.Terms.{◌≡◌, ℕ, ◌+◌, Bool, true, false, List, [], ◌∷◌, length, Some, refl, ap, sym, ◌∙◌, arith, ◌≢◌, inl, inr, ◌<◌, ◌≤◌, ◌++◌, Option, None, subst, lit≤, nat_eq, if◌then◌else◌, nat_lt, is_some, ◌&&◌, eqb-true, le-leb, same_Some, IsaFlags, LabelUse, Shape, IsUsable}
-use Rattle.rv_emit.proofs.Terms.{placed_same, few_allocated, use_usable, placed_other, Slot, Op, Data, Notes, Allocate, Here, own_label, here_at, PutsSlot, Puts, slot_bytes, lasts_after_slots, puts_bytes, puts_uses, puts_named, puts_constants, puts_records, nat_tests, append-nil, MachLabel}
-use Rattle.rv_emit.proofs.Terms.{first_inner, inner_count, is_reached, shape_of, bytes_of, place_of, allocated_of, named_of, Context, jump_kind, label_kinds, forward_of, backward_of, has_veneer_of, words_in, inst_records, use_at, Inst, B12, Jal20, RVCJump, slots_alone, Piece, Do, Branch, Jump, New}
-use Rattle.rv_emit.proofs.Terms.{Bind, Go, Trap, op_of, slots_for, slots_of, piece_size, pieces_size, after, own_labels, AreAmong, trap_bytes, GoNowhere, pieces_long, pieces_few, IsMadeOf, pieces_name, PutsParts, Buffer, IsSoundBuffer, AppendsInst, IsOwnUse, zero, suc, slice_get, drop, length-drop}
-use Rattle.std.proofs.lemmas.List.{take-append-drop}
-use Rattle.rv_inst.specs.Sizes.{space_in}
-use Rattle.rv_code.specs.Slots.{uses_of}
-use Rattle.rv_code.proofs.MadeOfPieces.{jump_reach}
+use Rattle.{rv_code.proofs.MadeOfPieces.jump_reach, rv_code.specs.Slots.uses_of}
+use Rattle.rv_emit.proofs.Terms.{◌≡◌, ℕ, ◌+◌, Bool, true, false, List, [], ◌∷◌, length, Some, refl, ap, sym, ◌∙◌, arith, ◌≢◌, inl, inr, ◌<◌, ◌≤◌, ◌++◌, Option, None, subst, nat_eq, if◌then◌else◌, nat_lt, is_some, ◌&&◌, eqb-true, le-leb, same_Some, IsaFlags, LabelUse, Shape, IsUsable, placed_same}
+use Rattle.rv_emit.proofs.Terms.{few_allocated, use_usable, placed_other, Slot, Op, Data, Notes, Allocate, Here, own_label, here_at, PutsSlot, Puts, slot_bytes, lasts_after_slots, puts_bytes, puts_uses, puts_named, puts_constants, puts_records, nat_tests, append-nil, MachLabel, first_inner}
+use Rattle.rv_emit.proofs.Terms.{inner_count, is_reached, shape_of, bytes_of, place_of, allocated_of, named_of, Context, jump_kind, label_kinds, forward_of, backward_of, has_veneer_of, inst_records, inst_size, IsOfSize, HasReturn, Appends, adds_alone, use_at, Inst, B12, Jal20, RVCJump, slots_alone}
+use Rattle.rv_emit.proofs.Terms.{Piece, Do, Branch, Jump, New, Bind, Go, Trap, op_of, slots_for, slots_of, piece_size, pieces_size, after, own_labels, AreAmong, trap_bytes, GoNowhere, pieces_long, pieces_few, IsMadeOf, pieces_name, PutsParts, Buffer, IsSoundBuffer, IsOwnUse, zero, suc, slice_get}
+use Rattle.{rv_emit.proofs.Terms.{drop, length-drop}, std.proofs.lemmas.List.take-append-drop}
 use Rattle.mach_records.specs.declared.records.Event.TheVariants as event
 
 -- what holds of each element
@@ -59,9 +57,6 @@ adds_none s m t e labels allocated place = record { labels = ap (λ x. x.labels)
 adds_both : {a total m n : ℕ} {s t u : Shape LabelUse} → AddsOwn a total m s t → AddsOwn a total n t u → AddsOwn a total (m + n) s u
 adds_both x y = record { labels = y.labels ∙ x.labels; allocated = let e = x.allocated in let f = y.allocated in omega arith; places = λ label other. y.places label other ∙ x.places label other }
 
-not_low : (number : ℕ) → first_inner ≤ number → nat_lt number first_inner ≡ false
-not_low number high = grind (arith, nat_tests)
-
 -- one piece does
 adds_piece : (flags : IsaFlags) (a total : ℕ) (p : Piece) (s t : Shape LabelUse) → AreAmong total (p ∷ []) → Puts flags a (slots_for flags p) s t → AddsOwn a total (own_labels (p ∷ [])) s t
 adds_piece flags a total (Do d) s t among put = adds_none s _ t (put.2 ∙ put.1.3) refl refl refl
@@ -70,8 +65,9 @@ adds_piece flags a total New s t among put = let e = put.2 ∙ put.1 in record {
 adds_piece flags a total (Bind k) s t among put =
     let e = put.2 ∙ put.1.1 in
     let own = own_label a k in
+    let high : nat_lt own.number first_inner ≡ false = grind (arith, nat_tests) in
     record {
-      labels = ap (λ x. x.labels) e ∙ ap (λ c. s.labels ++ (if c then (record { label = own; offset = length s.bytes }) ∷ [] else [])) (not_low own.number (omega arith)) ∙ append-nil s.labels;
+      labels = ap (λ x. x.labels) e ∙ ap (λ c. s.labels ++ (if c then (record { label = own; offset = length s.bytes }) ∷ [] else [])) high ∙ append-nil s.labels;
       allocated = ap (λ x. x.allocated) e ∙ omega arith;
       places = λ label other. ap (λ x. x.place label) e ∙ placed_other s.place own.number (length s.bytes) label (other k among.0);
     }
@@ -134,36 +130,29 @@ bound flags a k (p ∷ ps) qs s t e (m, put, q) = later _ (puts_bytes flags a (s
 
 -- ---- the uses of own labels
 
--- an own label stands between two offsets
-record IsPlacedBetween (a k start end : ℕ) (place : ℕ → Option ℕ) : Type 0 where
-  to : ℕ
-  there : place (own_label a k).number ≡ Some to
-  low : start ≤ to
-  high : to ≤ end
-
--- a label that stands no farther is reached
-reached : (kind : LabelUse) (label : MachLabel) (place : Option ℕ) (at to start end : ℕ) → place ≡ Some to → 2046 ≤ forward_of kind → 2046 ≤ backward_of kind → start ≤ at → at ≤ end → start ≤ to → to ≤ end → end ≤ start + 2046 → is_reached label_kinds place (use_at at label kind) ≡ true
-reached kind label place at to start end e forward backward a b c d small =
+-- a label that stands near a use is in its reach
+pub near : (kind : LabelUse) (label : MachLabel) (place : Option ℕ) (at to : ℕ) → place ≡ Some to → to ≤ at + forward_of kind → at ≤ to + backward_of kind → is_reached label_kinds place (use_at at label kind) ≡ true
+near kind label place at to e forward backward =
     ap (λ o. is_reached label_kinds o (use_at at label kind)) e
-    ∙ (λ i. le-leb to (at + forward_of kind) (omega arith) i && le-leb at (to + backward_of kind) (omega arith) i)
+    ∙ (λ i. le-leb to (at + forward_of kind) forward i && le-leb at (to + backward_of kind) backward i)
 
 pub jump_served : (flags : IsaFlags) → has_veneer_of (jump_kind flags) ≡ true
 jump_served flags = elim flags.has_zca as (λ c. has_veneer_of (if c then RVCJump else Jal20) ≡ true) [ true ↦ refl | false ↦ refl ]
 
-each_own : (flags : IsaFlags) (a total at start end : ℕ) (place : ℕ → Option ℕ) (ps : List Piece) → at + pieces_size flags ps ≤ end → start ≤ at → end ≤ start + 2046 → GoNowhere ps → AreAmong total ps → ((k : ℕ) → k < total → IsPlacedBetween a k start end place) → Each (IsOwnUse total a place) (uses_of a at (slots_of flags ps))
-each_own flags a total at start end place [] le low small nowhere among all = each_none _
-each_own flags a total at start end place (Branch how x y k ∷ ps) le low small nowhere among all =
+each_own : (flags : IsaFlags) (a total at : ℕ) (s t : Shape LabelUse) (ps : List Piece) → at + pieces_size flags ps ≤ length t.bytes → length s.bytes ≤ at → length t.bytes ≤ length s.bytes + 2046 → GoNowhere ps → AreAmong total ps → ((k : ℕ) → k < total → IsBoundAmong a k s t) → Each (IsOwnUse total a t.place) (uses_of a at (slots_of flags ps))
+each_own flags a total at s t [] le low small nowhere among all = each_none _
+each_own flags a total at s t (Branch how x y k ∷ ps) le low small nowhere among all =
     let p = all k among.0 in
-    each_more (IsOwnUse total a place) (use_at at (own_label a k) B12) _ (record { index = k; own = among.0; names = refl; served = refl; bare = refl; reached = reached B12 (own_label a k) _ at p.to start end p.there (lit≤ tt) (lit≤ tt) low (omega arith) p.low p.high small })
-    (each_own flags a total (at + 4) start end place ps (omega arith) (omega arith) small nowhere among.1 all)
-each_own flags a total at start end place (Jump k ∷ ps) le low small nowhere among all =
+    each_more (IsOwnUse total a t.place) (use_at at (own_label a k) B12) _ (record { index = k; own = among.0; names = refl; served = refl; bare = refl; reached = near B12 (own_label a k) _ at p.to p.there (omega (arith, p.high)) (omega (arith, p.low)) })
+    (each_own flags a total (at + 4) s t ps (omega arith) (omega arith) small nowhere among.1 all)
+each_own flags a total at s t (Jump k ∷ ps) le low small nowhere among all =
     let p = all k among.0 in
     let r = jump_reach flags in
-    each_more (IsOwnUse total a place) (use_at at (own_label a k) (jump_kind flags)) _ (record { index = k; own = among.0; names = refl; served = jump_served flags; bare = refl; reached = reached (jump_kind flags) (own_label a k) _ at p.to start end p.there r.0 r.1 low (omega arith) p.low p.high small })
-    (each_own flags a total (at + piece_size flags (Jump k)) start end place ps (omega arith) (omega arith) small nowhere among.1 all)
-each_own flags a total at start end place (Bind k ∷ ps) le low small nowhere among all = each_own flags a total at start end place ps (omega arith) low small nowhere among.1 all
-each_own flags a total at start end place (Go l ∷ ps) le low small nowhere among all = absurd nowhere
-each_own flags a total at start end place (p ∷ ps) le low small nowhere among all = each_own flags a total _ start end place ps (omega arith) (omega arith) small nowhere among all
+    each_more (IsOwnUse total a t.place) (use_at at (own_label a k) (jump_kind flags)) _ (record { index = k; own = among.0; names = refl; served = jump_served flags; bare = refl; reached = near (jump_kind flags) (own_label a k) _ at p.to p.there (omega (arith, p.high, r.0)) (omega (arith, p.low, r.1)) })
+    (each_own flags a total (at + piece_size flags (Jump k)) s t ps (omega arith) (omega arith) small nowhere among.1 all)
+each_own flags a total at s t (Bind k ∷ ps) le low small nowhere among all = each_own flags a total at s t ps (omega arith) low small nowhere among.1 all
+each_own flags a total at s t (Go l ∷ ps) le low small nowhere among all = absurd nowhere
+each_own flags a total at s t (p ∷ ps) le low small nowhere among all = each_own flags a total _ s t ps (omega arith) (omega arith) small nowhere among all
 
 -- ---- an instruction
 
@@ -173,31 +162,24 @@ not_usable s label k count lt few (inl known) e = absurd (omega arith)
 not_usable s label k count lt few (inr c) e = let is = c.is in absurd (omega arith)
 
 -- what the pieces that make it add
-pub made_appends : (context : Context) (inst : Inst) (pieces : List Piece) (old new : Buffer) → IsMadeOf context inst pieces → IsSoundBuffer old → PutsParts context.flags (slots_alone (slots_of context.flags pieces)) old new → AppendsInst context inst old new
-made_appends context inst ps old new made before (mid, p, same) = subst (AppendsInst context inst old) (sym same) (record {
-  code = drop start (bytes_of mid);
-  direct = uses_of a start (slots_of flags ps);
-  own = own_labels ps;
-  few = made.owns;
-  alone = λ asks. let e : false ≡ true = ap (λ e. is_some (space_in e)) (sym made.long) ∙ asks in absurd (cc);
-  adds = record {
-    bytes = bytes;
-    uses = puts_uses flags a (slots_of flags ps) (shape_of old) (shape_of mid) p.puts ∙ ap (λ us. (shape_of old).uses ++ (us ++ uses_of a start (slots_of flags ps))) (made.uses start (length (bytes_of mid)));
-    allocated = x.allocated;
-    unbound = λ k lt. (there k lt).before;
-    unnamed = λ k lt j u h e. let few = few_allocated label_kinds mid p.sound in let more = x.allocated in not_usable (shape_of old) u.label.number k (own_labels ps) lt (omega arith) (use_usable label_kinds old before j u h) e;
-    bound = λ k lt. ap is_some (there k lt).there;
-    places = λ label other. x.places label other;
-    labels = x.labels;
-    registered = (lasts_after_slots flags a (slots_of flags ps) (shape_of old) (shape_of mid) p.puts).registered;
-    constants = puts_constants flags a (slots_of flags ps) (shape_of old) (shape_of mid) p.puts;
-    sound = p.sound;
-  };
-  each = λ j u h. inr (own_uses j u h);
-  records = puts_records flags a (slots_of flags ps) (shape_of old) (shape_of mid) p.puts ∙ ap (λ more. (shape_of old).records ++ more) (made.records start ∙ ap (λ n. inst_records context start n inst) (sym end));
-  named = puts_named flags a (slots_of flags ps) (shape_of old) (shape_of mid) p.puts ∙ pieces_name flags ps (named_of old) ∙ made.names (named_of old);
-  long = ap words_in made.long ∙ (let e = end in let l = length-drop start (bytes_of mid) in omega arith);
-})
+pub made_appends : {context : Context} {inst : Inst} {pieces : List Piece} {old new : Buffer} → IsMadeOf context inst pieces → IsSoundBuffer old → HasReturn context inst (length (bytes_of old)) (length (bytes_of new)) → PutsParts context.flags (slots_alone (slots_of context.flags pieces)) old new → Appends context inst old new
+made_appends {context} {inst} {pieces = ps} {old} {new} made before back (mid, p, same) = subst (Appends context inst old) (sym same) (adds_alone {own = own_labels ps} (uses_of a start (slots_of flags ps)) (drop start (bytes_of mid)) before made.asks
+    (record {
+      bytes = bytes;
+      uses = puts_uses flags a (slots_of flags ps) (shape_of old) (shape_of mid) p.puts ∙ ap (λ us. (shape_of old).uses ++ (us ++ uses_of a start (slots_of flags ps))) (made.uses start (length (bytes_of mid)));
+      allocated = x.allocated;
+      unbound = λ k lt. (there k lt).before;
+      unnamed = λ k lt j u h e. let few = few_allocated label_kinds mid p.sound in let more = x.allocated in not_usable (shape_of old) u.label.number k (own_labels ps) lt (omega arith) (use_usable label_kinds old before j u h) e;
+      bound = λ k lt. ap is_some (there k lt).there;
+      places = λ label other. x.places label other;
+      labels = x.labels;
+      registered = (lasts_after_slots flags a (slots_of flags ps) (shape_of old) (shape_of mid) p.puts).registered;
+      constants = puts_constants flags a (slots_of flags ps) (shape_of old) (shape_of mid) p.puts;
+      sound = p.sound;
+    }) made.owns (λ j u h. inr (own_uses j u h))
+    (puts_records flags a (slots_of flags ps) (shape_of old) (shape_of mid) p.puts ∙ ap (λ more. (shape_of old).records ++ more) (made.records start ∙ ap (λ n. inst_records context start n inst) (sym end)))
+    (puts_named flags a (slots_of flags ps) (shape_of old) (shape_of mid) p.puts ∙ pieces_name flags ps (named_of old) ∙ made.names (named_of old))
+    (subst (IsOfSize (inst_size context inst)) (omega (arith, end, length-drop start (bytes_of mid))) made.fits) (lasts_after_slots flags a (slots_of flags ps) (shape_of old) (shape_of mid) p.puts) (subst (λ (b : Buffer). HasReturn context inst start (length (bytes_of b))) same back))
   where
     flags : IsaFlags
     flags = context.flags
@@ -221,9 +203,4 @@ made_appends context inst ps old new made before (mid, p, same) = subst (Appends
     there k lt = bound flags a k ps (made.closed.bound k lt).0 (shape_of old) (shape_of mid) (made.closed.bound k lt).1 p.puts
 
     own_uses : Each (IsOwnUse (own_labels ps) a (place_of mid)) (uses_of a start (slots_of flags ps))
-    own_uses =
-        let e = end in
-        let few = pieces_few flags ps in
-        let short = made.short in
-        each_own flags a (own_labels ps) start start (length (bytes_of mid)) (place_of mid) ps (omega arith) (omega arith) (omega arith) made.nowhere made.closed.among
-        (λ k lt. let b = there k lt in record { to = b.to; there = b.there; low = b.low; high = b.high })
+    own_uses = each_own flags a (own_labels ps) start (shape_of old) (shape_of mid) ps (omega (arith, end)) (omega arith) (omega (arith, end, pieces_few flags ps, made.within)) made.nowhere made.closed.among there

@@ -1,10 +1,10 @@
 -- What was put part by part stands in the buffer, its windows and what relocations fill with it, and lasts.
+use Rattle.rv_emit.proofs.NewConstants.{adds_both, adds_none, adds_same}
 use Rattle.rv_emit.proofs.Terms.{◌≡◌, inl, inr, ⊎_elim, ℕ, ◌+◌, ◌≤◌, List, [], ◌∷◌, ◌++◌, length, Some, ap, sym, ◌∙◌, subst, arith, ◌⊎◌, ◌%◌, Bool, true, false, refl, slice_get, Option, length-append, IsaFlags, LabelUse, Jal20, label_kinds, marks_of, use_at, shape_of, bytes_of, uses_of}
 use Rattle.rv_emit.proofs.Terms.{allocated_of, RecordsLast, Lasts, Shape, with_bytes, with_allocated, AllEnd, AreWindows, Event, Reloc, MachRecord, Use, append_each, recorded_at, lasts_same, lasts_more, lasts_allocated, windows_with_bytes, windows_with_use, stands_last, even_length, Buffer}
 use Rattle.rv_emit.proofs.Terms.{AppendsIsland, IsSoundBuffer, HasWindows, IslandIfNeeded, EndsWithin, IsClear, AllClear, FieldsEnd, FieldsStand, AsksNothing, PutsSlot, Puts, eight_zeros, slot_ends, slot_bytes, lasts_after_slots, puts_bytes, puts_constants, Slot, Op, Aim, Data, Notes, Here, Fill}
 use Rattle.rv_emit.proofs.Terms.{Address, CallTo, label_of, upper_event, lower_event, address_event, call_event, AddressOf, SlotOf, Symbol, slot_size, Part, Ask, Slots, Label, AreClosed, PartsAreSelfContained, AllStand, wide_jump_to, PutsParts, SlotsIn, IslandIn, GapStandsIn, PartsIn, AddsConstants}
 use Rattle.rv_emit.proofs.Terms.{marks_even}
-use Rattle.rv_emit.proofs.NewConstants.{adds_both, adds_none, adds_same}
 
 -- What relocations fill.
 -- ---- one event
@@ -25,10 +25,6 @@ ends_later n m offset e le h = tt
 nothing_ends : (n offset : ℕ) (e : Event) → AsksNothing e → EndsWithin n offset e
 nothing_ends n offset (Reloc kind target addend) h = absurd h
 nothing_ends n offset e h = tt
-
-nothing_clear : (from size offset : ℕ) (e : Event) → AsksNothing e → IsClear from size offset e
-nothing_clear from size offset (Reloc kind target addend) h = absurd h
-nothing_clear from size offset e h = tt
 
 upper_ends : (n at : ℕ) (symbol : Symbol) → at + 4 ≤ n → EndsWithin n at (upper_event symbol)
 upper_ends n at (AddressOf name addend) le = le
@@ -67,7 +63,6 @@ slot_fields_end flags allocated (Fill symbol upper lower) s t (first, second, hi
     let one = length-append s.bytes first in
     let two = length-append (s.bytes ++ first) second in
     let a : length first ≡ 4 = hi.long in
-    let b : length second ≡ 4 = lo.long in
     let next : length (s.bytes ++ first) ≡ here + 4 = omega arith in
     subst FieldsEnd (sym e)
     (one_ends (s.records ++ record { offset = here; event = upper_event symbol } ∷ []) (record { offset = length (s.bytes ++ first); event = lower_event here }) (here + 4) (length ((s.bytes ++ first) ++ second)) (omega arith) (omega arith)
@@ -79,9 +74,12 @@ slot_fields_end flags allocated (Address name addend) s t e ends =
 slot_fields_end flags allocated (CallTo name ops) s t (code, is, e) ends =
     let here = length s.bytes in
     let one = length-append s.bytes code in
-    let a : length code ≡ 8 = is.long in
     subst FieldsEnd (sym e) (one_ends s.records (record { offset = here; event = call_event name }) here (length (s.bytes ++ code)) (omega arith) (omega arith) ends)
 slot_fields_end flags allocated slot s t p ends = subst FieldsEnd (sym p) ends
+
+-- an event more at the end of the bytes stays apart from the windows of uses
+event_clear : (s : Shape LabelUse) (e : Event) (j : ℕ) (u : Use LabelUse) → AllEnd label_kinds s → FieldsStand s → slice_get s.uses j ≡ Some u → AllClear (s.records ++ record { offset = length s.bytes; event = e } ∷ []) u.offset (length (marks_of u.kind))
+event_clear s e j u ends f there = one_clear s.records (record { offset = length s.bytes; event = e }) u.offset (length (marks_of u.kind)) (after_clear u.offset (length (marks_of u.kind)) (length s.bytes) e (ends j u there)) (f.clear j u there)
 
 -- what is filled stays apart from the windows of uses
 slot_clear : (flags : IsaFlags) (allocated : ℕ) (slot : Slot) (s t : Shape LabelUse) → PutsSlot flags allocated slot s t → AllEnd label_kinds s → FieldsStand s → (j : ℕ) (u : Use LabelUse) → slice_get t.uses j ≡ Some u → AllClear t.records u.offset (length (marks_of u.kind))
@@ -89,30 +87,15 @@ slot_clear flags allocated (Op d) s t p ends f j u h = subst (λ rs. AllClear rs
 slot_clear flags allocated (Aim kind target ops) s t p ends f j u h =
     subst (λ rs. AllClear rs u.offset (length (marks_of u.kind))) (λ i. (sym p.2 i).records)
     (append_each (λ (x : Use LabelUse). AllClear s.records x.offset (length (marks_of x.kind))) s.uses (use_at (length s.bytes) (label_of allocated target) kind) (clear_later s (length s.bytes) (length (marks_of kind)) f.ends (omega arith)) f.clear j u ((λ i. slice_get (sym p.2 i).uses j) ∙ h))
-slot_clear flags allocated (Notes e) s t p ends f j u h =
-    subst (λ rs. AllClear rs u.offset (length (marks_of u.kind))) (λ i. (sym p.1 i).records)
-    (one_clear s.records (record { offset = length s.bytes; event = e }) u.offset (length (marks_of u.kind)) (nothing_clear u.offset (length (marks_of u.kind)) (length s.bytes) e p.0) (f.clear j u ((λ i. slice_get (sym p.1 i).uses j) ∙ h)))
+slot_clear flags allocated (Notes e) s t p ends f j u h = subst (λ rs. AllClear rs u.offset (length (marks_of u.kind))) (λ i. (sym p.1 i).records) (event_clear s e j u ends f ((λ i. slice_get (sym p.1 i).uses j) ∙ h))
 slot_clear flags allocated (Here k) s t p ends f j u h = subst (λ rs. AllClear rs u.offset (length (marks_of u.kind))) (λ i. (sym p.1 i).records) (f.clear j u ((λ i. slice_get (sym p.1 i).uses j) ∙ h))
 slot_clear flags allocated (Fill symbol upper lower) s t (first, second, hi, lo, e) ends f j u h =
-    let here = length s.bytes in
     let there : slice_get s.uses j ≡ Some u = (λ i. slice_get (sym e i).uses j) ∙ h in
-    let end : u.offset + length (marks_of u.kind) ≤ here = ends j u there in
-    let one = length-append s.bytes first in
+    let end : u.offset + length (marks_of u.kind) ≤ length s.bytes = ends j u there in
     subst (λ rs. AllClear rs u.offset (length (marks_of u.kind))) (λ i. (sym e i).records)
-    (one_clear (s.records ++ record { offset = here; event = upper_event symbol } ∷ []) (record { offset = length (s.bytes ++ first); event = lower_event here }) u.offset (length (marks_of u.kind)) (after_clear u.offset (length (marks_of u.kind)) (length (s.bytes ++ first)) (lower_event here) (omega arith))
-    (one_clear s.records (record { offset = here; event = upper_event symbol }) u.offset (length (marks_of u.kind)) (after_clear u.offset (length (marks_of u.kind)) here (upper_event symbol) end) (f.clear j u there)))
-slot_clear flags allocated (Address name addend) s t e ends f j u h =
-    let here = length s.bytes in
-    let there : slice_get s.uses j ≡ Some u = (λ i. slice_get (sym e i).uses j) ∙ h in
-    let end : u.offset + length (marks_of u.kind) ≤ here = ends j u there in
-    subst (λ rs. AllClear rs u.offset (length (marks_of u.kind))) (λ i. (sym e i).records)
-    (one_clear s.records (record { offset = here; event = address_event name addend }) u.offset (length (marks_of u.kind)) (after_clear u.offset (length (marks_of u.kind)) here (address_event name addend) end) (f.clear j u there))
-slot_clear flags allocated (CallTo name ops) s t (code, is, e) ends f j u h =
-    let here = length s.bytes in
-    let there : slice_get s.uses j ≡ Some u = (λ i. slice_get (sym e i).uses j) ∙ h in
-    let end : u.offset + length (marks_of u.kind) ≤ here = ends j u there in
-    subst (λ rs. AllClear rs u.offset (length (marks_of u.kind))) (λ i. (sym e i).records)
-    (one_clear s.records (record { offset = here; event = call_event name }) u.offset (length (marks_of u.kind)) (after_clear u.offset (length (marks_of u.kind)) here (call_event name) end) (f.clear j u there))
+    (one_clear (s.records ++ record { offset = length s.bytes; event = upper_event symbol } ∷ []) (record { offset = length (s.bytes ++ first); event = lower_event (length s.bytes) }) u.offset (length (marks_of u.kind)) (after_clear u.offset (length (marks_of u.kind)) (length (s.bytes ++ first)) (lower_event (length s.bytes)) (omega (arith, length-append s.bytes first, end))) (event_clear s (upper_event symbol) j u ends f there))
+slot_clear flags allocated (Address name addend) s t e ends f j u h = subst (λ rs. AllClear rs u.offset (length (marks_of u.kind))) (λ i. (sym e i).records) (event_clear s (address_event name addend) j u ends f ((λ i. slice_get (sym e i).uses j) ∙ h))
+slot_clear flags allocated (CallTo name ops) s t (code, is, e) ends f j u h = subst (λ rs. AllClear rs u.offset (length (marks_of u.kind))) (λ i. (sym e i).records) (event_clear s (call_event name) j u ends f ((λ i. slice_get (sym e i).uses j) ∙ h))
 slot_clear flags allocated slot s t p ends f j u h = subst (λ rs. AllClear rs u.offset (length (marks_of u.kind))) (λ i. (sym p i).records) (f.clear j u ((λ i. slice_get (sym p i).uses j) ∙ h))
 
 pub slot_fields : (flags : IsaFlags) (allocated : ℕ) (slot : Slot) (s t : Shape LabelUse) → PutsSlot flags allocated slot s t → AllEnd label_kinds s → FieldsStand s → FieldsStand t
@@ -125,22 +108,17 @@ puts_fields flags allocated (slot ∷ slots) s t (mid, first, rest) ends f = put
 -- ---- islands
 
 pub island_fields : (old new : Buffer) → AppendsIsland old new → FieldsStand (shape_of old) → FieldsStand (shape_of new)
-island_fields old new p f = record {
-  ends = λ k r h. ends_later (length (bytes_of old)) (length (bytes_of new)) r.offset r.event (let l = p.longer in omega arith) (f.ends k r (sym (ap (λ rs. slice_get rs k) p.records) ∙ h));
-  clear = λ j u h. subst (λ rs. AllClear rs u.offset (length (marks_of u.kind))) (sym p.records) (⊎_elim
-      (λ w. subst (λ (x : Use LabelUse). Apart x) w.alike (was j w.was w.there))
-      (λ (k, is, there). clear_later (shape_of old) u.offset (length (marks_of u.kind)) f.ends (let a = (p.own.own k _ there).after in omega arith))
-      (recorded_at (uses_of new) (uses_of old ++ jump ∷ []) p.own.more p.own.grown j u h));
-}
-  where
-    Apart : Use LabelUse → Type 0
-    Apart x = AllClear (shape_of old).records x.offset (length (marks_of x.kind))
-
-    jump : Use LabelUse
-    jump = use_at (length (bytes_of old)) p.after_island Jal20
-
-    was : (j : ℕ) (x : Use LabelUse) → slice_get (uses_of old ++ jump ∷ []) j ≡ Some x → Apart x
-    was = append_each Apart (uses_of old) jump (clear_later (shape_of old) (length (bytes_of old)) 4 f.ends (omega arith)) f.clear
+island_fields old new p f =
+    let jump = use_at (length (bytes_of old)) p.after_island Jal20 in
+    let was : (j : ℕ) (x : Use LabelUse) → slice_get (uses_of old ++ jump ∷ []) j ≡ Some x → AllClear (shape_of old).records x.offset (length (marks_of x.kind)) =
+    append_each (λ (x : Use LabelUse). AllClear (shape_of old).records x.offset (length (marks_of x.kind))) (uses_of old) jump (clear_later (shape_of old) (length (bytes_of old)) 4 f.ends (omega arith)) f.clear in
+    record {
+      ends = λ k r h. ends_later (length (bytes_of old)) (length (bytes_of new)) r.offset r.event (let l = p.longer in omega arith) (f.ends k r (sym (ap (λ rs. slice_get rs k) p.records) ∙ h));
+      clear = λ j u h. subst (λ rs. AllClear rs u.offset (length (marks_of u.kind))) (sym p.records) (⊎_elim
+          (λ w. subst (λ (x : Use LabelUse). AllClear (shape_of old).records x.offset (length (marks_of x.kind))) w.alike (was j w.was w.there))
+          (λ (k, is, there). clear_later (shape_of old) u.offset (length (marks_of u.kind)) f.ends (let a = (p.own.own k _ there).after in omega arith))
+          (recorded_at (uses_of new) (uses_of old ++ jump ∷ []) p.own.more p.own.grown j u h));
+    }
 
 -- ---- what stands stays
 
@@ -185,9 +163,7 @@ puts_well : (flags : IsaFlags) (allocated : ℕ) (slots : List Slot) (here : ℕ
 puts_well flags allocated [] here at s t c even p w = subst StandWell (sym p) w
 puts_well flags allocated (slot ∷ slots) here at s t c even (m, first, rest) w =
     let e = even_after here at slot slots c in
-    let e0 = e.0 in
-    let long = slot_bytes flags allocated slot s m first in
-    puts_well flags allocated slots here e.1.0 m t e.1.1 (omega arith) rest (slot_well flags allocated slot s m even first w)
+    puts_well flags allocated slots here e.1.0 m t e.1.1 (omega (arith, slot_bytes flags allocated slot s m first)) rest (slot_well flags allocated slot s m even first w)
 
 -- ---- an island where one is needed
 

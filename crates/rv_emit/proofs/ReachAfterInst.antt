@@ -1,14 +1,10 @@
 -- How a sequence and an island keep Reach, and what is pending after them.
+use Rattle.{rv_code.proofs.MadeOfPieces.jump_reach, rv_emit.proofs.{Islands.deadlines_as, OwnPieces.Each, OwnPieces.each_none, OwnPieces.each_more, OwnPieces.jump_served, MostBytes.most_in_sequence}}
 use Rattle.rv_emit.proofs.Terms.{◌≡◌, ◌⊎◌, inl, inr, ℕ, suc, ◌+◌, ◌*◌, ◌≤◌, Bool, true, false, cond, List, [], ◌∷◌, ◌++◌, length, Option, Some, None, refl, ap, sym, ◌∙◌, subst, arith, ⊎_elim, append_assoc, is_none, not, ◌&&◌, ◌-◌, length-append, append-nil, TryCallInfo, MachLabel, IsaFlags}
-use Rattle.rv_emit.proofs.Terms.{jump_kind, jump_size, Context, Inst, inst_rule, Fallthrough, LabelUse, B12, PCRelHi20, PCRelLo12I, label_kinds, forward_of, has_veneer_of, targets_of, try_call_of, Targets, Nowhere, Jumps, Branches, Refers, RefersConstant, constant_label, is_far, Kinds, code_limit}
-use Rattle.rv_emit.proofs.Terms.{Use, CanReach, HasSlack, deadline, deadlines, is_pending, is_reached, is_needed, bytes_of, uses_of, place_of, deadlines_append, none_from, slack_use, slack_less, slack_not_needed, reach_from_slack, Buffer, pending, IsFarUse, IsOwnUse, AppendsInst, IslandIfNeeded}
-use Rattle.rv_emit.proofs.Terms.{CanEmit, words_in, line_space, inst_code, extent_of, island_space, inst_sum, sequence_limit, use_at, target_uses, uses_by, uses_in, uses_start, named_kept, least_few}
-use Rattle.rv_inst.specs.declared.inst.CondBrTarget.TheVariants.{Label}
-use Rattle.rv_emit.proofs.Islands.{deadlines_as}
-use Rattle.rv_code.proofs.MadeOfPieces.{jump_reach}
-use Rattle.rv_emit.proofs.OwnPieces.{Each, each_none, each_more, jump_served}
-use Rattle.rv_emit.proofs.InstSlots.{words_within}
-use Rattle.rv_emit.proofs.MostBytes.{most_in_sequence}
+use Rattle.rv_emit.proofs.Terms.{jump_kind, jump_size, Context, Inst, Fallthrough, LabelUse, B12, PCRelHi20, PCRelLo12I, label_kinds, has_veneer_of, targets_of, try_call_of, Targets, Nowhere, Jumps, Branches, Refers, RefersConstant, constant_label, is_far, Kinds, Use, CanReach, HasSlack, deadline}
+use Rattle.rv_emit.proofs.Terms.{deadlines, is_pending, is_reached, is_needed, bytes_of, uses_of, place_of, deadlines_append, none_from, slack_use, slack_less, slack_not_needed, reach_from_slack, Buffer, pending, IsFarUse, IsOwnUse, Appends, AppendsCode, IslandAsked, IslandIfNeeded, CanEmit, Size}
+use Rattle.rv_emit.proofs.Terms.{Exactly, AtMost, IsOfSize, most_of, Request, first_in, space_in, request_of, inst_size, EmitIsland, BrTable, Call, CallInd, ReturnCall, ReturnCallInd, is_some, lit≤, line_space, inst_code, sequence_limit, use_at, target_uses, uses_by, uses_in, uses_start, named_kept}
+use Rattle.{rv_emit.proofs.Terms.least_few, rv_inst.specs.declared.inst.CondBrTarget.TheVariants.Label}
 
 -- whether a use is pending
 abbrev pub pending_at : (ℕ → Option ℕ) → Use LabelUse → Bool
@@ -20,12 +16,8 @@ pending_at place = is_pending label_kinds place
 abbrev pub first_use : Context → Inst → ℕ → ℕ
 first_use context inst start = uses_start (inst_code context inst).led start
 
-not_before : (led : Bool) (start : ℕ) → start ≤ uses_start led start
-not_before true start = omega arith
-not_before false start = omega arith
-
 pub uses_late : (context : Context) (inst : Inst) (start : ℕ) → start ≤ first_use context inst start
-uses_late context inst start = not_before (inst_code context inst).led start
+uses_late context inst start = elim (inst_code context inst).led as (λ led. start ≤ uses_start led start) [ true ↦ omega arith | false ↦ omega arith ]
 
 -- what holds of each list of uses that an instruction may have, from where they begin, holds of its own
 pub each_uses : (P : List (Use LabelUse) → Type 0) (context : Context) (start end : ℕ) (inst : Inst) → ((label : MachLabel) → P (use_at (end - jump_size context.flags) label (jump_kind context.flags) ∷ [])) → P [] → ((label : MachLabel) → P (use_at start label (jump_kind context.flags) ∷ [])) → ((t : MachLabel) → P (use_at start t B12 ∷ [])) → ((t f : MachLabel) → P (use_at start t B12 ∷ use_at (start + 4) f (jump_kind context.flags) ∷ [])) → ((label : MachLabel) → P (use_at start label PCRelHi20 ∷ use_at (start + 4) label PCRelLo12I ∷ [])) → P (uses_by context.flags start end (try_call_of inst) (targets_of inst))
@@ -57,17 +49,13 @@ each_use P context start end inst continued jump branch second upper lower =
     (λ t f. each_more P _ (use_at (start + 4) f (jump_kind context.flags) ∷ []) (branch t) (each_more P _ [] (second f) (each_none P)))
     (λ label. each_more P _ (use_at (start + 4) label PCRelLo12I ∷ []) (upper label) (each_more P _ [] (lower label) (each_none P)))
 
--- how far a jump reaches at least
-pub jump_far : (flags : IsaFlags) → 2046 ≤ forward_of (jump_kind flags)
-jump_far flags = (jump_reach flags).0
-
 -- each reaches over 1900 bytes after the instruction
 pub uses_far : (context : Context) (start end : ℕ) (inst : Inst) → end ≤ start + sequence_limit → Each (λ u. end + 1900 ≤ deadline label_kinds u) (uses_in context start end inst)
 uses_far context start end inst le = from (first_use context inst start) (uses_late context inst start)
   where
     from : (begin : ℕ) → start ≤ begin → Each (λ u. end + 1900 ≤ deadline label_kinds u) (uses_by context.flags begin end (try_call_of inst) (targets_of inst))
     from begin late =
-        let far = jump_far context.flags in
+        let far = (jump_reach context.flags).0 in
         let few = least_few context.flags in
         each_use (λ u. end + 1900 ≤ deadline label_kinds u) context begin end inst (λ label. omega arith) (λ label. omega arith) (λ label. omega arith) (λ label. omega arith) (λ label. omega arith) (λ label. omega arith)
 
@@ -82,25 +70,13 @@ uses_kinds context start end inst = each_use IsServed context (first_use context
 pub uses_bare : (context : Context) (start end : ℕ) (inst : Inst) → Each (λ u. u.veneer ≡ None) (uses_in context start end inst)
 uses_bare context start end inst = each_use (λ u. u.veneer ≡ None) context (first_use context inst start) end inst (λ label. refl) (λ label. refl) (λ label. refl) (λ label. refl) (λ label. refl) (λ label. refl)
 
--- ---- bytes of a sequence
-
--- as many bytes more as it is long
-pub bytes_put : (context : Context) (inst : Inst) (old new : Buffer) → AppendsInst context inst old new → length (bytes_of new) ≡ length (bytes_of old) + words_in (extent_of context inst)
-bytes_put context inst old new p = ap length p.adds.bytes ∙ length-append (bytes_of old) p.code ∙ ap (λ n. length (bytes_of old) + n) (sym p.long)
-
--- at most the limit of a sequence where it asks for no island
-bytes_after : (context : Context) (inst : Inst) (old new : Buffer) → inst_rule context inst ≡ None → inst_sum context inst ≤ code_limit → island_space context inst ≡ None → AppendsInst context inst old new → length (bytes_of new) ≤ length (bytes_of old) + sequence_limit
-bytes_after context inst old new rule small asks p = omega (arith, words_within context inst rule small, bytes_put context inst old new p, most_in_sequence context inst asks)
-
 -- ---- what is pending
 
 pub few_deadlines : {L : Type 0} (test : Use L → Bool) (kinds : Kinds L) (uses : List (Use L)) → length (deadlines test kinds uses) ≤ length uses
 few_deadlines test kinds [] = omega arith
-few_deadlines test kinds (u ∷ uses) = on (test u) (few_deadlines test kinds uses)
-  where
-    on : (c : Bool) → length (deadlines test kinds uses) ≤ length uses → length (cond c (deadline kinds u ∷ deadlines test kinds uses) (deadlines test kinds uses)) ≤ suc (length uses)
-    on true le = omega arith
-    on false le = omega arith
+few_deadlines test kinds (u ∷ uses) =
+    let le = few_deadlines test kinds uses in
+    elim (test u) as (λ c. length (cond c (deadline kinds u ∷ deadlines test kinds uses) (deadlines test kinds uses)) ≤ suc (length uses)) [ true ↦ omega arith | false ↦ omega arith ]
 
 -- a use that reaches everywhere is never pending
 pub far_never_pending : {labels : List MachLabel} (place : ℕ → Option ℕ) (u : Use LabelUse) → IsFarUse labels u → pending_at place u ≡ false
@@ -116,7 +92,7 @@ own_never_pending place u o = (λ i. has_veneer_of u.kind && (is_none u.veneer &
     never false b = refl
 
 -- so neither is any beside those that may go by a veneer
-pub direct_never_pending : (context : Context) (inst : Inst) (old new : Buffer) (p : AppendsInst context inst old new) → Each (λ u. pending_at (place_of new) u ≡ false) p.direct
+pub direct_never_pending : (context : Context) (inst : Inst) (old new : Buffer) (p : Appends context inst old new) → Each (λ u. pending_at (place_of new) u ≡ false) p.direct
 direct_never_pending context inst old new p j u h = ⊎_elim (λ f. far_never_pending (place_of new) u f) (λ o. own_never_pending (place_of new) u o) (p.each j u h)
 
 -- what isn't pending stays so where labels that are bound stay so
@@ -132,22 +108,32 @@ pending_still place new_place kept u none = on (place u.label.number) refl
     on None e = less (has_veneer_of u.kind) (is_none u.veneer) (not (is_reached label_kinds (new_place u.label.number) u)) (sym (λ i. has_veneer_of u.kind && (is_none u.veneer && not (is_reached label_kinds (e i) u))) ∙ none)
     on (Some at) e = (λ i. has_veneer_of u.kind && (is_none u.veneer && not (is_reached label_kinds ((kept u.label.number at e ∙ sym e) i) u))) ∙ none
 
--- the uses that were there before an instruction are pending after it as they were
-before_pending : (context : Context) (inst : Inst) (old new : Buffer) → AppendsInst context inst old new → deadlines (pending_at (place_of new)) label_kinds (uses_of old) ≡ pending old
-before_pending context inst old new p = deadlines_as (pending_at (place_of new)) (pending_at (place_of old)) label_kinds (uses_of old) (λ j u h i. has_veneer_of u.kind && (is_none u.veneer && not (is_reached label_kinds (named_kept p.adds j u h i) u)))
+-- what is pending after bytes, uses of no label but theirs: what was before, and their uses that are
+code_pending : {code : List ℕ} {own : List (Use LabelUse)} {old new : Buffer} → AppendsCode code own old new → pending new ≡ pending old ++ deadlines (pending_at (place_of old)) label_kinds own
+code_pending {own = own} {old} a = (λ i. deadlines (pending_at (a.places i)) label_kinds (a.uses i)) ∙ deadlines_append (pending_at (place_of old)) label_kinds (uses_of old) own
 
--- what is pending after an instruction: what was before, and its own uses that are
-pub pending_adds : (context : Context) (inst : Inst) (old new : Buffer) → AppendsInst context inst old new → pending new ≡ pending old ++ deadlines (pending_at (place_of new)) label_kinds (uses_in context (length (bytes_of old)) (length (bytes_of new)) inst)
-pending_adds context inst old new p =
+-- so the same is pending where there are none
+pub still_pending : {code : List ℕ} {old new : Buffer} → AppendsCode code [] old new → pending new ≡ pending old
+still_pending {old = old} a = code_pending a ∙ append-nil (pending old)
+
+-- the uses that were there before an instruction are pending after it as they were
+before_pending : (context : Context) (inst : Inst) (old new : Buffer) (a : Appends context inst old new) → deadlines (pending_at (place_of new)) label_kinds (uses_of a.last) ≡ pending a.last
+before_pending context inst old new a = deadlines_as (pending_at (place_of new)) (pending_at (place_of a.last)) label_kinds (uses_of a.last) (λ j u h i. has_veneer_of u.kind && (is_none u.veneer && not (is_reached label_kinds (named_kept a.adds j u h i) u)))
+
+-- what is pending after an instruction: what was before its last bytes, and its own uses that are
+pub pending_adds : (context : Context) (inst : Inst) (old new : Buffer) (a : Appends context inst old new) → pending new ≡ pending a.last ++ deadlines (pending_at (place_of new)) label_kinds (uses_in context (length (bytes_of old)) (length (bytes_of new)) inst)
+pending_adds context inst old new a =
     let test = pending_at (place_of new) in
     let own = uses_in context (length (bytes_of old)) (length (bytes_of new)) inst in
-    let rest : deadlines test label_kinds (own ++ p.direct) ≡ deadlines test label_kinds own = deadlines_append test label_kinds own p.direct ∙ ap (λ ds. deadlines test label_kinds own ++ ds) (none_from test label_kinds p.direct (direct_never_pending context inst old new p)) ∙ append-nil _ in
-    ap (deadlines test label_kinds) p.adds.uses ∙ deadlines_append test label_kinds (uses_of old) (own ++ p.direct) ∙ (λ i. before_pending context inst old new p i ++ rest i)
-
-pub pending_whole : (context : Context) (inst : Inst) (old new : Buffer) → AppendsInst context inst old new → length (pending new) ≡ length (pending old) + length (deadlines (pending_at (place_of new)) label_kinds (uses_in context (length (bytes_of old)) (length (bytes_of new)) inst))
-pending_whole context inst old new p = ap length (pending_adds context inst old new p) ∙ length-append (pending old) _
+    let rest : deadlines test label_kinds (own ++ a.direct) ≡ deadlines test label_kinds own = deadlines_append test label_kinds own a.direct ∙ ap (λ ds. deadlines test label_kinds own ++ ds) (none_from test label_kinds a.direct (direct_never_pending context inst old new a)) ∙ append-nil _ in
+    ap (deadlines test label_kinds) a.adds.uses ∙ deadlines_append test label_kinds (uses_of a.last) (own ++ a.direct) ∙ (λ i. before_pending context inst old new a i ++ rest i)
 
 -- ---- Reach
+
+-- no more than a size has at most
+pub fits_most : (size : Size) (n : ℕ) → IsOfSize size n → n ≤ most_of size
+fits_most (Exactly m) n e = omega arith
+fits_most (AtMost m) n le = le
 
 -- uses are recorded: eight bytes of slack for each
 pub slack_uses : (test : Use LabelUse → Bool) (cur slack : ℕ) (uses own : List (Use LabelUse)) → Each (λ u. cur + slack + 8 * length own ≤ deadline label_kinds u) own → HasSlack cur (slack + 8 * length own) (deadlines test label_kinds uses) → HasSlack cur slack (deadlines test label_kinds (uses ++ own))
@@ -164,30 +150,6 @@ pub reach_calm : (b : Buffer) → is_needed (length (bytes_of b)) line_space (pe
 reach_calm b calm =
     reach_from_slack (length (bytes_of b)) (pending b) (slack_less (length (bytes_of b) + line_space) 30 (length (bytes_of b)) 14 (pending b) (omega arith) (slack_not_needed (length (bytes_of b)) line_space (pending b) calm))
 
--- and it holds after an instruction
-pub reach_after : (context : Context) (inst : Inst) (old new : Buffer) → CanEmit context inst old → island_space context inst ≡ None → AppendsInst context inst old new → CanReach (length (bytes_of new)) (pending new)
-reach_after context inst old new can asks p =
-    let start = length (bytes_of old) in
-    let cur = length (bytes_of new) in
-    let own = uses_in context start cur inst in
-    let room = can.room in
-    let near : cur ≤ start + sequence_limit = bytes_after context inst old new can.rule (omega arith) asks p in
-    let few : length own ≤ 2 = few_uses context start cur inst in
-    let spare : HasSlack cur (14 + 8 * length own) (pending old) =
-    slack_less (start + line_space) 30 cur (14 + 8 * length own) (pending old) (omega arith) (slack_not_needed start line_space (pending old) can.calm) in
-    let far : Each (λ u. cur + 14 + 8 * length own ≤ deadline label_kinds u) own = λ k u e. let f = uses_far context start cur inst near k u e in omega arith in
-    let test = pending_at (place_of new) in
-    let before = sym (before_pending context inst old new p) in
-    let whole : pending new ≡ deadlines test label_kinds (uses_of old ++ own) = pending_adds context inst old new p ∙ ap (λ ds. ds ++ deadlines test label_kinds own) before ∙ sym (deadlines_append test label_kinds (uses_of old) own) in
-    reach_from_slack cur (pending new) (subst (HasSlack cur 14) (sym whole) (slack_uses test cur 14 (uses_of old) own far (subst (HasSlack cur (14 + 8 * length own)) before spare)))
-
--- an island leaves nothing that is pending
-pub reach_after_island : (distance : ℕ) (old new : Buffer) (made : Bool) → IslandIfNeeded distance old new made → CanReach (length (bytes_of old)) (pending old) → CanReach (length (bytes_of new)) (pending new)
-reach_after_island distance old new made m h = ⊎_elim
-    (λ same. subst (λ (b : Buffer). CanReach (length (bytes_of b)) (pending b)) (sym same.1) h)
-    (λ put. subst (CanReach (length (bytes_of new))) (sym put.1.settled) tt)
-    m.put
-
 -- no island is needed where one was just put, or where none was needed
 pub calm_after : (distance : ℕ) (old new : Buffer) (made : Bool) → IslandIfNeeded distance old new made → is_needed (length (bytes_of new)) distance (pending new) ≡ false
 calm_after distance old new made m = ⊎_elim
@@ -200,3 +162,56 @@ pub reach_within : (distance : ℕ) (old new : Buffer) → is_needed (length (by
 reach_within distance old new calm le same =
     subst (CanReach (length (bytes_of new))) (sym same)
     (reach_from_slack (length (bytes_of new)) (pending old) (slack_less (length (bytes_of old) + distance) 30 (length (bytes_of new)) 14 (pending old) (omega arith) (slack_not_needed (length (bytes_of old)) distance (pending old) calm)))
+
+-- ---- and after an instruction
+
+-- one that asks for an island has at most the use of the jump with which it goes on
+asked_uses : (context : Context) (inst : Inst) (start end : ℕ) → is_some (request_of context inst) ≡ true → uses_in context start end inst ≡ uses_by context.flags start end (try_call_of inst) Nowhere
+asked_uses context (EmitIsland space) start end asks = refl
+asked_uses context (BrTable index tmp1 tmp2 targets) start end asks = refl
+asked_uses context (Call info) start end asks = refl
+asked_uses context (CallInd info) start end asks = refl
+asked_uses context (ReturnCall info) start end asks = refl
+asked_uses context (ReturnCallInd info) start end asks = refl
+asked_uses context _ start end asks = absurd (cc)
+
+-- which is in its last bytes
+last_use : (flags : IsaFlags) (start end : ℕ) (t : Option TryCallInfo) → (length (uses_by flags start end t Nowhere) ≤ 1) × Each (λ u. end + 1900 ≤ deadline label_kinds u) (uses_by flags start end t Nowhere)
+last_use flags start end None = (lit≤ tt, each_none _)
+last_use flags start end (Some t) = (lit≤ tt, let far = (jump_reach flags).0 in let few = least_few flags in each_more (λ u. end + 1900 ≤ deadline label_kinds u) _ [] (omega arith) (each_none _))
+
+-- where no island is needed before so many bytes, with so much slack besides as uses need, Reach holds after as many
+reach_by : (context : Context) (inst : Inst) (old new : Buffer) (a : Appends context inst old new) (distance : ℕ) → is_needed (length (bytes_of a.last)) distance (pending a.last) ≡ false → length (bytes_of new) + 8 * length (uses_in context (length (bytes_of old)) (length (bytes_of new)) inst) ≤ length (bytes_of a.last) + distance + 16 →
+    length (uses_in context (length (bytes_of old)) (length (bytes_of new)) inst) ≤ 2 → Each (λ u. length (bytes_of new) + 1900 ≤ deadline label_kinds u) (uses_in context (length (bytes_of old)) (length (bytes_of new)) inst) → CanReach (length (bytes_of new)) (pending new)
+reach_by context inst old new a distance calm le few late =
+    let cur = length (bytes_of new) in
+    let own = uses_in context (length (bytes_of old)) cur inst in
+    let spare : HasSlack cur (14 + 8 * length own) (pending a.last) = slack_less (length (bytes_of a.last) + distance) 30 cur (14 + 8 * length own) (pending a.last) (omega arith) (slack_not_needed (length (bytes_of a.last)) distance (pending a.last) calm) in
+    let far : Each (λ u. cur + 14 + 8 * length own ≤ deadline label_kinds u) own = λ k u e. let f = late k u e in omega arith in
+    let test = pending_at (place_of new) in
+    let before = sym (before_pending context inst old new a) in
+    let whole : pending new ≡ deadlines test label_kinds (uses_of a.last ++ own) = pending_adds context inst old new a ∙ ap (λ ds. ds ++ deadlines test label_kinds own) before ∙ sym (deadlines_append test label_kinds (uses_of a.last) own) in
+    reach_from_slack cur (pending new) (subst (HasSlack cur 14) (sym whole) (slack_uses test cur 14 (uses_of a.last) own far (subst (HasSlack cur (14 + 8 * length own)) before spare)))
+
+pub reach_after : (context : Context) (inst : Inst) (old new : Buffer) → CanEmit context inst old → Appends context inst old new → CanReach (length (bytes_of new)) (pending new)
+reach_after context inst old new can a = by (request_of context inst) refl a.island
+  where
+    long : length (bytes_of new) ≡ length (bytes_of a.last) + length a.code
+    long = ap length a.adds.bytes ∙ length-append (bytes_of a.last) a.code
+
+    by : (r : Option Request) → request_of context inst ≡ r → IslandAsked (space_in r (length a.code)) a.mid a.last → CanReach (length (bytes_of new)) (pending new)
+    by None asks same =
+        let none : length a.front ≡ 0 = subst (λ r. IsOfSize (first_in r) (length a.front)) asks a.begins in
+        let level : length (bytes_of a.last) ≡ length (bytes_of old) = ap (λ (b : Buffer). length (bytes_of b)) same ∙ ap length a.first.bytes ∙ length-append (bytes_of old) a.front ∙ omega (arith, none) in
+        let waits : pending a.last ≡ pending old = ap (λ b. pending b) same ∙ still_pending a.first in
+        let few = fits_most (inst_size context inst) _ a.fits in
+        let most = most_in_sequence context inst can.rule asks in
+        let near : length (bytes_of new) ≤ length (bytes_of old) + sequence_limit = omega (arith, long, level, few, most) in
+        let count = few_uses context (length (bytes_of old)) (length (bytes_of new)) inst in
+        reach_by context inst old new a line_space ((λ i. is_needed (level i) line_space (waits i)) ∙ can.calm) (omega (arith, near, level, count)) count (uses_far context (length (bytes_of old)) (length (bytes_of new)) inst near)
+    by (Some r) asks (made, room) =
+        let own = asked_uses context inst (length (bytes_of old)) (length (bytes_of new)) (ap is_some asks) in
+        let last = last_use context.flags (length (bytes_of old)) (length (bytes_of new)) (try_call_of inst) in
+        let le = a.within (r.space (length a.code)) (ap (λ r. space_in r (length a.code)) asks) in
+        let one : length (uses_in context (length (bytes_of old)) (length (bytes_of new)) inst) ≤ 1 = subst (λ us. length us ≤ 1) (sym own) last.0 in
+        reach_by context inst old new a (r.space (length a.code)) (calm_after (r.space (length a.code)) a.mid a.last made room) (omega (arith, long, le, one)) (omega (arith, one)) (subst (Each (λ u. length (bytes_of new) + 1900 ≤ deadline label_kinds u)) (sym own) last.1)

@@ -1,5 +1,5 @@
 -- What is put is what an instruction emits, also with the map that is given to it.
-use Rattle.rv_emit.proofs.Terms.{◌≡◌, Result, sym, subst, OnOk, Option, refl, ap, ◌∙◌, on_ok_weaker, Inst, UserStackMap, Context, family_of, island_space, Family, Calls, Call, CallInd, EmitVState, EmitsIn, Emits, EmitsGiven, Buffer, CanEmit, IsBounded, with_map, map_given}
+use Rattle.rv_emit.proofs.Terms.{◌≡◌, Result, sym, subst, OnOk, Option, refl, ap, ◌∙◌, on_ok_weaker, Inst, UserStackMap, Context, family_of, request_of, Family, Calls, Call, CallInd, EmitVState, EmitsIn, Emits, EmitsGiven, Buffer, CanEmit, IsBounded, with_map, map_given}
 
 -- ---- what a call puts
 
@@ -22,7 +22,7 @@ other_given map inst other = refl
 pub emits_given : (map : Option UserStackMap) (context : Context) (inst : Inst) (family : Family) → family_of inst ≡ family → IsOther family → (old new : Buffer) → Emits context inst old new → Emits context (with_map map inst) old new
 emits_given map context inst family is other old new e = subst (λ i. Emits context i old new) (sym (other_given map inst (subst IsOther (sym is) other))) e
 
-pub space_given : (map : Option UserStackMap) (context : Context) (inst : Inst) → island_space context (with_map map inst) ≡ island_space context inst
+pub space_given : (map : Option UserStackMap) (context : Context) (inst : Inst) → request_of context (with_map map inst) ≡ request_of context inst
 space_given map context (Call info) = refl
 space_given map context (CallInd info) = refl
 space_given map context inst = refl

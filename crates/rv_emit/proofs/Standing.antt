@@ -1,24 +1,13 @@
 -- What was put into a buffer, whatever followed, stands in the finished code.
-use Rattle.rv_emit.proofs.Terms.{◌≡◌, ◌⊎◌, ℕ, ◌+◌, ◌%◌, ◌≤◌, Bool, true, false, ⊎_elim, List, [], ◌∷◌, ◌++◌, length, Option, Some, None, ℤ, pos, ◌-ℤ◌, refl, ap, sym, ◌∙◌, subst, arith, slice_get, ◌&&◌, true≢false, le-leb, same_Some, MachLabel, to_le_bytes, w64, length-append, SameOutside}
-use Rattle.rv_emit.proofs.Terms.{ExternalName, Decoded, LabelUse, PCRel32, PCRelHi20, PCRelLo12I, label_kinds, Aims, marks_of, has_veneer_of, veneer_of, forward_of, backward_of, use_at, Use, Shape, with_bytes, with_record, veneer_use, Event, MachRecord, AllEnd, window, is_reached, Lasts}
-use Rattle.rv_emit.proofs.Terms.{RecordsLast, ByVeneer, UseFinished, lasts_more, lasts_bytes, lasts_record, piece_finished, use_finished, slice_get-append, slice_get-append_last, wide_jump_to, access_slots, Symbol, AddressOf, Target, Label, Own, Slot, Op, Aim, Data, Notes, Here, Fill, Address}
-use Rattle.rv_emit.proofs.Terms.{CallTo, upper_event, lower_event, address_event, call_event, Part, Ask, Slots, slot_size, size_of, own_label, label_of, between, here_at, IsClosed, AreClosed, AreSelfContained, PartsAreSelfContained, Site, BytesAt, IsPlacedAt, CodeHas, LeadsOn, Leads, Reaches}
-use Rattle.rv_emit.proofs.Terms.{AimsFrom, symbol_address, FillsFrom, LinksFrom, StandsIn, GapIn, PartsStand, Memory, fetch, TrapCode, IsOwnForm, low_funct3, AllClear, FieldsEnd, FieldsStand, KeepsOutside, IsFilled, Encodes, eight_zeros, PutsSlot, Puts, SlotsIn, IslandIn, GapStandsIn, PartsIn}
-use Rattle.rv_emit.proofs.Terms.{IsFinishedTo, slot_bytes, slot_ends, lasts_after_slots, puts_bytes, puts_uses, leads_here, leads_both, jump_leads, closed_even}
-use Rattle.mach_buffer.proofs.Laws.{recorded_at as use_recorded_at}
-use Rattle.rv_code.specs.Slots.{uses_of}
+use Rattle.{mach_buffer.proofs.Laws.recorded_at as use_recorded_at, rv_code.specs.Slots.uses_of}
+use Rattle.rv_emit.proofs.{PartsInBuffer.clear_there, PartsInBuffer.clear_later, PartsInBuffer.slot_fields_end, OwnPieces.bound_here, OwnPieces.own_bound, OwnPieces.near, VeneerRuns.window_length, VeneerRuns.window_fits, VeneerRuns.window_there, VeneerRuns.veneer_leads}
+use Rattle.rv_emit.proofs.Terms.{◌≡◌, ◌⊎◌, ℕ, ◌+◌, ◌%◌, ◌≤◌, Bool, true, false, ⊎_elim, List, [], ◌∷◌, ◌++◌, length, Option, Some, None, ℤ, pos, ◌-ℤ◌, refl, ap, sym, ◌∙◌, subst, arith, slice_get, true≢false, same_Some, MachLabel, to_le_bytes, w64, length-append, SameOutside, ExternalName, Decoded}
+use Rattle.rv_emit.proofs.Terms.{LabelUse, PCRel32, PCRelHi20, PCRelLo12I, label_kinds, Aims, marks_of, has_veneer_of, veneer_of, use_at, Use, Shape, with_bytes, with_record, veneer_use, Event, MachRecord, AllEnd, window, is_reached, Lasts, RecordsLast, ByVeneer, UseFinished, lasts_more}
+use Rattle.rv_emit.proofs.Terms.{lasts_bytes, lasts_record, piece_finished, use_finished, slice_get-append, slice_get-append_last, wide_jump_to, access_slots, Symbol, AddressOf, Target, Label, Own, Slot, Op, Aim, Data, Notes, Here, Fill, Address, CallTo, upper_event, lower_event, address_event}
+use Rattle.rv_emit.proofs.Terms.{call_event, Part, Ask, Slots, slot_size, size_of, own_label, label_of, between, here_at, IsClosed, AreClosed, AreSelfContained, PartsAreSelfContained, Site, BytesAt, IsPlacedAt, CodeHas, LeadsOn, Leads, Reaches, AimsFrom, symbol_address, FillsFrom, LinksFrom}
+use Rattle.rv_emit.proofs.Terms.{StandsIn, GapIn, PartsStand, Memory, fetch, TrapCode, IsOwnForm, low_funct3, AllClear, FieldsEnd, FieldsStand, KeepsOutside, IsFilled, Encodes, eight_zeros, PutsSlot, Puts, SlotsIn, IslandIn, GapStandsIn, PartsIn, IsFinishedTo, slot_bytes, slot_ends}
+use Rattle.rv_emit.proofs.Terms.{lasts_after_slots, puts_bytes, puts_uses, leads_here, leads_both, jump_leads, closed_even}
 use Rattle.mach_records.specs.declared.records.Event.TheVariants as event
-use Rattle.rv_emit.proofs.PartsInBuffer.{clear_there, clear_later, slot_fields_end}
-use Rattle.rv_emit.proofs.OwnPieces.{bound_here, own_bound}
-use Rattle.rv_emit.proofs.VeneerRuns.{window_length, window_fits, window_there, veneer_leads}
-
--- ---- reach
-
--- a label that is bound near a use is in its reach
-near_reached : (kind : LabelUse) (label : MachLabel) (from at to : ℕ) (place : Option ℕ) → place ≡ Some (from + to) → to ≤ at + forward_of kind → at ≤ to + backward_of kind → is_reached label_kinds place (use_at (from + at) label kind) ≡ true
-near_reached kind label from at to place e forward backward =
-    ap (λ o. is_reached label_kinds o (use_at (from + at) label kind)) e
-    ∙ (λ i. le-leb (from + to) (from + at + forward_of kind) (omega arith) i && le-leb (from + at) (from + to + backward_of kind) (omega arith) i)
 
 -- ---- slots
 
@@ -32,21 +21,9 @@ module _ (site : Site) (f : Shape LabelUse) (final : List ℕ) (fin : IsFinished
   pub within : (s : Shape LabelUse) → Lasts label_kinds s f → length s.bytes ≤ length site.bytes
   within s lasts = let a = lasts.grows.longer in let b = fin.finishes.grows.longer in let c = fin.finishes.same_length in let d = keeps.long in omega arith
 
-  -- a label that is bound stands in the code where it was bound
-  placed_at : (s : Shape LabelUse) (label to : ℕ) → Lasts label_kinds s f → s.place label ≡ Some to → site.place label ≡ Some to
-  placed_at s label to lasts h = ap (λ (p : ℕ → Option ℕ). p label) same ∙ fin.finishes.grows.places label to (lasts.grows.places label to h)
-
-  -- and so does one that is bound in the buffer
-  bound_in : (label to : ℕ) → f.place label ≡ Some to → fin.finishes.put.place label ≡ Some to
-  bound_in label to h = fin.finishes.grows.places label to h
-
   -- a label stands at an even offset of the code
   pub place_within : (label at : ℕ) → fin.finishes.put.place label ≡ Some at → (at ≤ length site.bytes) × (at % 2 ≡ 0)
-  place_within label at h =
-      let there = fin.finishes.places label at h in
-      let le = there.0 in
-      let c = fin.finishes.same_length in
-      let d = keeps.long in (omega arith, there.1)
+  place_within label at h = let there = fin.finishes.places label at h in (omega (arith, there, keeps.long), there.1)
 
   -- an event that was recorded is recorded in the code
   recorded_at : (s mid : Shape LabelUse) (e : Event) → mid ≡ with_record e s → RecordsLast mid f → slice_get site.records (length s.records) ≡ Some (record { offset = length s.bytes; event = e })
@@ -59,9 +36,7 @@ module _ (site : Site) (f : Shape LabelUse) (final : List ℕ) (fin : IsFinished
   -- bytes that were put and recorded nothing are as they are in the finished code
   left_there : (s mid : Shape LabelUse) (size : ℕ) → FieldsEnd s → mid.records ≡ s.records → length mid.bytes ≡ length s.bytes + size → Lasts label_kinds mid f → window site.bytes (length s.bytes) size ≡ window final (length s.bytes) size
   left_there s mid size ends quiet long lasts =
-      let w = within mid lasts in
-      let l = keeps.long in
-      keeps.same (length s.bytes) size (omega arith) (subst (λ rs. AllClear rs (length s.bytes) size) (sym same_records) (clear_there s mid f size ends quiet long lasts.records))
+      keeps.same (length s.bytes) size (omega (arith, within mid lasts)) (subst (λ rs. AllClear rs (length s.bytes) size) (sym same_records) (clear_there s mid f size ends quiet long lasts.records))
 
   -- what the bytes of a window encode, the code has there
   code_has : (at size : ℕ) (ops : List Decoded) → at + size ≤ length site.bytes → Encodes site.context.flags (window site.bytes at size) ops → CodeHas site at ops
@@ -88,8 +63,6 @@ module _ (site : Site) (f : Shape LabelUse) (final : List ℕ) (fin : IsFinished
   -- a veneer of the buffer leads to the place of its label
   by_veneer : FieldsStand f → (u : Use LabelUse) (at : ℕ) (g : ByVeneer label_kinds fin.finishes.put final u at) → LeadsOn site at g.to
   by_veneer fields u at g =
-      let inside = g.stood.inside in
-      let c = fin.finishes.same_length in
       let l = keeps.long in
       let left : window site.bytes at 8 ≡ window final at 8 = keeps.same at 8 (omega arith) (subst (λ rs. AllClear rs at 8) (sym same_records) (veneer_clear fields u at g)) in
       veneer_leads site final u.kind u g.to at g.via g.here fin.all_bytes l left (place_within u.label.number g.to g.bound).1
@@ -107,19 +80,12 @@ module _ (site : Site) (f : Shape LabelUse) (final : List ℕ) (fin : IsFinished
   reaches : FieldsStand f → (allocated from : ℕ) (here : ℕ → Option ℕ) (new : Shape LabelUse) → ArePut f allocated from here new → (at : ℕ) (kind : LabelUse) (target : Target) (s : Shape LabelUse) (piece : List ℕ) → length s.bytes ≡ from + at → slice_get new.uses (length s.uses) ≡ Some (use_at (length s.bytes) (label_of allocated target) kind) → IsClosed here kind target at →
       (x : UseFinished label_kinds s f fin.finishes.put final piece (use_at (length s.bytes) (label_of allocated target) kind)) → Reaches site allocated kind target x.target
   reaches fields allocated from here new put at kind (Label label) s piece e there closed x = leads fields kind label (length s.bytes) x.target (has_veneer_of kind) refl x.goes
-  reaches fields allocated from here new put at kind (Own k) s piece e there closed x = ap (λ (p : ℕ → Option ℕ). p number) same ∙ x.straight (put.lasts.straight (length s.uses) u there refl (reached (new.place number) bound)) (reached (f.place number) (put.lasts.grows.places number (from + closed.to) bound))
-    where
-      number : ℕ
-      number = (own_label allocated k).number
-
-      u : Use LabelUse
-      u = use_at (length s.bytes) (own_label allocated k) kind
-
-      bound : new.place number ≡ Some (from + closed.to)
-      bound = put.own k closed.to closed.there
-
-      reached : (place : Option ℕ) → place ≡ Some (from + closed.to) → is_reached label_kinds place u ≡ true
-      reached place h = subst (λ n. is_reached label_kinds place (use_at n (own_label allocated k) kind) ≡ true) (sym e) (near_reached kind (own_label allocated k) from at closed.to place h closed.forward closed.backward)
+  reaches fields allocated from here new put at kind (Own k) s piece e there closed x =
+      let number = (own_label allocated k).number in
+      let u = use_at (length s.bytes) (own_label allocated k) kind in
+      let bound : new.place number ≡ Some (from + closed.to) = put.own k closed.to closed.there in
+      let reached : (place : Option ℕ) → place ≡ Some (from + closed.to) → is_reached label_kinds place u ≡ true = λ place h. near kind (own_label allocated k) place (length s.bytes) (from + closed.to) h (omega (arith, closed.forward)) (omega (arith, closed.backward)) in
+      ap (λ (p : ℕ → Option ℕ). p number) same ∙ x.straight (put.lasts.straight (length s.uses) u there refl (reached (new.place number) bound)) (reached (f.place number) (put.lasts.grows.places number (from + closed.to) bound))
 
   -- ---- slots in the code
 
@@ -178,13 +144,11 @@ module _ (site : Site) (f : Shape LabelUse) (final : List ℕ) (fin : IsFinished
       let l3 : Lasts label_kinds s3 f = lasts_more (lasts_bytes label_kinds second s3) l4 in
       let l2 : Lasts label_kinds s2 f = lasts_more (lasts_record label_kinds (lower_event at) s2) l3 in
       let l1 : Lasts label_kinds s1 f = lasts_more (lasts_bytes label_kinds first s1) l2 in
-      let a : length first ≡ 4 = hi.long in
-      let b : length second ≡ 4 = lo.long in
-      let next : length (s.bytes ++ first) ≡ at + 4 = length-append s.bytes first ∙ ap (λ n. at + n) a in
+      let next : length (s.bytes ++ first) ≡ at + 4 = length-append s.bytes first ∙ ap (λ n. at + n) hi.long in
       let x = filled.distances (length s.records) (length s2.records) at symbol (recorded_at s s1 (upper_event symbol) refl l1.records) ((recorded_at s2 s3 (lower_event at) refl l3.records) ∙ (λ i. Some (record { offset = next i; event = lower_event at }))) in
       let ends2 : AllEnd label_kinds s2 = λ j u h. let le = ends j u h in omega arith in
-      let one : window final at 4 ≡ first = ap (window final at) (sym a) ∙ piece_finished s1 ends l2 fin.finishes in
-      let two : window final (at + 4) 4 ≡ second = (λ i. window final (sym next i) (sym b i)) ∙ piece_finished s3 ends2 l4 fin.finishes in
+      let one : window final at 4 ≡ first = ap (window final at) (sym hi.long) ∙ piece_finished s1 ends l2 fin.finishes in
+      let two : window final (at + 4) 4 ≡ second = (λ i. window final (sym next i) (sym lo.long i)) ∙ piece_finished s3 ends2 l4 fin.finishes in
       record {
         distance = x.distance;
         near = x.near;
@@ -208,9 +172,8 @@ module _ (site : Site) (f : Shape LabelUse) (final : List ℕ) (fin : IsFinished
       let s1 = with_record (call_event name) s in
       let l2 : Lasts label_kinds (with_bytes code s1) f = subst (λ (x : Shape LabelUse). Lasts label_kinds x f) e lasts in
       let l1 : Lasts label_kinds s1 f = lasts_more (lasts_bytes label_kinds code s1) l2 in
-      let a : length code ≡ 8 = is.long in
       let x = filled.calls (length s.records) at name (recorded_at s s1 (call_event name) refl l1.records) in
-      let there : window final at 8 ≡ code = ap (window final at) (sym a) ∙ piece_finished s1 ends l2 fin.finishes in
+      let there : window final at 8 ≡ code = ap (window final at) (sym is.long) ∙ piece_finished s1 ends l2 fin.finishes in
       record {
         distance = x.distance;
         near = x.near;
@@ -227,40 +190,33 @@ module _ (site : Site) (f : Shape LabelUse) (final : List ℕ) (fin : IsFinished
         subst (λ n. StandsIn site allocated n slots) a.long (stands fields filled allocated from here new put (at + d.len) slots p.0 p.2 closed.1 (omega arith) (a.ends ends) (a.fields kept)),
       )
   stands fields filled allocated from here new put at (Aim kind target ops ∷ slots) s p closed e ends kept =
-      let a = after_slot allocated (Aim kind target ops) slots s p.0 new put.lasts p.1 p.2 in (
-        aim_stands fields allocated from here new put at kind target ops slots s p.0 p.1 p.2 a e closed.0 kept,
-        subst (λ n. StandsIn site allocated n slots) a.long (stands fields filled allocated from here new put (at + length (marks_of kind)) slots p.0 p.2 closed.1 (omega arith) (a.ends ends) (a.fields kept)),
-      )
+      let a = after_slot allocated (Aim kind target ops) slots s p.0 new put.lasts p.1 p.2 in
+      let rest = subst (λ n. StandsIn site allocated n slots) a.long (stands fields filled allocated from here new put (at + length (marks_of kind)) slots p.0 p.2 closed.1 (omega arith) (a.ends ends) (a.fields kept)) in
+      (aim_stands fields allocated from here new put at kind target ops slots s p.0 p.1 p.2 a e closed.0 kept, rest)
   stands fields filled allocated from here new put at (Data bytes ∷ slots) s p closed e ends kept =
-      let a = after_slot allocated (Data bytes) slots s p.0 new put.lasts p.1 p.2 in (
-        λ mem placed. subst (BytesAt mem (site.base + length s.bytes)) (piece_there s p.0 bytes p.1 ends kept a.lasts) (window_there mem site.base site.bytes (length s.bytes) (length bytes) a.room placed.bytes),
-        subst (λ n. StandsIn site allocated n slots) a.long (stands fields filled allocated from here new put (at + length bytes) slots p.0 p.2 closed.1 (omega arith) (a.ends ends) (a.fields kept)),
-      )
+      let a = after_slot allocated (Data bytes) slots s p.0 new put.lasts p.1 p.2 in
+      let rest = subst (λ n. StandsIn site allocated n slots) a.long (stands fields filled allocated from here new put (at + length bytes) slots p.0 p.2 closed.1 (omega arith) (a.ends ends) (a.fields kept)) in
+      (λ mem placed. subst (BytesAt mem (site.base + length s.bytes)) (piece_there s p.0 bytes p.1 ends kept a.lasts) (window_there mem site.base site.bytes (length s.bytes) (length bytes) a.room placed.bytes), rest)
   stands fields filled allocated from here new put at (Notes noted ∷ slots) s p closed e ends kept =
-      let a = after_slot allocated (Notes noted) slots s p.0 new put.lasts p.1 p.2 in (
-        record { index = length s.records; there = recorded_at s p.0 noted p.1.1 a.lasts.records },
-        subst (λ n. StandsIn site allocated n slots) (a.long ∙ omega arith) (stands fields filled allocated from here new put at slots p.0 p.2 closed (omega arith) (a.ends ends) (a.fields kept)),
-      )
+      let a = after_slot allocated (Notes noted) slots s p.0 new put.lasts p.1 p.2 in
+      let rest = subst (λ n. StandsIn site allocated n slots) (a.long ∙ omega arith) (stands fields filled allocated from here new put at slots p.0 p.2 closed (omega arith) (a.ends ends) (a.fields kept)) in
+      (record { index = length s.records; there = recorded_at s p.0 noted p.1.1 a.lasts.records }, rest)
   stands fields filled allocated from here new put at (Here k ∷ slots) s p closed e ends kept =
-      let a = after_slot allocated (Here k) slots s p.0 new put.lasts p.1 p.2 in (
-        placed_at new (own_label allocated k).number (length s.bytes) put.lasts (bound_here site.context.flags allocated k slots s p.0 new p.1 p.2),
-        subst (λ n. StandsIn site allocated n slots) (a.long ∙ omega arith) (stands fields filled allocated from here new put at slots p.0 p.2 closed (omega arith) (a.ends ends) (a.fields kept)),
-      )
+      let a = after_slot allocated (Here k) slots s p.0 new put.lasts p.1 p.2 in
+      let rest = subst (λ n. StandsIn site allocated n slots) (a.long ∙ omega arith) (stands fields filled allocated from here new put at slots p.0 p.2 closed (omega arith) (a.ends ends) (a.fields kept)) in
+      (ap (λ (p : ℕ → Option ℕ). p (own_label allocated k).number) same ∙ fin.finishes.grows.places (own_label allocated k).number (length s.bytes) (put.lasts.grows.places (own_label allocated k).number (length s.bytes) (bound_here site.context.flags allocated k slots s p.0 new p.1 p.2)), rest)
   stands fields filled allocated from here new put at (Fill symbol upper lower ∷ slots) s p closed e ends kept =
-      let a = after_slot allocated (Fill symbol upper lower) slots s p.0 new put.lasts p.1 p.2 in (
-        fill_stands filled allocated symbol upper lower s p.0 p.1 ends a.lasts a.room,
-        subst (λ n. StandsIn site allocated n slots) a.long (stands fields filled allocated from here new put (at + 8) slots p.0 p.2 closed (omega arith) (a.ends ends) (a.fields kept)),
-      )
+      let a = after_slot allocated (Fill symbol upper lower) slots s p.0 new put.lasts p.1 p.2 in
+      let rest = subst (λ n. StandsIn site allocated n slots) a.long (stands fields filled allocated from here new put (at + 8) slots p.0 p.2 closed (omega arith) (a.ends ends) (a.fields kept)) in
+      (fill_stands filled allocated symbol upper lower s p.0 p.1 ends a.lasts a.room, rest)
   stands fields filled allocated from here new put at (Address name addend ∷ slots) s p closed e ends kept =
-      let a = after_slot allocated (Address name addend) slots s p.0 new put.lasts p.1 p.2 in (
-        address_stands filled allocated name addend s p.0 p.1 a.lasts a.room,
-        subst (λ n. StandsIn site allocated n slots) a.long (stands fields filled allocated from here new put (at + 8) slots p.0 p.2 closed (omega arith) (a.ends ends) (a.fields kept)),
-      )
+      let a = after_slot allocated (Address name addend) slots s p.0 new put.lasts p.1 p.2 in
+      let rest = subst (λ n. StandsIn site allocated n slots) a.long (stands fields filled allocated from here new put (at + 8) slots p.0 p.2 closed (omega arith) (a.ends ends) (a.fields kept)) in
+      (address_stands filled allocated name addend s p.0 p.1 a.lasts a.room, rest)
   stands fields filled allocated from here new put at (CallTo name ops ∷ slots) s p closed e ends kept =
-      let a = after_slot allocated (CallTo name ops) slots s p.0 new put.lasts p.1 p.2 in (
-        call_stands filled allocated name ops s p.0 p.1 ends a.lasts a.room,
-        subst (λ n. StandsIn site allocated n slots) a.long (stands fields filled allocated from here new put (at + 8) slots p.0 p.2 closed (omega arith) (a.ends ends) (a.fields kept)),
-      )
+      let a = after_slot allocated (CallTo name ops) slots s p.0 new put.lasts p.1 p.2 in
+      let rest = subst (λ n. StandsIn site allocated n slots) a.long (stands fields filled allocated from here new put (at + 8) slots p.0 p.2 closed (omega arith) (a.ends ends) (a.fields kept)) in
+      (call_stands filled allocated name ops s p.0 p.1 ends a.lasts a.room, rest)
   stands fields filled allocated from here new put at (slot ∷ slots) s p closed e ends kept =
       let a = after_slot allocated slot slots s p.0 new put.lasts p.1 p.2 in
       subst (λ n. StandsIn site allocated n slots) (a.long ∙ omega arith) (stands fields filled allocated from here new put at slots p.0 p.2 closed (omega arith) (a.ends ends) (a.fields kept))
@@ -270,7 +226,6 @@ module _ (site : Site) (f : Shape LabelUse) (final : List ℕ) (fin : IsFinished
   slots_stand fields filled slots start end closed q =
       let long = puts_bytes site.context.flags q.old.allocated slots q.old q.new q.puts in
       let starts = q.starts in
-      let ends = q.ends in
       let put : ArePut f q.old.allocated (length q.old.bytes) (λ k. here_at k 0 slots) q.new = record { own = own_bound site.context.flags q.old.allocated (length q.old.bytes) slots 0 q.old q.new q.puts (omega arith); lasts = q.lasts } in (
         subst (λ n. StandsIn site q.old.allocated n slots) (sym starts) (stands fields filled q.old.allocated (length q.old.bytes) (λ k. here_at k 0 slots) q.new put 0 slots q.old q.puts closed (omega arith) q.windows.inside q.fields),
         omega arith,
@@ -281,7 +236,6 @@ module _ (site : Site) (f : Shape LabelUse) (final : List ℕ) (fin : IsFinished
   own_at allocated d s mid new lasts p rest ends kept mem placed rd imm is holds =
       let a = after_slot allocated (Op d) [] s mid new lasts p rest in
       let long = p.1 in
-      let room = a.room in
       let two : length p.0 ≡ 2 = long ∙ ap (λ (x : Decoded). x.len) is in
       let bytes = subst (BytesAt mem (site.base + length s.bytes)) (piece_there s mid p.0 p.3 ends kept a.lasts) (window_there mem site.base site.bytes (length s.bytes) (length p.0) (omega arith) placed.bytes) in
       low_funct3 mem (site.base + length s.bytes) p.0 bytes two ∙ p.4 rd imm is holds
@@ -290,8 +244,6 @@ module _ (site : Site) (f : Shape LabelUse) (final : List ℕ) (fin : IsFinished
   own_stands None d start end q mem placed = subst (λ n. IsOwnForm d (fetch mem (site.base + n))) (sym q.starts) (own_at q.old.allocated d q.old q.puts.0 q.new q.lasts q.puts.1 q.puts.2 q.windows.inside q.fields mem placed)
   own_stands (Some code) d start end q mem placed =
       let a = after_slot q.old.allocated (Notes (event.Trap code)) (Op d ∷ []) q.old q.puts.0 q.new q.lasts q.puts.1 q.puts.2 in
-      let long = a.long in
-      let starts = q.starts in
       let same : length q.puts.0.bytes ≡ start = omega arith in
       subst (λ n. IsOwnForm d (fetch mem (site.base + n))) same (own_at q.old.allocated d q.puts.0 q.puts.2.0 q.new q.lasts q.puts.2.1 q.puts.2.2 (a.ends q.windows.inside) (a.fields q.fields) mem placed)
 
@@ -304,7 +256,7 @@ module _ (site : Site) (f : Shape LabelUse) (final : List ℕ) (fin : IsFinished
   island_leads : FieldsStand f → IsFilled site final → (from to : ℕ) → from % 2 ≡ 0 → IslandIn site.context.flags f from to → LeadsOn site from to
   island_leads fields filled from to even i =
       let jump = (slots_stand fields filled (wide_jump_to (Label i.after_island) ∷ []) from (from + 4) (tt, tt) i.jump).0.0 in
-      let there : jump.reaches.0 ≡ to = same_Some jump.reaches.0 to (sym jump.reaches.1 ∙ ap (λ (p : ℕ → Option ℕ). p i.after_island.number) same ∙ bound_in i.after_island.number to i.bound) in
+      let there : jump.reaches.0 ≡ to = same_Some jump.reaches.0 to (sym jump.reaches.1 ∙ ap (λ (p : ℕ → Option ℕ). p i.after_island.number) same ∙ fin.finishes.grows.places i.after_island.number to i.bound) in
       leads_both site from jump.to to
       (jump_leads site from jump.to even (slots_within (wide_jump_to (Label i.after_island) ∷ []) from (from + 4) i.jump) jump.has)
       (subst (LeadsOn site jump.to) there jump.reaches.2)
@@ -313,11 +265,11 @@ module _ (site : Site) (f : Shape LabelUse) (final : List ℕ) (fin : IsFinished
   pub gap_stands : FieldsStand f → IsFilled site final → (from to : ℕ) → from % 2 ≡ 0 → GapStandsIn site.context.flags f from to → GapIn site from to
   gap_stands fields filled from to even gap = ⊎_elim
       (λ (here : from ≡ to). record { leads = leads_here site from to here; even = λ e. omega arith; within = omega arith })
-      (λ i. record { leads = island_leads fields filled from to even i; even = λ e. (place_within i.after_island.number to (bound_in i.after_island.number to i.bound)).1; within = let l = i.longer in omega arith })
+      (λ i. record { leads = island_leads fields filled from to even i; even = λ e. (place_within i.after_island.number to (fin.finishes.grows.places i.after_island.number to i.bound)).1; within = let l = i.longer in omega arith })
       gap
 
   gap_within : (from to : ℕ) → from ≤ length site.bytes → GapStandsIn site.context.flags f from to → to ≤ length site.bytes
-  gap_within from to le gap = ⊎_elim (λ (here : from ≡ to). omega arith) (λ i. (place_within i.after_island.number to (bound_in i.after_island.number to i.bound)).0) gap
+  gap_within from to le gap = ⊎_elim (λ (here : from ≡ to). omega arith) (λ i. (place_within i.after_island.number to (fin.finishes.grows.places i.after_island.number to i.bound)).0) gap
 
   -- ---- parts
 
@@ -327,7 +279,6 @@ module _ (site : Site) (f : Shape LabelUse) (final : List ℕ) (fin : IsFinished
   parts_stand fields filled (Ask space ∷ parts) start end contained even le (mid, gap, more) =
       let g = gap_stands fields filled start mid even gap in
       let rest = parts_stand fields filled parts mid end contained (g.even even) (gap_within start mid le gap) more in
-      let a = g.within in
       let b = rest.2 in ((mid, g, rest.0), rest.1, omega arith, rest.3)
   parts_stand fields filled (Slots slots ∷ parts) start end contained even le (mid, put, more) =
       let s = slots_stand fields filled slots start mid contained.0 put in

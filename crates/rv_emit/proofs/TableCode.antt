@@ -1,11 +1,10 @@
 -- What tables, symbols, call sites and steps in the making of a frame put.
 use Rattle.rv_emit.proofs.Terms.{◌≡◌, inl, ℕ, zero, suc, ◌+◌, ◌-◌, ◌*◌, ◌/◌, ◌%◌, ◌^◌, ◌<◌, ◌≤◌, Bool, true, false, List, [], ◌∷◌, ◌++◌, map, take, drop, length, Some, None, ℤ, pos, negsuc, ◌≤ℤ◌, ⊎_elim, refl, ap, sym, subst, ◌∙◌, append_assoc, arith, get_or, option_map, to_le_bytes, cast_signed}
-use Rattle.rv_emit.proofs.Terms.{w32, w64, ints, length-drop, length-take, map-append, take_all, take_more, SameOutside, code_limit, IsaFlags, MachLabel, Base, decode, int_by_opcode, word_opcode, word_funct3, u_bits, i_bits, i_layout, AUIPC, JALR, signed, IsUType, IsIType, decoded, opcode_decodes}
-use Rattle.rv_emit.proofs.Terms.{LabelUse, PCRel32, PCRelHi20, PCRelLo12I, Aims, marks_of, with_immediate, PairDecodes, word_at, word_bytes, use_at, decode-patched_pair, shape_of, bytes_of, allocated_of, Shape, with_bytes, with_use, with_record, PutsAlone, Emits, Buffer, IsSoundBuffer}
-use Rattle.rv_emit.proofs.Terms.{AppendsIsland, IslandIfNeeded, pending, upper_of, lower_of, decoded_jalr, AllBytes, IsPatchable, AsksNothing, eight_zeros, extend_pieces, slots_of, number_slots, table_slots, far_jump, jump_slots, AreListed, IsListed, word_fits, upper_fresh, lower_fresh, upper_is}
-use Rattle.rv_emit.proofs.Terms.{lower_is, Context, inst_rule, inst_sum, table_space, IsIntRegister, number_of, reserve_of, Inst, BrTable, Reg, Writable, keeps, table_fine, alone, both_alone, alone_long, even_plain, extend_even, extend_few, number_even, number_few, number_long, count_splits}
-use Rattle.rv_emit.proofs.Terms.{far_jumps_even, far_jumps_long, ExternalName, Decoded, Event, Symbol, Notes, Fill, Address, CallTo, upper_event, lower_event, address_event, call_event, word_there}
-use Rattle.rv_emit.proofs.VeneerRuns.{rest_there, rest_fits, first_bytes}
+use Rattle.rv_emit.proofs.Terms.{w32, w64, ints, length-drop, length-take, map-append, take_all, take_more, SameOutside, IsaFlags, MachLabel, Base, decode, int_by_opcode, word_opcode, word_funct3, u_bits, i_bits, i_layout, AUIPC, JALR, signed, IsUType, IsIType, decoded, opcode_decodes, LabelUse}
+use Rattle.rv_emit.proofs.Terms.{PCRel32, PCRelHi20, PCRelLo12I, Aims, marks_of, with_immediate, PairDecodes, word_at, word_bytes, use_at, decode-patched_pair, shape_of, bytes_of, allocated_of, Shape, with_bytes, with_use, with_record, PutsAlone, Emits, Buffer, IsSoundBuffer, AppendsIsland}
+use Rattle.rv_emit.proofs.Terms.{IslandIfNeeded, upper_of, lower_of, decoded_jalr, AllBytes, IsPatchable, AsksNothing, eight_zeros, extend_pieces, slots_of, number_slots, table_slots, far_jump, jump_slots, AreListed, IsListed, word_fits, upper_fresh, lower_fresh, upper_is, lower_is, Context}
+use Rattle.rv_emit.proofs.Terms.{inst_rule, table_space, IsIntRegister, number_of, Inst, BrTable, Reg, Writable, keeps, table_fine, alone, both_alone, alone_long, even_plain, extend_even, extend_few, number_even, number_few, count_splits, far_jumps_even, far_jumps_long, ExternalName, Decoded, Event}
+use Rattle.{rv_emit.proofs.Terms.{Symbol, Notes, Fill, Address, CallTo, upper_event, lower_event, address_event, call_event, word_there}, rv_emit.proofs.VeneerRuns.{rest_there, rest_fits, first_bytes}}
 use Rattle.rv_machine.specs.declared.ops.BaseOp.TheVariants as base
 
 -- A branch by a table: jumps in eight bytes, and the words before them.
@@ -22,17 +21,12 @@ second_back : (w x : ℕ) → word_at (drop 4 (pair_bytes w x)) ≡ x
 second_back w x = omega arith
 
 -- numbers that are read as signed ones of few bits
-upper_low : (n : ℕ) → n < 2 ^ 20 → negsuc 524287 ≤ℤ signed (2 ^ 19) n
-upper_low n lt = grind (arith, ints)
 
-upper_high : (n : ℕ) → n < 2 ^ 20 → signed (2 ^ 19) n ≤ℤ pos 524287
-upper_high n lt = grind (arith, ints)
+upper_within : (n : ℕ) → n < 2 ^ 20 → (negsuc 524287 ≤ℤ signed (2 ^ 19) n) × (signed (2 ^ 19) n ≤ℤ pos 524287)
+upper_within n lt = (grind (arith, ints), grind (arith, ints))
 
-lower_low : (n : ℕ) → n < 2 ^ 12 → negsuc 2047 ≤ℤ signed (2 ^ 11) n
-lower_low n lt = grind (arith, ints)
-
-lower_high : (n : ℕ) → n < 2 ^ 12 → signed (2 ^ 11) n ≤ℤ pos 2047
-lower_high n lt = grind (arith, ints)
+lower_within : (n : ℕ) → n < 2 ^ 12 → (negsuc 2047 ≤ℤ signed (2 ^ 11) n) × (signed (2 ^ 11) n ≤ℤ pos 2047)
+lower_within n lt = (grind (arith, ints), grind (arith, ints))
 
 jalr_decodes : (x : ℕ) → word_funct3 x ≡ 0 → int_by_opcode JALR x ≡ Some (i_layout x (Base base.Jalr))
 jalr_decodes x z = rw z
@@ -48,11 +42,9 @@ pair_decodes flags w x link tmp new d fw fx h g long all same aims =
 -- the upper and the lower immediate that they hold are those of the distance
 upper_held : {flags : IsaFlags} {old new : List ℕ} {d : ℤ} (p : PairDecodes flags old new d) → u_bits (word_at new) < 2 ^ 20 → i_bits (word_at (drop 4 new)) < 2 ^ 12 → (upper_of d ≡ p.upper) × (lower_of d ≡ p.lower)
 upper_held {d = d} p fu fl =
-    let a = subst (λ z. negsuc 524287 ≤ℤ z) (sym p.upper_is) (upper_low _ fu) in
-    let b = subst (λ z. z ≤ℤ pos 524287) (sym p.upper_is) (upper_high _ fu) in
-    let l = subst (λ z. negsuc 2047 ≤ℤ z) (sym p.lower_is) (lower_low _ fl) in
-    let m = subst (λ z. z ≤ℤ pos 2047) (sym p.lower_is) (lower_high _ fl) in
-    (upper_is d p.upper p.lower a b l m p.sum, lower_is d p.upper p.lower a b l m p.sum)
+    let a = subst (λ z. (negsuc 524287 ≤ℤ z) × (z ≤ℤ pos 524287)) (sym p.upper_is) (upper_within _ fu) in
+    let l = subst (λ z. (negsuc 2047 ≤ℤ z) × (z ≤ℤ pos 2047)) (sym p.lower_is) (lower_within _ fl) in
+    (upper_is d p.upper p.lower a.0 a.1 l.0 l.1 p.sum, lower_is d p.upper p.lower a.0 a.1 l.0 l.1 p.sum)
 
 pub pair_patchable : (flags : IsaFlags) (w x link tmp : ℕ) → w < 2 ^ 32 → x < 2 ^ 32 → IsUType w AUIPC tmp 0 → IsIType x JALR link 0 tmp 0 → IsPatchable flags PCRel32 (pair_bytes w x) (λ d. decoded (Base base.Auipc) tmp 0 0 (upper_of d) ∷ decoded_jalr link tmp (lower_of d) ∷ [])
 pair_patchable flags w x link tmp fw fx h g = record {
@@ -114,10 +106,6 @@ pub others_fewer : (targets : List MachLabel) → 1 ≤ length targets → lengt
 others_fewer [] some = absurd (omega arith)
 others_fewer (default ∷ labels) some = let e = length-take (length (default ∷ labels) - 1) labels in omega arith
 
--- the index goes to x31
-pub extended : {flags : IsaFlags} {old new : Buffer} (spare index : ℕ) → spare ≡ 31 → PutsAlone flags (slots_of flags (extend_pieces spare index false 32)) old new → PutsAlone flags (slots_of flags (extend_pieces 31 index false 32)) old new
-extended {flags} {old} {new} spare index e p = subst (λ n. PutsAlone flags (slots_of flags (extend_pieces n index false 32)) old new) e p
-
 -- a number of few bits, signed
 small_signed : (n : ℕ) → n < 2 ^ 32 → cast_signed w64 n ≡ pos n
 small_signed n lt = grind (arith, ints)
@@ -128,7 +116,7 @@ counted {flags} {old} {new} tmp2 n lt p = subst (λ z. PutsAlone flags (number_s
 -- how long the pieces are before the jumps
 pub before_few : {flags : IsaFlags} (index tmp2 n : ℕ) (old mid new : Buffer) → n < 2 ^ 30 → PutsAlone flags (slots_of flags (extend_pieces 31 index false 32)) old mid → PutsAlone flags (number_slots flags tmp2 (pos n)) mid new → length (bytes_of new) ≤ length (bytes_of old) + 16
 before_few {flags} index tmp2 n old mid new lt p q =
-    omega (arith, alone_long (slots_of flags (extend_pieces 31 index false 32)) old mid p, alone_long (number_slots flags tmp2 (pos n)) mid new q, extend_few flags 31 index, number_long flags tmp2 (pos n), number_few flags tmp2 (pos n) (count_splits n lt))
+    omega (arith, alone_long (slots_of flags (extend_pieces 31 index false 32)) old mid p, alone_long (number_slots flags tmp2 (pos n)) mid new q, extend_few flags 31 index, number_few flags tmp2 (pos n) (count_splits n lt))
 
 pub table_put : {flags : IsaFlags} (index tmp1 tmp2 : ℕ) (targets : List MachLabel) (d : MachLabel) (old a b new : Buffer) → 1 ≤ length targets → PutsAlone flags (slots_of flags (extend_pieces 31 index false 32)) old a → PutsAlone flags (number_slots flags tmp2 (pos (length (others targets)))) a b → PutsAlone flags (jump_slots tmp1 tmp2 (get_or targets 0 d) (others targets)) b new → PutsAlone flags (table_slots flags index tmp1 tmp2 targets) old new
 table_put index tmp1 tmp2 [] d old a b new some p q r = absurd (omega arith)
@@ -145,20 +133,6 @@ table_put {flags} index tmp1 tmp2 (default ∷ labels) d old a b new some p q r 
 -- what a branch by a table that breaks no rule asks of its registers and labels
 pub table_kept : (context : Context) (inst : Inst) (index : Reg) (tmp1 tmp2 : Writable Reg) (targets : List MachLabel) → inst ≡ BrTable index tmp1 tmp2 targets → inst_rule context inst ≡ None → IsIntRegister index × IsIntRegister tmp1.reg × IsIntRegister tmp2.reg × AreListed targets × (1 ≤ length targets)
 table_kept context inst index tmp1 tmp2 targets is rule = table_fine index tmp1 tmp2 targets (keeps context (BrTable index tmp1 tmp2 targets) (ap (inst_rule context) (sym is) ∙ rule))
-
--- how many bytes it counts for
-pub table_sum : (context : Context) (inst : Inst) (index : Reg) (tmp1 tmp2 : Writable Reg) (targets : List MachLabel) → inst ≡ BrTable index tmp1 tmp2 targets → inst_sum context inst ≡ 128 + 8 * length targets
-table_sum context inst index tmp1 tmp2 targets is = ap (inst_sum context) is ∙ omega arith
-
--- after an island where one is needed, room is left for as many bytes as were counted
-pub island_room : (space extra : ℕ) (old new : Buffer) (made : Bool) → length (bytes_of old) + (128 + extra) + reserve_of (shape_of old) + 8 * length (pending old) + 32 < code_limit → IslandIfNeeded space old new made → length (bytes_of new) + 40 + extra < code_limit
-island_room space extra old new made room m = ⊎_elim
-    (λ (same : (made ≡ false) × (new ≡ old)). let e : length (bytes_of new) ≡ length (bytes_of old) = ap (λ (b : Buffer). length (bytes_of b)) same.1 in omega arith)
-    (λ (put : (made ≡ true) × AppendsIsland old new). let short = put.1.short in omega arith)
-    m.put
-
-pub island_sound : (space : ℕ) (old new : Buffer) (made : Bool) → IsSoundBuffer old → IslandIfNeeded space old new made → IsSoundBuffer new
-island_sound space old new made sound m = ⊎_elim (λ same. subst IsSoundBuffer (sym same.1) sound) (λ put. put.1.sound) m.put
 
 -- at most one label more is allocated
 pub island_few : (space : ℕ) (old new : Buffer) (made : Bool) → IslandIfNeeded space old new made → allocated_of new ≤ 1 + allocated_of old

@@ -1,13 +1,11 @@
 -- What a tail call puts: loads of what a frame saved, a step of the stack pointer, and a jump.
-use Rattle.rv_emit.proofs.Terms.{FitsSigned, ◌≡◌, ℕ, zero, suc, ◌+◌, ◌*◌, ◌<◌, ◌≤◌, Bool, true, false, List, [], ◌∷◌, ◌++◌, take, length, Option, Some, None, ℤ, pos, refl, ap, sym, subst, ◌∙◌, append_assoc, append-nil, ⊎_elim, arith, ◌≢◌, get_or, slice_index_or, ◌==◌, ◌-ℤ◌, if◌then◌else◌, ints}
-use Rattle.rv_emit.proofs.Terms.{to_z-of_z, length-take, take_more, nat_tests, cast_signed, w64, CallInfo, TryCallInfo, UserStackMap, ExternalName, Reg, Int, IsReal, number_of, IsaFlags, FrameLayout, PReg, Real, Virtual, Writable, sp_to_fp_of, code_limit, Add, Addi, Ld, IsIntRegister}
-use Rattle.rv_emit.proofs.Terms.{IsRealRegister, shape_of, bytes_of, reserve_of, low64, Based, is_near, short_rrr, short_rri, short_jalr, StackLoad, saved_load, saves_from, setup_loads, restores, frame_above, site_event, stack_loads_size, stack_step_size, fall, call_size, return_size, PutsAlone}
-use Rattle.rv_emit.proofs.Terms.{PutsParts, Buffer, IsSoundBuffer, IslandIfNeeded, AppendsIsland, pending, load_line_slots, number_slots, stack_load_slots, far_step_slots, stack_step_slots, return_slots, call_to, tail_slots, t0_slots, map_notes, return_notes, after_call, patch_notes, call_slots}
-use Rattle.rv_emit.proofs.Terms.{call_ind_slots, Slot, Op, Notes, Ask, Slots, size_of, HaveAccess, none, nothing, IsPlain, both_alone, alone_long, none_put, even_plain, number_even, number_long, AreShortLoads, eight_short, loads_most, saves_short, setup_short, loads_then, saves_long, setup_few}
-use Rattle.rv_emit.proofs.Terms.{returns_counted}
-use Rattle.mach_records.specs.declared.records.Event.TheVariants as event
 use Rattle.rv_code.proofs.LineSlots.{number_few}
-use Rattle.rv_emit.proofs.CallSlots.{steps_counted}
+use Rattle.rv_emit.proofs.Terms.{FitsSigned, ◌≡◌, ℕ, zero, suc, ◌+◌, ◌*◌, ◌<◌, ◌≤◌, Bool, true, false, List, [], ◌∷◌, ◌++◌, take, length, Option, Some, None, ℤ, pos, refl, ap, sym, subst, ◌∙◌, append_assoc, append-nil, arith, ◌≢◌, get_or, slice_index_or, ◌==◌, ◌-ℤ◌, if◌then◌else◌, ints, to_z-of_z}
+use Rattle.rv_emit.proofs.Terms.{length-take, take_more, nat_tests, cast_signed, w64, CallInfo, TryCallInfo, UserStackMap, ExternalName, Reg, Int, IsReal, number_of, IsaFlags, FrameLayout, PReg, Real, Virtual, Writable, sp_to_fp_of, Addi, Ld, IsIntRegister, IsRealRegister, bytes_of, low64, Based}
+use Rattle.rv_emit.proofs.Terms.{is_near, short_rri, short_jalr, StackLoad, saved_load, saves_from, setup_loads, restores, frame_above, site_event, steps_counted, loads_counted, fall, call_size, return_size, PutsAlone, PutsParts, Buffer, IsSoundBuffer, IslandIfNeeded, load_line_slots, number_slots}
+use Rattle.rv_emit.proofs.Terms.{stack_load_slots, far_step_slots, stack_step_slots, return_slots, call_to, tail_slots, t0_slots, map_notes, return_notes, after_call, patch_notes, call_slots, call_ind_slots, Slot, Op, Notes, Ask, Slots, size_of, IsPlain, both_alone, alone_long, none_put}
+use Rattle.rv_emit.proofs.Terms.{AreShortLoads, eight_short, loads_most, saves_short, setup_short, saves_long, setup_few, returns_counted}
+use Rattle.mach_records.specs.declared.records.Event.TheVariants as event
 
 -- ---- loads
 
@@ -15,14 +13,8 @@ use Rattle.rv_emit.proofs.CallSlots.{steps_counted}
 abbrev pub eight_at : Writable PReg → ℤ → StackLoad
 eight_at r offset = record { register = r.reg.number; op = saved_load r.reg.class; offset = offset }
 
-loads_counted : (flags : IsaFlags) (loads : List StackLoad) → HaveAccess (stack_loads_size flags loads + 0) 0 none None None (stack_load_slots flags loads)
-loads_counted flags loads = subst (HaveAccess (stack_loads_size flags loads + 0) 0 none None None) (append-nil (stack_load_slots flags loads)) (loads_then flags loads nothing)
-
 pub loads_plain : (flags : IsaFlags) (loads : List StackLoad) → IsPlain (stack_load_slots flags loads)
 loads_plain flags loads = (loads_counted flags loads).plain
-
-loads_long : (flags : IsaFlags) (loads : List StackLoad) → AreShortLoads flags loads → size_of (stack_load_slots flags loads) ≤ 28 * length loads
-loads_long flags loads short = let a = (loads_counted flags loads).long in let b = loads_most flags loads short in omega arith
 
 pub loads_both : (flags : IsaFlags) (first more : List StackLoad) → stack_load_slots flags (first ++ more) ≡ stack_load_slots flags first ++ stack_load_slots flags more
 loads_both flags [] more = refl
@@ -30,30 +22,18 @@ loads_both flags (l ∷ first) more =
     let own = load_line_slots flags l.register l.op None (Based 2 l.offset) in
     ap (λ slots. own ++ slots) (loads_both flags first more) ∙ sym (append_assoc own (stack_load_slots flags first) (stack_load_slots flags more))
 
-lower : (o : ℤ) (n : ℕ) → o -ℤ pos 8 -ℤ pos (8 * n) ≡ o -ℤ pos (8 * suc n)
-lower o n = omega (arith, ints)
-
 saves_both : (o : ℤ) (first more : List (Writable PReg)) → saves_from o (first ++ more) ≡ saves_from o first ++ saves_from (o -ℤ pos (8 * length first)) more
 saves_both o [] more = let same : o ≡ o -ℤ pos (8 * 0) = omega (arith, ints) in ap (λ x. saves_from x more) same
-saves_both o (r ∷ first) more = ap (λ loads. eight_at r o ∷ loads) (saves_both (o -ℤ pos 8) first more ∙ ap (λ x. saves_from (o -ℤ pos 8) first ++ saves_from x more) (lower o (length first)))
+saves_both o (r ∷ first) more = let lower : o -ℤ pos 8 -ℤ pos (8 * length first) ≡ o -ℤ pos (8 * suc (length first)) = omega (arith, ints) in ap (λ loads. eight_at r o ∷ loads) (saves_both (o -ℤ pos 8) first more ∙ ap (λ x. saves_from (o -ℤ pos 8) first ++ saves_from x more) lower)
 
 saves_more : (o : ℤ) (saves : List (Writable PReg)) (k : ℕ) (d : Writable PReg) → k < length saves → saves_from o (take (k + 1) saves) ≡ saves_from o (take k saves) ++ eight_at (get_or saves k d) (o -ℤ pos (8 * k)) ∷ []
 saves_more o saves k d lt =
     let long : length (take k saves) ≡ k = length-take k saves ∙ omega arith in
     ap (saves_from o) (take_more saves k d lt) ∙ saves_both o (take k saves) (get_or saves k d ∷ []) ∙ ap (λ n. saves_from o (take k saves) ++ eight_at (get_or saves k d) (o -ℤ pos (8 * n)) ∷ []) long
 
--- one more
-pub saved_put : {flags : IsaFlags} (o at : ℤ) (saves : List (Writable PReg)) (k : ℕ) (d : Writable PReg) (old mid new : Buffer) → k < length saves → at ≡ o -ℤ pos (8 * k) → PutsAlone flags (stack_load_slots flags (saves_from o (take k saves))) old mid → PutsAlone flags (load_line_slots flags (get_or saves k d).reg.number (saved_load (get_or saves k d).reg.class) None (Based 2 at)) mid new → PutsAlone flags (stack_load_slots flags (saves_from o (take (k + 1) saves))) old new
-saved_put {flags} o at saves k d old mid new lt is p q =
-    let before = saves_from o (take k saves) in
-    let own = load_line_slots flags (get_or saves k d).reg.number (saved_load (get_or saves k d).reg.class) None (Based 2 at) in
-    let next = eight_at (get_or saves k d) at ∷ [] in
-    subst (λ slots. PutsAlone flags slots old new) (sym (ap (stack_load_slots flags) (saves_more o saves k d lt ∙ (ap (λ x. before ++ eight_at (get_or saves k d) x ∷ []) (sym is))) ∙ loads_both flags before next))
-    (both_alone (stack_load_slots flags before) (stack_load_slots flags next) old mid new (loads_plain flags before) p (subst (λ slots. PutsAlone flags slots mid new) (sym (append-nil own)) q))
-
 -- how long they are at most
 pub saved_long : {flags : IsaFlags} (o : ℤ) (saves : List (Writable PReg)) (k : ℕ) (old new : Buffer) → k ≤ length saves → PutsAlone flags (stack_load_slots flags (saves_from o (take k saves))) old new → length (bytes_of new) ≤ length (bytes_of old) + 28 * k
-saved_long {flags} o saves k old new le p = omega (arith, alone_long (stack_load_slots flags (saves_from o (take k saves))) old new p, loads_long flags (saves_from o (take k saves)) (saves_short flags o (take k saves)), saves_long o (take k saves), length-take k saves)
+saved_long {flags} o saves k old new le p = omega (arith, alone_long (stack_load_slots flags (saves_from o (take k saves))) old new p, loads_most flags (saves_from o (take k saves)) (saves_short flags o (take k saves)), saves_long o (take k saves), length-take k saves)
 
 -- the register of an index, as the loop reads it
 pub saved_at : (saves : List (Writable PReg)) (k : ℕ) (r : Writable PReg) → k < length saves → r ≡ slice_index_or saves k r → r ≡ get_or saves k r
@@ -64,12 +44,19 @@ saved_at saves k r lt e = e ∙ same saves k r lt
     same (r ∷ saves) zero d lt = refl
     same (r ∷ saves) (suc k) d lt = same saves k d (omega arith)
 
+-- a load alone
+one_load : (flags : IsaFlags) (l : StackLoad) (old new : Buffer) → PutsAlone flags (load_line_slots flags l.register l.op None (Based 2 l.offset)) old new → PutsAlone flags (stack_load_slots flags (l ∷ [])) old new
+one_load flags l old new p = subst (λ slots. PutsAlone flags slots old new) (sym (append-nil (load_line_slots flags l.register l.op None (Based 2 l.offset)))) p
+
 -- one more, as the loop puts it
 pub saved_more : {flags : IsaFlags} (o : ℤ) (saves : List (Writable PReg)) (k index : ℕ) (r : Writable PReg) (old mid new : Buffer) → k < length saves → r ≡ slice_index_or saves k r → index ≡ k → PutsAlone flags (stack_load_slots flags (saves_from o (take k saves))) old mid → PutsAlone flags (load_line_slots flags r.reg.number (saved_load r.reg.class) None (Based 2 (o -ℤ pos (8 * index)))) mid new → PutsAlone flags (stack_load_slots flags (saves_from o (take (k + 1) saves))) old new
 saved_more {flags} o saves k index r old mid new lt read is p q =
-    saved_put o (o -ℤ pos (8 * k)) saves k r old mid new lt refl p
-    (subst (λ x. PutsAlone flags (load_line_slots flags x.reg.number (saved_load x.reg.class) None (Based 2 (o -ℤ pos (8 * k)))) mid new) (saved_at saves k r lt read)
-    (subst (λ n. PutsAlone flags (load_line_slots flags r.reg.number (saved_load r.reg.class) None (Based 2 (o -ℤ pos (8 * n)))) mid new) is q))
+    let before = saves_from o (take k saves) in
+    let next = eight_at (get_or saves k r) (o -ℤ pos (8 * k)) in
+    let there = subst (λ x. PutsAlone flags (load_line_slots flags x.reg.number (saved_load x.reg.class) None (Based 2 (o -ℤ pos (8 * k)))) mid new) (saved_at saves k r lt read)
+    (subst (λ n. PutsAlone flags (load_line_slots flags r.reg.number (saved_load r.reg.class) None (Based 2 (o -ℤ pos (8 * n)))) mid new) is q) in
+    subst (λ slots. PutsAlone flags slots old new) (sym (ap (stack_load_slots flags) (saves_more o saves k r lt) ∙ loads_both flags before (next ∷ [])))
+    (both_alone (stack_load_slots flags before) (stack_load_slots flags (next ∷ [])) old mid new (loads_plain flags before) p (one_load flags next mid new there))
 
 -- the return address and the frame pointer
 pub no_setup : (flags : IsaFlags) (frame : FrameLayout) (old new : Buffer) → frame.setup_area_size ≡ 0 → PutsAlone flags [] old new → PutsAlone flags (stack_load_slots flags (setup_loads frame)) old new
@@ -77,25 +64,20 @@ no_setup flags frame old new empty p =
     let e : (frame.setup_area_size == 0) ≡ true = grind (arith, nat_tests) in
     subst (λ c. PutsAlone flags (stack_load_slots flags (if c then [] else record { register = 1; op = Ld; offset = pos (sp_to_fp_of frame + 8) } ∷ record { register = 8; op = Ld; offset = pos (sp_to_fp_of frame) } ∷ [])) old new) (sym e) p
 
-one_load : (flags : IsaFlags) (l : StackLoad) (old new : Buffer) → PutsAlone flags (load_line_slots flags l.register l.op None (Based 2 l.offset)) old new → PutsAlone flags (stack_load_slots flags (l ∷ [])) old new
-one_load flags l old new p = subst (λ slots. PutsAlone flags slots old new) (sym (append-nil (load_line_slots flags l.register l.op None (Based 2 l.offset)))) p
-
 pub setup_put : (flags : IsaFlags) (frame : FrameLayout) (ra fp : ℕ) (above below : ℤ) (old mid new : Buffer) → frame.setup_area_size ≢ 0 → ra ≡ 1 → fp ≡ 8 → above ≡ pos (sp_to_fp_of frame + 8) → below ≡ pos (sp_to_fp_of frame) → PutsAlone flags (load_line_slots flags ra Ld None (Based 2 above)) old mid → PutsAlone flags (load_line_slots flags fp Ld None (Based 2 below)) mid new → PutsAlone flags (stack_load_slots flags (setup_loads frame)) old new
 setup_put flags frame ra fp above below old mid new some link pointer up down p q =
     let e : (frame.setup_area_size == 0) ≡ false = grind (arith, nat_tests) in
     let link_load : StackLoad = record { register = ra; op = Ld; offset = above } in
     let frame_load : StackLoad = record { register = fp; op = Ld; offset = below } in
-    let first = link_load ∷ [] in
-    let second = frame_load ∷ [] in
-    let both = subst (λ slots. PutsAlone flags slots old new) (sym (loads_both flags first second)) (both_alone (stack_load_slots flags first) (stack_load_slots flags second) old mid new (loads_plain flags first) (one_load flags link_load old mid p) (one_load flags frame_load mid new q)) in
-    let named : first ++ second ≡ record { register = 1; op = Ld; offset = pos (sp_to_fp_of frame + 8) } ∷ record { register = 8; op = Ld; offset = pos (sp_to_fp_of frame) } ∷ [] = λ i. record { register = link i; op = Ld; offset = up i } ∷ record { register = pointer i; op = Ld; offset = down i } ∷ [] in
+    let both = subst (λ slots. PutsAlone flags slots old new) (sym (loads_both flags (link_load ∷ []) (frame_load ∷ []))) (both_alone (stack_load_slots flags (link_load ∷ [])) (stack_load_slots flags (frame_load ∷ [])) old mid new (loads_plain flags (link_load ∷ [])) (one_load flags link_load old mid p) (one_load flags frame_load mid new q)) in
+    let named : link_load ∷ frame_load ∷ [] ≡ record { register = 1; op = Ld; offset = pos (sp_to_fp_of frame + 8) } ∷ record { register = 8; op = Ld; offset = pos (sp_to_fp_of frame) } ∷ [] = λ i. record { register = link i; op = Ld; offset = up i } ∷ record { register = pointer i; op = Ld; offset = down i } ∷ [] in
     subst (λ c. PutsAlone flags (stack_load_slots flags (if c then [] else record { register = 1; op = Ld; offset = pos (sp_to_fp_of frame + 8) } ∷ record { register = 8; op = Ld; offset = pos (sp_to_fp_of frame) } ∷ [])) old new) (sym e)
     (subst (λ loads. PutsAlone flags (stack_load_slots flags loads) old new) named both)
 
 pub load_long : {flags : IsaFlags} (rd : ℕ) (o : ℤ) (old new : Buffer) → PutsAlone flags (load_line_slots flags rd Ld None (Based 2 o)) old new → length (bytes_of new) ≤ length (bytes_of old) + 28
 load_long {flags} rd o old new p =
     let l : StackLoad = record { register = rd; op = Ld; offset = o } in
-    omega (arith, alone_long (load_line_slots flags rd Ld None (Based 2 o)) old new p, loads_long flags (l ∷ []) (eight_short flags rd o, tt), ap size_of (append-nil (load_line_slots flags rd Ld None (Based 2 o))))
+    omega (arith, alone_long (load_line_slots flags rd Ld None (Based 2 o)) old new p, loads_most flags (l ∷ []) (eight_short flags rd o, tt), ap size_of (append-nil (load_line_slots flags rd Ld None (Based 2 o))))
 
 -- ---- the stack pointer's step
 
@@ -126,15 +108,12 @@ real_any (Real p) n h = refl
 real_any (Virtual class index) n h = absurd h
 
 pub number_room : {flags : IsaFlags} (z : ℤ) (old new : Buffer) → PutsAlone flags (number_slots flags 31 z) old new → length (bytes_of new) ≤ length (bytes_of old) + 20
-number_room {flags} z old new p = omega (arith, alone_long (number_slots flags 31 z) old new p, number_long flags 31 z, number_few flags 31 z)
-
-pub far_step_put : {flags : IsaFlags} (z : ℤ) (old mid new : Buffer) → PutsAlone flags (number_slots flags 31 z) old mid → PutsAlone flags (Op (short_rrr flags Add 2 2 31) ∷ []) mid new → PutsAlone flags (far_step_slots flags z) old new
-far_step_put {flags} z old mid new p q = both_alone (number_slots flags 31 z) (Op (short_rrr flags Add 2 2 31) ∷ []) old mid new (even_plain (number_slots flags 31 z) (number_even flags 31 z)) p q
+number_room {flags} z old new p = omega (arith, alone_long (number_slots flags 31 z) old new p, number_few flags 31 z)
 
 -- ---- the whole frame
 
 pub loads_room : {flags : IsaFlags} (loads : List StackLoad) (old new : Buffer) → AreShortLoads flags loads → PutsAlone flags (stack_load_slots flags loads) old new → length (bytes_of new) ≤ length (bytes_of old) + 28 * length loads
-loads_room {flags} loads old new short p = let a = alone_long (stack_load_slots flags loads) old new p in let b = loads_long flags loads short in omega arith
+loads_room {flags} loads old new short p = let a = alone_long (stack_load_slots flags loads) old new p in let b = loads_most flags loads short in omega arith
 
 pub saves_room : {flags : IsaFlags} (o : ℤ) (saves : List (Writable PReg)) (old new : Buffer) → PutsAlone flags (stack_load_slots flags (saves_from o saves)) old new → length (bytes_of new) ≤ length (bytes_of old) + 28 * length saves
 saves_room {flags} o saves old new p = let a = loads_room (saves_from o saves) old new (saves_short flags o saves) p in let b = saves_long o saves in omega arith
@@ -149,18 +128,7 @@ return_put {flags} frame arguments old a b new p q r =
     let loads = subst (λ slots. PutsAlone flags slots old b) (sym (loads_both flags saves setup)) (both_alone (stack_load_slots flags saves) (stack_load_slots flags setup) old a b (loads_plain flags saves) p q) in
     both_alone (stack_load_slots flags (restores frame)) (stack_step_slots flags (pos (frame_above frame arguments))) old b new (loads_plain flags (restores frame)) loads r
 
--- how long it is
-pub return_long : {flags : IsaFlags} (frame : FrameLayout) (arguments : ℕ) (old new : Buffer) → PutsAlone flags (return_slots flags frame arguments) old new → length (bytes_of new) ≡ length (bytes_of old) + return_size flags frame arguments
-return_long {flags} frame arguments old new p = let a = alone_long (return_slots flags frame arguments) old new p in let b = (returns_counted flags frame arguments).long in omega arith
-
 -- ---- an island, and the tail call after it
-
--- after an island where one is needed, room is left for as many bytes as were counted
-pub after_island : (space extra : ℕ) (old new : Buffer) (made : Bool) → length (bytes_of old) + extra + reserve_of (shape_of old) + 8 * length (pending old) + 160 < code_limit → IslandIfNeeded space old new made → length (bytes_of new) + extra + 143 < code_limit
-after_island space extra old new made room m = ⊎_elim
-    (λ (same : (made ≡ false) × (new ≡ old)). let e : length (bytes_of new) ≡ length (bytes_of old) = ap (λ (b : Buffer). length (bytes_of b)) same.1 in omega arith)
-    (λ (put : (made ≡ true) × AppendsIsland old new). let short = put.1.short in omega arith)
-    m.put
 
 pub tail_put : {flags : IsaFlags} (frame : FrameLayout) (arguments : ℕ) (name : ExternalName) (size link tmp : ℕ) (old mid a b new : Buffer) (made : Bool) → size ≡ return_size flags frame arguments → link ≡ 0 → tmp ≡ 31 → IslandIfNeeded (size + 8) old mid made → PutsAlone flags (return_slots flags frame arguments) mid a → PutsAlone flags (Notes event.CallSite ∷ []) a b → PutsAlone flags (call_to link tmp name ∷ []) b new → PutsParts flags (Ask (return_size flags frame arguments + 8) ∷ Slots (tail_slots flags frame arguments name) ∷ []) old new
 tail_put {flags} frame arguments name size link tmp old mid a b new made measured zero_link spare island p q r =
@@ -174,20 +142,9 @@ t0_put {flags} frame arguments size link target old mid a new made measured zero
 
 -- ---- calls that return
 
-pub step_long : {flags : IsaFlags} (z : ℤ) (old new : Buffer) → PutsAlone flags (stack_step_slots flags z) old new → length (bytes_of new) ≡ length (bytes_of old) + stack_step_size flags z
-step_long {flags} z old new p = let a = alone_long (stack_step_slots flags z) old new p in let b = (steps_counted flags z).long in omega arith
-
 -- the records of a call's return, and what stands before and after them
 pub returned_put : {flags : IsaFlags} (frame : FrameLayout) (entries : Option UserStackMap) (t : Option TryCallInfo) (old mid new : Buffer) → PutsAlone flags (map_notes frame entries) old mid → PutsAlone flags (Notes (site_event frame t) ∷ []) mid new → PutsAlone flags (return_notes frame entries t) old new
-returned_put frame entries t old mid new p q = both_alone (map_notes frame entries) (Notes (site_event frame t) ∷ []) old mid new (map_plain entries) p q
-  where
-    map_plain : (e : Option UserStackMap) → IsPlain (map_notes frame e)
-    map_plain None = tt
-    map_plain (Some e) = tt
-
-return_plain : (frame : FrameLayout) (entries : Option UserStackMap) (t : Option TryCallInfo) → IsPlain (return_notes frame entries t)
-return_plain frame None t = tt
-return_plain frame (Some entries) t = tt
+returned_put frame entries t old mid new p q = both_alone (map_notes frame entries) (Notes (site_event frame t) ∷ []) old mid new (elim entries as (λ e. IsPlain (map_notes frame e)) [ None ↦ tt | Some e ↦ tt ]) p q
 
 -- records have no bytes
 pub returned_long : {flags : IsaFlags} (frame : FrameLayout) (entries : Option UserStackMap) (t : Option TryCallInfo) (old new : Buffer) → PutsAlone flags (return_notes frame entries t) old new → length (bytes_of new) ≡ length (bytes_of old)
@@ -199,7 +156,7 @@ rest_put : {flags : IsaFlags} (frame : FrameLayout) (popped n : ℕ) (patchable 
 rest_put {flags} frame popped n patchable entries t a b c new q r s =
     let steps = after_call flags popped in
     let notes = patch_notes patchable n in
-    both_alone (return_notes frame entries t) (steps ++ (notes ++ [])) a b new (return_plain frame entries t) q
+    both_alone (return_notes frame entries t) (steps ++ (notes ++ [])) a b new (elim entries as (λ e. IsPlain (return_notes frame e t)) [ None ↦ tt | Some e ↦ tt ]) q
     (both_alone steps (notes ++ []) b c new (steps_counted flags (fall popped)).plain r
     (subst (λ slots. PutsAlone flags slots c new) (sym (append-nil notes)) s))
 

@@ -2,8 +2,7 @@
 use Rattle.rv_emit.proofs.Terms.{◌≡◌, ℕ, ◌+◌, ◌<◌, ◌≤◌, List, length, drop, arith, sym, ap, subst, ◌∙◌, zero, suc, ◌-◌, ◌*◌, ◌/◌, ◌%◌, ◌^◌, inl, Bool, true, false, [], ◌∷◌, Some, refl, ℤ, pos, negsuc, ◌+ℤ◌, ◌*ℤ◌, ◌-ℤ◌, lit<, slice_index, slice_set, nat_lt, if◌then◌else◌, get_or-take, get_or-drop}
 use Rattle.rv_emit.proofs.Terms.{length-take, length-drop, Memory, byte, wrap, Values, reg, set_reg, low64, signed, at, fetch, word_at, AreBytes, window, BytesAt, Site, HasOps, LeadsOn, AllBytes, option_map, ints, ltb-true, get_or-set_at, get_or-set_other, SameOutside, IsaFlags, LabelUse, PCRel32}
 use Rattle.rv_emit.proofs.Terms.{label_kinds, Aims, marks_of, veneer_of, with_immediate, PairDecodes, Same, decode-patched_pair, Decoded, Base, decoded, Use, IsVia, decoded_jalr, are_values_set, istep_at, comes_one, comes_both, word_there}
-use Rattle.rv_machine.specs.declared.ops.BaseOp.TheVariants.{Auipc}
-use Rattle.rv_machine.specs.Decode.{int_decode, decode}
+use Rattle.rv_machine.specs.{declared.ops.BaseOp.TheVariants.Auipc, Decode.int_decode, Decode.decode}
 
 -- ---- windows
 
@@ -113,8 +112,6 @@ pair_leads site place to even to_even within p = record {
   run = λ s v placed pc is_state are_values same.
       let flags = site.context.flags in
       let base = site.base in
-      let room = placed.bytes.room in
-      let aligned = placed.aligned in
       let here : s.pc ≡ base + place = pc ∙ omega arith in
       let next : wrap (s.pc + 4) ≡ base + place + 4 = omega arith in
       let x = wrap (s.pc + low64 p.upper * 2 ^ 12) in
@@ -144,5 +141,4 @@ via_decodes flags bytes kind u to g fits =
 pub veneer_leads : (site : Site) (final : List ℕ) (kind : LabelUse) (u : Use LabelUse) (to at : ℕ) (g : IsVia label_kinds (veneer_of kind) final u to) → g.at ≡ at → AllBytes final → length site.bytes ≡ length final → window site.bytes at 8 ≡ window final at 8 → to % 2 ≡ 0 → LeadsOn site at to
 veneer_leads site final kind u to at g here fits long left even =
     let p = subst (λ n. PairDecodes site.context.flags (veneer_of PCRel32).bytes (window final n 8) (pos to -ℤ pos n)) here (via_decodes site.context.flags final kind u to g fits) in
-    let inside = g.inside in
     pair_leads site at to (subst (λ (n : ℕ). n % 2 ≡ 0) here g.even) even (omega arith) (subst (λ w. PairDecodes site.context.flags (veneer_of PCRel32).bytes w (pos to -ℤ pos at)) (sym left) p)

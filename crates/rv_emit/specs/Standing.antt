@@ -4,7 +4,6 @@ use Rattle.rv_base.specs.declared.flags.IsaFlags.{IsaFlags}
 use Rattle.rv_base.specs.declared.label.MachLabel.{MachLabel}
 use Rattle.rv_inst.specs.declared.label_use.LabelUse.{LabelUse}
 use Rattle.rv_inst.specs.LabelUse.{label_kinds}
-use Rattle.rv_inst.specs.Sizes.{Extent, Words, Island, After, Around}
 use Rattle.mach_buffer.specs.Shape.{Shape}
 use Rattle.mach_buffer.specs.Windows.{AreWindows}
 use Rattle.mach_buffer.specs.Finish.{CanFinish, Finishes}
@@ -41,14 +40,6 @@ abbrev pub PartsIn : IsaFlags → List Part → Shape LabelUse → ℕ → ℕ �
 PartsIn flags [] f start end = start ≡ end
 PartsIn flags (Ask space ∷ parts) f start end = (mid : ℕ) × GapStandsIn flags f start mid × PartsIn flags parts f mid end
 PartsIn flags (Slots slots ∷ parts) f start end = (mid : ℕ) × SlotsIn flags slots f start mid × PartsIn flags parts f mid end
-
--- as many bytes stand between two offsets as an instruction has: its words; nothing or an island, where it asks for one; and words
--- after that, or before it too
-abbrev pub SpansIn : IsaFlags → Shape LabelUse → Extent → ℕ → ℕ → Type 0
-SpansIn flags f (Words size) start end = end ≡ start + size
-SpansIn flags f (Island space) start end = GapStandsIn flags f start end
-SpansIn flags f (After space size more) start end = (mid : ℕ) × GapStandsIn flags f start mid × (end ≡ mid + size)
-SpansIn flags f (Around before space after) start end = (mid : ℕ) × GapStandsIn flags f (start + before) mid × (end ≡ mid + after)
 
 -- what a buffer shows was finished to these bytes
 pub record IsFinishedTo (f : Shape LabelUse) (bytes : List ℕ) : Type 0 where

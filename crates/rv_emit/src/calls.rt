@@ -14,7 +14,7 @@ ghost use Rattle.mach_records.specs.declared.records.Event.TheVariants.{Patchabl
 ghost use Rattle.rv_inst.specs.Records.{site_event};
 ghost use Rattle.rv_inst.specs.Returns.{result_loads};
 ghost use Rattle.rv_inst.specs.Rules.{is_stacked};
-ghost use Rattle.rv_inst.specs.MostBytes.{sequence_limit};
+ghost use Rattle.rv_inst.specs.Limits.{sequence_limit};
 ghost use Rattle.rv_inst.specs.Sizes.{fall, line_space};
 ghost use Rattle.rv_sequences.specs.Parts.{PutsAlone, PutsParts};
 ghost use Rattle.rv_sequences.specs.Emitted.{IsSoundBuffer, pending};

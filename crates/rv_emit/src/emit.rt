@@ -9,7 +9,8 @@ ghost use Rattle.rv_emit.specs.StackMaps.{with_map, map_given, map_after};
 ghost use Rattle.rv_emit.specs.State.{setting_after, setting_beyond};
 ghost use Rattle.rv_code.specs.declared.state.EmitVState.{EmitVState as Setting};
 ghost use Rattle.rv_inst.specs.Context.{context_by};
-ghost use Rattle.rv_inst.specs.Sizes.{island_space, table_space};
+ghost use Rattle.rv_inst.specs.Limits.{table_space};
+ghost use Rattle.rv_inst.specs.Sizes.{request_of};
 
 use crate::calls::{put_loading_call, put_loading_call_ind};
 use crate::island::emit_island_if_needed;
@@ -161,8 +162,8 @@ fn put_asking(
     stack_map: &Option<UserStackMap>,
 ) -> Result<bool, OutOfMemory>
     requires { CanEmit (context_by flags frame.now (registered_of sink.old)) inst.now sink.old }
-    ensures emitted { is_some (island_space (context_by flags frame.now (registered_of sink.old)) inst.now) ≡ true → OnOk result (Emits (context_by flags frame.now (registered_of sink.old)) (with_map stack_map.now inst.now) sink.old sink.new) }
-    ensures setting { is_some (island_space (context_by flags frame.now (registered_of sink.old)) inst.now) ≡ true → IfOk result (λ forgets. (setting : Setting) → setting_after (context_by flags frame.now (registered_of sink.old)) sink.old inst.now setting ≡ setting_beyond forgets setting) }
+    ensures emitted { is_some (request_of (context_by flags frame.now (registered_of sink.old)) inst.now) ≡ true → OnOk result (Emits (context_by flags frame.now (registered_of sink.old)) (with_map stack_map.now inst.now) sink.old sink.new) }
+    ensures setting { is_some (request_of (context_by flags frame.now (registered_of sink.old)) inst.now) ≡ true → IfOk result (λ forgets. (setting : Setting) → setting_after (context_by flags frame.now (registered_of sink.old)) sink.old inst.now setting ≡ setting_beyond forgets setting) }
     ensures spoiled { OnErr result (spoiled_of sink.new ≡ true) }
 {
     match inst {

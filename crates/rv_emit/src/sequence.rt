@@ -13,8 +13,8 @@ ghost use Rattle.rv_code.specs.Usable.{IsFine};
 ghost use Rattle.rv_sequences.specs.Emitted.{IsSoundBuffer};
 ghost use Rattle.rv_emit.specs.Emission.{Emits, EmitsAnyhow};
 ghost use Rattle.rv_emit.specs.StackMaps.{with_map};
-ghost use Rattle.rv_inst.specs.MostBytes.{sequence_limit};
-ghost use Rattle.rv_inst.specs.Sizes.{island_space};
+ghost use Rattle.rv_inst.specs.Limits.{sequence_limit};
+ghost use Rattle.rv_inst.specs.Sizes.{request_of};
 ghost use Rattle.rv_inst.specs.Families.{family_of};
 ghost use Rattle.rv_inst.specs.declared.inst.Family.TheVariants.{Pseudo, Integer, Memory, Control, Loop, Symbols, Calls};
 
@@ -50,7 +50,7 @@ pub(crate) fn put_sequence(
     requires few { allocated_of sink.old < 2 ^ 29 }
     requires room { length (bytes_of sink.old) + sequence_limit < code_limit }
     requires sound { IsSoundBuffer sink.old }
-    ensures parts { island_space (context_by flags frame.now (registered_of sink.old)) inst.now ≡ None → OnOk result (Emits (context_by flags frame.now (registered_of sink.old)) (with_map stack_map.now inst.now) sink.old sink.new) }
+    ensures parts { request_of (context_by flags frame.now (registered_of sink.old)) inst.now ≡ None → OnOk result (Emits (context_by flags frame.now (registered_of sink.old)) (with_map stack_map.now inst.now) sink.old sink.new) }
     ensures refused { OnErr result (spoiled_of sink.new ≡ true) }
 {
     match inst.family() {
@@ -78,7 +78,7 @@ fn put_calls(
     requires frame { sp_to_args_end frame.now < 2 ^ 31 }
     requires room { length (bytes_of sink.old) + sequence_limit < code_limit }
     requires sound { IsSoundBuffer sink.old }
-    ensures parts { family_of inst.now ≡ Calls → (constants : List Constant) → island_space (context_by flags frame.now constants) inst.now ≡ None → OnOk result (Emits (context_by flags frame.now constants) (with_map stack_map.now inst.now) sink.old sink.new) }
+    ensures parts { family_of inst.now ≡ Calls → (constants : List Constant) → request_of (context_by flags frame.now constants) inst.now ≡ None → OnOk result (Emits (context_by flags frame.now constants) (with_map stack_map.now inst.now) sink.old sink.new) }
     ensures refused { OnErr result (spoiled_of sink.new ≡ true) }
 {
     match inst {
@@ -97,7 +97,7 @@ fn put_pseudo(
     requires fine { IsFine (registered_of sink.old) inst.now }
     requires room { length (bytes_of sink.old) + sequence_limit < code_limit }
     requires sound { IsSoundBuffer sink.old }
-    ensures parts { family_of inst.now ≡ Pseudo → (frame : FrameLayout) (constants : List Constant) → island_space (context_by flags frame constants) inst.now ≡ None → OnOk result (Emits (context_by flags frame constants) inst.now sink.old sink.new) }
+    ensures parts { family_of inst.now ≡ Pseudo → (frame : FrameLayout) (constants : List Constant) → request_of (context_by flags frame constants) inst.now ≡ None → OnOk result (Emits (context_by flags frame constants) inst.now sink.old sink.new) }
     ensures refused { OnErr result (spoiled_of sink.new ≡ true) }
 {
     match inst {
@@ -166,7 +166,7 @@ fn put_control(
     requires few { allocated_of sink.old < 2 ^ 29 }
     requires room { length (bytes_of sink.old) + sequence_limit < code_limit }
     requires sound { IsSoundBuffer sink.old }
-    ensures parts { family_of inst.now ≡ Control → (frame : FrameLayout) (constants : List Constant) → island_space (context_by flags frame constants) inst.now ≡ None → OnOk result (Emits (context_by flags frame constants) inst.now sink.old sink.new) }
+    ensures parts { family_of inst.now ≡ Control → (frame : FrameLayout) (constants : List Constant) → request_of (context_by flags frame constants) inst.now ≡ None → OnOk result (Emits (context_by flags frame constants) inst.now sink.old sink.new) }
     ensures refused { OnErr result (spoiled_of sink.new ≡ true) }
 {
     match inst {

@@ -6,7 +6,7 @@ ghost use Rattle.rv_base.specs.Frame.{sp_to_args_end};
 ghost use Rattle.rv_inst.specs.Addresses.{location_of, is_splittable};
 ghost use Rattle.rv_inst.specs.Context.{context_by};
 ghost use Rattle.rv_inst.specs.Families.{family_of};
-ghost use Rattle.rv_inst.specs.Sizes.{island_space};
+ghost use Rattle.rv_inst.specs.Sizes.{request_of};
 ghost use Rattle.rv_inst.specs.declared.inst.Family.TheVariants.{Integer, Memory, Control, Loop, Symbols};
 ghost use Rattle.rv_code.specs.declared.state.EmitVState.{EmitVState as Setting};
 ghost use Rattle.rv_sequences.specs.Emitted.{Buffer};
@@ -22,7 +22,7 @@ use rv_inst::{CondBrTarget, Family, Inst};
 pub(crate) fn forgets_setting(flags: IsaFlags, frame: &FrameLayout, inst: &Inst) -> bool
     requires frame { sp_to_args_end frame.now < 2 ^ 31 }
     requires fine { (constants : List Constant) × IsFine constants inst.now }
-    ensures { (constants : List Constant) → island_space (context_by flags frame.now constants) inst.now ≡ None → (b : Buffer) (setting : Setting) → setting_after (context_by flags frame.now constants) b inst.now setting ≡ setting_beyond result setting }
+    ensures { (constants : List Constant) → request_of (context_by flags frame.now constants) inst.now ≡ None → (b : Buffer) (setting : Setting) → setting_after (context_by flags frame.now constants) b inst.now setting ≡ setting_beyond result setting }
 {
     match inst.family() {
         Family::Pseudo => false,

@@ -12,10 +12,9 @@ ghost use Rattle.mach_uses.specs.Reach.{CanReach};
 ghost use Rattle.mach_uses.specs.Labels.{inner_count};
 ghost use Rattle.rv_inst.specs.Addresses.{Based};
 ghost use Rattle.rv_inst.specs.Returns.{saved_load, saves_from, setup_loads, frame_above};
-ghost use Rattle.rv_inst.specs.Sizes.{return_size};
 ghost use Rattle.rv_sequences.specs.Parts.{PutsAlone, PutsParts};
 ghost use Rattle.rv_sequences.specs.Emitted.{IsSoundBuffer, pending};
-ghost use Rattle.rv_code.specs.InstParts.{load_line_slots, stack_load_slots, far_step_slots, stack_step_slots, return_slots, tail_slots, t0_slots};
+ghost use Rattle.rv_code.specs.InstParts.{load_line_slots, stack_load_slots, far_step_slots, stack_step_slots, return_size, return_slots, tail_slots, t0_slots};
 ghost use Rattle.rv_code.specs.Slots.{Ask, Slots};
 
 use crate::island::emit_island_if_needed;

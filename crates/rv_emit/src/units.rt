@@ -7,7 +7,7 @@ ghost use Rattle.rv_base.specs.LabelUse.{code_limit};
 ghost use Rattle.mach_buffer.specs.Buffer.{bytes_of, registered_of, spoiled_of};
 ghost use Rattle.rv_machine.specs.Decode.{decode};
 ghost use Rattle.rv_inst.specs.Families.{family_of};
-ghost use Rattle.rv_inst.specs.MostBytes.{sequence_limit};
+ghost use Rattle.rv_inst.specs.Limits.{sequence_limit};
 ghost use Rattle.rv_inst.specs.UnitWords.{UnitWord, unit_word as word_of};
 ghost use Rattle.rv_inst.specs.declared.inst.Family.TheVariants.{Float};
 ghost use Rattle.rv_code.specs.Usable.{IsFine};

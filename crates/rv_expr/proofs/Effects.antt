@@ -1,6 +1,8 @@
 -- What a line of a program leaves: a number in a register, or in a place.
 use Rattle.std.proofs.Common.{◌≡◌, ◌≢◌, ℕ, zero, suc, ◌+◌, ◌-◌, ◌*◌, ◌^◌, ◌<◌, ◌≤◌, ◌⊎◌, ⊎_elim, inl, inr, true, false, List, [], ◌∷◌, length, Some, slice_get, slice_index, refl, arith, ap, sym, subst, ◌∙◌, lit<}
 use Rattle.std.proofs.lemmas.Bool.{cases_lt}
+use Rattle.std.proofs.lemmas.Grind.{get_or-set_at}
+use Rattle.std.proofs.Math.Seq.{get_or-set_other}
 use Rattle.rv_inst.specs.declared.inst.Line.{Line}
 use Rattle.rv_inst.specs.Meaning.{Environment, Next, exit_of, effect_of, writes_of, temporaries_of, AreOutside, addresses_from, put_bytes}
 use Rattle.rv_machine.specs.State.{State, Values, AreValues, byte, reg, set_reg, store, wrap}
@@ -9,10 +11,20 @@ use Rattle.rv_machine.specs.declared.ops.LoadOp.TheVariants.{Ld}
 use Rattle.rv_machine.specs.declared.ops.StoreOp.TheVariants.{Sd}
 use Rattle.rv_asm.specs.Simulation.{At}
 use Rattle.rv_asm.specs.Users.{int_reg, is_integer_line}
-use Rattle.rv_asm.proofs.Laws.{reads_back, reads_other, stored_is_loaded, same_are_loaded_alike, elsewhere_unchanged}
+use Rattle.rv_asm.proofs.Laws.{stored_is_loaded, same_are_loaded_alike, elsewhere_unchanged}
 use Rattle.rv_expr.specs.Listing.{load_from, store_to}
 use Rattle.rv_expr.proofs.Places.{place, places_apart, place_inside}
 use Rattle.rv_expr.proofs.Steps.{job_in, Run, IsRun, Stands, Goes, is_changed, sp_of, line_runs, to_next}
+
+-- ---- a register that is written, and the others
+
+reads_back : (v : Values) (n x : ℕ) → AreValues v → 0 < n → n < 32 → reg (set_reg v n x) n ≡ x
+reads_back v zero x h some lt = absurd (omega arith)
+reads_back v (suc n) x h some lt = get_or-set_at v.regs n n x 0 refl (omega (arith, h.count))
+
+reads_other : (v : Values) (n m x : ℕ) → m ≢ n → reg (set_reg v n x) m ≡ reg v m
+reads_other v (suc n) (suc m) x other = get_or-set_other v.regs n m x 0 (λ e. other (ap suc e))
+reads_other v _ _ x other = refl
 
 -- ---- a line that puts a number into a register
 

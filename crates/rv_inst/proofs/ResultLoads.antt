@@ -17,7 +17,7 @@ use Rattle.rv_inst.specs.declared.inst.Inst.{Inst}
 use Rattle.rv_inst.specs.declared.inst.Inst.TheVariants.{Call, CallInd}
 use Rattle.rv_inst.specs.Returns.{StackLoad, location_loads, loads_unless, result_load, result_loads, typed_loads}
 use Rattle.rv_inst.specs.Rules.{is_loaded, is_loaded_from}
-use Rattle.rv_inst.specs.Sizes.{call_extent, space_in, extra_in, island_space}
+use Rattle.rv_inst.specs.Sizes.{call_request, extra_in, request_of}
 use Rattle.rv_base.specs.declared.call.RetLocation.{RetLocation}
 
 -- whether there is something to load
@@ -37,34 +37,28 @@ any_loaded (d ∷ defs) = by d.vreg.reg d.location (any_loaded defs)
     by r (InReg s) rest = rest
     by r (OnStack offset type) rest = typed_some (number_of r) offset (result_load type) (result_loads defs) (list_any is_loaded defs) rest
 
-asks : (flags : IsaFlags) (jump popped : ℕ) (loads : List StackLoad) (t : Option TryCallInfo) → is_some (space_in (call_extent flags jump popped loads t)) ≡ some_load loads
-asks flags jump popped [] t = refl
-asks flags jump popped (l ∷ loads) t = refl
+asks : (own : ℕ) (loads : List StackLoad) → is_some (call_request own loads) ≡ some_load loads
+asks own [] = refl
+asks own (l ∷ loads) = refl
 
 -- a call that loads a result asks for an island
-pub asks_to_load : (flags : IsaFlags) (jump popped : ℕ) (defs : List CallRetPair) (t : Option TryCallInfo) → is_some (space_in (call_extent flags jump popped (result_loads defs) t)) ≡ list_any is_loaded defs
-asks_to_load flags jump popped defs t = asks flags jump popped (result_loads defs) t ∙ any_loaded defs
+pub asks_to_load : (own : ℕ) (defs : List CallRetPair) → is_some (call_request own (result_loads defs)) ≡ list_any is_loaded defs
+asks_to_load own defs = asks own (result_loads defs) ∙ any_loaded defs
 
 -- so does one of a symbol, unless it may be patched
-pub asks_unless : (flags : IsaFlags) (jump popped : ℕ) (patchable : Bool) (defs : List CallRetPair) (t : Option TryCallInfo) → is_some (space_in (call_extent flags jump popped (loads_unless patchable defs) t)) ≡ (not patchable && list_any is_loaded defs)
-asks_unless flags jump popped true defs t = refl
-asks_unless flags jump popped false defs t = asks_to_load flags jump popped defs t
+pub asks_unless : (own : ℕ) (patchable : Bool) (defs : List CallRetPair) → is_some (call_request own (loads_unless patchable defs)) ≡ (not patchable && list_any is_loaded defs)
+asks_unless own true defs = refl
+asks_unless own false defs = asks_to_load own defs
 
 -- as the code asks it
-pub call_asks : (context : Context) (inst : Inst) (info : CallInfo ExternalName) (defs : List CallRetPair) → inst ≡ Call info → defs ≡ info.defs → info.patchable ≡ false → list_any is_loaded defs ≡ is_some (island_space context inst)
+pub call_asks : (context : Context) (inst : Inst) (info : CallInfo ExternalName) (defs : List CallRetPair) → inst ≡ Call info → defs ≡ info.defs → info.patchable ≡ false → list_any is_loaded defs ≡ is_some (request_of context inst)
 call_asks context inst info defs is all fixed =
-    ap (list_any is_loaded) all
-    ∙ ap (λ p. not p && list_any is_loaded info.defs) (sym fixed)
-    ∙ sym (asks_unless context.flags 8 info.callee_pop_size info.patchable info.defs info.try_call_info)
-    ∙ ap (λ i. is_some (island_space context i)) (sym is)
+    ap (list_any is_loaded) all ∙ ap (λ p. not p && list_any is_loaded info.defs) (sym fixed) ∙ sym (asks_unless 8 info.patchable info.defs) ∙ ap (λ i. is_some (request_of context i)) (sym is)
 
-pub call_ind_asks : (context : Context) (inst : Inst) (info : CallInfo Reg) (defs : List CallRetPair) → inst ≡ CallInd info → defs ≡ info.defs → list_any is_loaded defs ≡ is_some (island_space context inst)
-call_ind_asks context inst info defs is all =
-    ap (list_any is_loaded) all
-    ∙ sym (asks_to_load context.flags (short_jalr context.flags 1 (number_of info.dest) (pos 0)).len info.callee_pop_size info.defs info.try_call_info)
-    ∙ ap (λ i. is_some (island_space context i)) (sym is)
+pub call_ind_asks : (context : Context) (inst : Inst) (info : CallInfo Reg) (defs : List CallRetPair) → inst ≡ CallInd info → defs ≡ info.defs → list_any is_loaded defs ≡ is_some (request_of context inst)
+call_ind_asks context inst info defs is all = ap (list_any is_loaded) all ∙ sym (asks_to_load 4 info.defs) ∙ ap (λ i. is_some (request_of context i)) (sym is)
 
--- what its results count for is no part of its extent
-pub no_extra : (flags : IsaFlags) (jump popped : ℕ) (loads : List StackLoad) (t : Option TryCallInfo) → extra_in (call_extent flags jump popped loads t) ≡ 0
-no_extra flags jump popped [] t = refl
-no_extra flags jump popped (l ∷ loads) t = refl
+-- what its results count for is no part of what it asks
+pub no_extra : (own : ℕ) (loads : List StackLoad) → extra_in (call_request own loads) ≡ 0
+no_extra own [] = refl
+no_extra own (l ∷ loads) = refl

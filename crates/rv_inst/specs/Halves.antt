@@ -8,7 +8,7 @@ use Rattle.rv_ops.specs.declared.memory.LoadOP.TheVariants.{Lh}
 use Rattle.rv_ops.specs.declared.memory.StoreOP.{StoreOP}
 use Rattle.rv_ops.specs.declared.memory.StoreOP.TheVariants.{Sh}
 use Rattle.rv_encode.specs.Operations.{has_load, has_store}
-use Rattle.rv_inst.specs.Addresses.{Location, load_size_at, load_own_size, store_size_at, store_own_size}
+use Rattle.rv_inst.specs.Addresses.{Location, load_own_size, store_own_size}
 use Rattle.rv_inst.specs.Forms.{short_lui, short_rrr}
 
 -- the upper immediate whose value has all bits from the sixteenth on
@@ -19,21 +19,11 @@ high_bits = negsuc 15
 abbrev pub boxing_size : IsaFlags → ℕ
 boxing_size flags = (short_lui flags 30 high_bits).len + (short_rrr flags Or 31 31 30).len + 4
 
--- ---- loads
-
-abbrev pub load_line_size : IsaFlags → LoadOP → ℕ → Location → ℕ
-load_line_size flags op rd at = if has_load flags op then load_size_at flags op rd at else load_size_at flags Lh 31 at + boxing_size flags
-
--- from the load's own instruction on
+-- how long a load is from its own instruction on
 abbrev pub load_line_own_size : IsaFlags → LoadOP → ℕ → Location → ℕ
 load_line_own_size flags op rd at = if has_load flags op then load_own_size flags op rd at else load_own_size flags Lh 31 at + boxing_size flags
 
--- ---- stores
-
-abbrev pub store_line_size : IsaFlags → StoreOP → ℕ → Location → ℕ
-store_line_size flags op src at = if has_store flags op then store_size_at flags op src at else 4 + store_size_at flags Sh 30 at
-
--- from the store's own instruction on
+-- and a store
 abbrev pub store_line_own_size : IsaFlags → StoreOP → ℕ → Location → ℕ
 store_line_own_size flags op src at = if has_store flags op then store_own_size flags op src at else store_own_size flags Sh 30 at
 

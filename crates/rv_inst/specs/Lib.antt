@@ -19,7 +19,7 @@ pub mod Frames
 pub mod SameValues
 pub mod Halves
 pub mod Sizes
-pub mod MostBytes
+pub mod Limits
 pub mod Bits
 pub mod CondBrTargets
 pub mod RegisterTests

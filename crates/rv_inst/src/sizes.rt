@@ -5,7 +5,7 @@ ghost use Rattle.rv_base.specs.declared.constant.Constant.{Constant};
 ghost use Rattle.rv_base.specs.declared.flags.IsaFlags.{IsaFlags};
 ghost use Rattle.rv_inst.specs.Context.{Context, context_by};
 ghost use Rattle.rv_inst.specs.Rules.{is_stacked};
-ghost use Rattle.rv_inst.specs.Sizes.{island_space, inst_sum, line_sum};
+ghost use Rattle.rv_inst.specs.Sizes.{request_of, inst_sum, line_sum};
 
 use crate::inst::{Inst, Line};
 use crate::results::{any_is_loaded, is_on_stack};
@@ -14,7 +14,7 @@ use rv_base::{CallRetPair as Def, FrameLayout};
 impl Inst {
     /// Returns whether the instruction asks for an island, where one is needed before so many bytes.
     pub fn asks_for_island(&self) -> bool
-        ensures { (context : Context) → result ≡ is_some (island_space context self.now) }
+        ensures { (context : Context) → result ≡ is_some (request_of context self.now) }
     {
         match self {
             Inst::EmitIsland { needed_space: _ } => true,

@@ -27,7 +27,7 @@ use Rattle.rv_machine.specs.State.{wrap}
 use Rattle.rv_inst.specs.Context.{Context, context_of}
 use Rattle.rv_inst.specs.Records.{access_records, patch_records, return_records}
 use Rattle.rv_inst.specs.Relocations.{field_size}
-use Rattle.rv_inst.specs.Sizes.{Extent, Words, Island, After, Around, extent_of, inst_records}
+use Rattle.rv_inst.specs.Sizes.{Request, inst_records, request_of}
 use Rattle.rv_inst.specs.declared.code.Code.{Code}
 use Rattle.rv_inst.specs.declared.code.LineSpan.{LineSpan}
 use Rattle.rv_inst.specs.declared.inst.Inst.{Inst}
@@ -41,7 +41,8 @@ use Rattle.rv_fill.specs.Filled.{Table, goal_in, is_upper_at}
 use Rattle.rv_fill.specs.Refusal.{is_bad_base, meets, is_bad_target, is_bad_record, is_far, refusal_to, target_refusal, record_refusal, first_of, records_refusal, refusal, Finds}
 use Rattle.rv_fill.specs.declared.error.PlaceError.{PlaceError}
 use Rattle.rv_fill.specs.declared.error.PlaceError.TheVariants.{BadBase, BadRecord, NoSymbol, OutOfReach, OutOfMemory}
-use Rattle.rv_asm.specs.Reported.{start_of, end_of, line_records, records_from, IsGap, IsSized, IsSpan, FillsInLine, Reported}
+use Rattle.rv_asm.specs.Reported.{line_records, records_from, FillsInLine, Reported}
+use Rattle.rv_asm.specs.Spans.{end_of, from_of, start_of, to_of, IsGap, IsGapOf, IsSpan}
 use Rattle.rv_place.specs.Images.{IsOfPlace}
 
 -- ---- targets
@@ -153,15 +154,13 @@ aimed_at all (x ∷ rs) (suc j) r h e = aimed_at all rs j r h.1 e
 gap_ascends : (flags : IsaFlags) (bytes : List ℕ) (from to : ℕ) → IsGap flags bytes from to → from ≤ to
 gap_ascends flags bytes from to h = ⊎_elim (λ same. omega arith) (λ island. let longer = island.longer in omega arith) h
 
-sized_ascends : (flags : IsaFlags) (bytes : List ℕ) (extent : Extent) (start end : ℕ) → IsSized flags bytes extent start end → start ≤ end
-sized_ascends flags bytes (Words size) start end h = omega arith
-sized_ascends flags bytes (Island space) start end h = gap_ascends flags bytes start end h
-sized_ascends flags bytes (After space size more) start end (mid, gap, same) = let before = gap_ascends flags bytes start mid gap in omega arith
-sized_ascends flags bytes (Around before space after) start end (mid, gap, same) = let ascends = gap_ascends flags bytes (start + before) mid gap in omega (arith, ascends, same)
+asked_ascends : (flags : IsaFlags) (bytes : List ℕ) (request : Option Request) (from to : ℕ) → IsGapOf flags bytes request from to → from ≤ to
+asked_ascends flags bytes None from to same = omega arith
+asked_ascends flags bytes (Some r) from to gap = gap_ascends flags bytes from to gap
 
-span_ascends : (context : Context) (bytes : List ℕ) (line : Line) (start end : ℕ) → IsSpan context bytes line start end → start ≤ end
-span_ascends context bytes (Put inst) start end h = sized_ascends context.flags bytes (extent_of context inst) start end h
-span_ascends context bytes (Bind label) start end h = omega arith
+span_ascends : (context : Context) (bytes : List ℕ) (line : Line) (start from to end : ℕ) → IsSpan context bytes line start from to end → start ≤ end
+span_ascends context bytes (Put inst) start from to end h = let gap = asked_ascends context.flags bytes (request_of context inst) from to h.gap in omega (arith, h.first, gap, h.last)
+span_ascends context bytes (Bind label) start from to end h = omega (arith, h.0)
 
 line_at : (lines : List Line) (i : ℕ) → i < length lines → (line : Line) × (slice_get lines i ≡ Some line)
 line_at [] i lt = absurd (omega arith)
@@ -218,7 +217,7 @@ module _ (job : Job) (code : Code) (h : Reported job code) where
       let below : suc i < length job.lines = omega arith in
       let line = line_at job.lines (suc i) below in
       let gap = gap_ascends job.flags code.bytes (end_of code.lines i) (start_of code.lines (suc i)) (h.joined i below) in
-      let span = span_ascends (context_of job) code.bytes line.0 (start_of code.lines (suc i)) (end_of code.lines (suc i)) (h.long (suc i) line.0 line.1) in
+      let span = span_ascends (context_of job) code.bytes line.0 (start_of code.lines (suc i)) (from_of h.gaps (suc i)) (to_of h.gaps (suc i)) (end_of code.lines (suc i)) (h.long (suc i) line.0 line.1) in
       let rest = ends_before_last more (suc i) (omega arith) in
       omega (arith, gap, span, rest)
 

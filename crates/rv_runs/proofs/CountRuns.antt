@@ -1,12 +1,11 @@
 -- The ones and the zeros of a register are counted, bit by bit.
-use Rattle.std.proofs.Common.{rules, ◌≡◌, ℕ, ◌+◌, ◌-◌, ◌*◌, ◌/◌, ◌%◌, ◌^◌, ◌<◌, pos, negsuc, Bool, true, false, [], ◌∷◌, ◌++◌, List, Some, arith, refl, sym, ap, ◌∙◌, lit<, suc, if◌then◌else◌, not, bit_and, zero, ◌≤◌, subst, lit≤, nat_eq, ◌==◌}
-use Rattle.rv_runs.proofs.Words.{reads_other, temporary_set, Addi, AluOPRRI, And, AreInRange, AreValues, Bind, Branch, Count, Counted, Do, Equal, InCount, IsCount, NotEqual, Piece, Rri, Rrr, SameBut, Site, Slli, Srli, State, TestsBit, Values, after, alu_rri, and_comm, and_pow, and_then}
-use Rattle.rv_runs.proofs.Words.{are_values_set, bit_at, bit_at-lt, bit_at-suc, bit_at_lowest, bit_shift, count_set, counted, evaluate, half_power, ints, low64, none_below, ones, point, pow_below, pow_pos, reads_set, reg, set_reg, signed_below, slots_of, small_shift, spare_kept, wrap, zeros}
-use Rattle.rv_runs.proofs.Exits.{SlotsOut, Reaches, same_but, goes_on, reaches_such, pieces_out}
-use Rattle.rv_code.specs.Counts.{count_start, count_test, count_down, ones_pieces, ones_turn, zeros_pieces, zeros_turn}
-use Rattle.rv_code.specs.Evaluation.{to}
-use Rattle.rv_code.proofs.Registers.{written, source_kept, same_beside, not_zero}
-use Rattle.rv_code.proofs.ZeroNumbers.{index_of, power_of, zeros_left, power_is, power_next, zeros_more, none_to_count, zeros_all, zeros_few, ends_at, counts_on}
+use Rattle.std.proofs.Common.{Bool, List, Some, [], ap, arith, bit_and, false, if◌then◌else◌, lit<, lit≤, nat_eq, negsuc, not, pos, refl, rules, subst, suc, sym, true, zero, ℕ, ◌%◌, ◌*◌, ◌++◌, ◌+◌, ◌-◌, ◌/◌, ◌<◌, ◌==◌, ◌^◌, ◌∙◌, ◌∷◌, ◌≡◌, ◌≤◌}
+use Rattle.rv_runs.proofs.Words.{Addi, AluOPRRI, And, AreInRange, AreValues, Bind, Branch, Do, Equal, NotEqual, Piece, Rri, Rrr, SameBut, Site, Slli, Srli, State, Values, after}
+use Rattle.rv_runs.proofs.Words.{alu_rri, and_comm, and_pow, and_then, are_values_set, bit_at, bit_at-lt, count_set, evaluate, half_power, ints, low64, none_below, not_zero, point, pow_below, pow_pos, reads_other, reads_set, reg, set_reg, signed_below, slots_of, small_shift, temporary_set, to, wrap}
+use Rattle.rv_code.proofs.{Registers.Count, Registers.Counted, Registers.InCount, Registers.IsCount, Registers.TestsBit, Registers.counted, Registers.same_beside, Registers.source_kept, Registers.spare_kept, Registers.written, ZeroNumbers.counts_on, ZeroNumbers.ends_at, ZeroNumbers.index_of}
+use Rattle.rv_code.{proofs.ZeroNumbers.none_to_count, proofs.ZeroNumbers.power_is, proofs.ZeroNumbers.power_next, proofs.ZeroNumbers.power_of, proofs.ZeroNumbers.zeros_all, proofs.ZeroNumbers.zeros_few, proofs.ZeroNumbers.zeros_left, proofs.ZeroNumbers.zeros_more, specs.Counts.count_down}
+use Rattle.{rv_code.specs.Counts.count_start, rv_code.specs.Counts.count_test, rv_code.specs.Counts.ones_pieces, rv_code.specs.Counts.ones_turn, rv_code.specs.Counts.zeros_pieces, rv_code.specs.Counts.zeros_turn, rv_inst.specs.Bits.ones, rv_inst.specs.Bits.zeros, rv_inst.specs.Sizes.bit_shift}
+use Rattle.{rv_runs.proofs.Exits.Reaches, rv_runs.proofs.Exits.SlotsOut, rv_runs.proofs.Exits.goes_on, rv_runs.proofs.Exits.pieces_out, rv_runs.proofs.Exits.reaches_such, rv_runs.proofs.Exits.same_but, std.proofs.lemmas.Nat.Bits.bit_at-suc, std.proofs.lemmas.Nat.Bits.bit_at_lowest}
 
 -- What sequences that count bits of a register have in common: how their loop begins, tests the next bit, and goes on.
 
@@ -18,23 +17,21 @@ first_power false bits = 1
 -- before the first turn
 pub starts : {c : Count} {v : Values} (whole tail : List Piece) (downward : Bool) (w : Values) → IsCount c → AreValues w → SameBut (written c) v w → Reaches whole (point (count_start downward c.sum c.tmp c.step c.bits ++ tail) w) tail (InCount c c.bits (first_power downward c.bits) 0 v)
 starts {c} {v} whole tail downward w h hw others =
-    let w1 = set_reg w c.sum 0 in
     let y = alu_rri Addi 0 (pos c.bits) in
-    let w2 = set_reg w1 c.step y in
     let full : y ≡ c.bits = omega (arith, ints) in
-    goes_on {Such = InCount c c.bits 1 0 v} (record { count = 3; values = set_reg w2 c.tmp 1; ran = refl; such = search (rules, reads_other, reads_set, count_set, h, hw, temporary_set, others, full) }) (by downward)
-  where
+    goes_on {Such = InCount c c.bits 1 0 v} (record { count = 3; values = set_reg (set_reg (set_reg w c.sum 0) c.step y) c.tmp 1; ran = refl; such = search (rules, reads_other, reads_set, count_set, h, hw, temporary_set, others, full) }) (λ u k.
     -- the lowest bit is the next, or one more shift goes to the highest
-    by : (downward : Bool) (u : Values) → InCount c c.bits 1 0 v u → Reaches whole (point ((if downward then Do (Rri Slli c.tmp c.tmp (pos (c.bits - 1))) ∷ [] else []) ++ tail) u) tail (InCount c c.bits (first_power downward c.bits) 0 v)
-    by true u k =
-        let x = alu_rri Slli (reg u c.tmp) (pos (c.bits - 1)) in
-        let bits : suc (c.bits - 1) ≡ c.bits = omega arith in
-        let half : 2 ^ (c.bits - 1) ≡ 2 ^ c.bits / 2 = sym (half_power (c.bits - 1)) ∙ ap (λ k. 2 ^ k / 2) bits in
-        let power = pow_below (c.bits - 1) 64 (omega arith) in
-        let amount : low64 (pos (c.bits - 1)) % 64 ≡ c.bits - 1 = omega (arith, ints) in
-        let highest : x ≡ 2 ^ c.bits / 2 = (λ i. wrap (k.holds.tmp i * 2 ^ amount i)) ∙ omega arith in
-        record { count = 1; values = set_reg u c.tmp x; ran = refl; such = search (rules, reads_other, reads_set, count_set, k, h, temporary_set, highest) }
-    by false u k = record { count = 0; values = u; ran = refl; such = k }
+    elim downward as (λ c1. Reaches whole (point ((if c1 then Do (Rri Slli c.tmp c.tmp (pos (c.bits - 1))) ∷ [] else []) ++ tail) u) tail (InCount c c.bits (first_power c1 c.bits) 0 v)) [
+      | true ↦
+          let x = alu_rri Slli (reg u c.tmp) (pos (c.bits - 1)) in
+          let bits : suc (c.bits - 1) ≡ c.bits = omega arith in
+          let half : 2 ^ (c.bits - 1) ≡ 2 ^ c.bits / 2 = sym (half_power (c.bits - 1)) ∙ ap (λ k. 2 ^ k / 2) bits in
+          let power = pow_below (c.bits - 1) 64 (omega arith) in
+          let amount : low64 (pos (c.bits - 1)) % 64 ≡ c.bits - 1 = omega (arith, ints) in
+          let highest : x ≡ 2 ^ c.bits / 2 = (λ i. wrap (k.holds.tmp i * 2 ^ amount i)) ∙ omega arith in
+          record { count = 1; values = set_reg u c.tmp x; ran = refl; such = search (rules, reads_other, reads_set, count_set, k, h, temporary_set, highest) }
+      | false ↦ record { count = 0; values = u; ran = refl; such = k }
+    ])
 
 -- no bit is left
 pub none_left : {c : Count} {next count : ℕ} {v : Values} (whole tail : List Piece) (w : Values) → after 1 whole ≡ Some [] → InCount c 0 next count v w → Reaches whole (point (count_test c.tmp c.step c.rs tail) w) [] (Counted c count v)
@@ -73,15 +70,13 @@ pub goes_down : {c : Count} {left next count : ℕ} {v : Values} (whole turn : L
 goes_down {c} {left} {next} whole turn shift shifted w lt loops is h k =
     let y = alu_rri Addi (reg w c.step) (negsuc 0) in
     let w1 = set_reg w c.step y in
-    let z = alu_rri shift (reg w1 c.tmp) (pos 1) in
-    let w2 = set_reg w1 c.tmp z in
+    let w2 = set_reg w1 c.tmp (alu_rri shift (reg w1 c.tmp) (pos 1)) in
     let less : y ≡ left = omega arith in
-    let next_is : z ≡ shifted = ap (λ n. alu_rri shift n (pos 1)) (reads_other w c.step c.tmp y h.tmp_step ∙ k.holds.tmp) ∙ is in
     record {
       count = 3;
       values = w2;
       ran = ap (λ o. and_then (to o w2 []) (evaluate 0 whole)) loops;
-      such = search (rules, reads_other, reads_set, count_set, k, h, temporary_set, less, next_is);
+      such = search (rules, reads_other, reads_set, count_set, k, h, temporary_set, less, (ap (λ n. alu_rri shift n (pos 1)) (reads_other w c.step c.tmp y h.tmp_step ∙ k.holds.tmp) ∙ is));
     }
 
 -- The ones of a register are counted, from the highest of its low bits on.
@@ -119,16 +114,15 @@ testing_ones c = Branch Equal 0 30 2 ∷ counting_ones c
 bit_of_ones : {c : Count} {left next count : ℕ} {v : Values} (b : ℕ) (w : Values) → b < 2 → 0 < next → count < 2 ^ 32 → IsCount c → TestsBit c left next count b v w → Reaches (whole_ones c) (point (testing_ones c) w) (down_of c) (InCount c left next (b + count) v)
 bit_of_ones {c} {left} {next} {count} {v} zero w lt some few h k =
     let none : 0 * next ≡ 0 = omega arith in
-    let e : nat_eq 0 (reg w 30) ≡ true = ap (nat_eq 0) (k.tested ∙ none) in
     let same : count ≡ 0 + count = omega arith in
-    record { count = 1; values = w; ran = ap (λ b. and_then (if b then Some (point (down_of c) w) else Some (point (counting_ones c) w)) (evaluate 0 (whole_ones c))) e; such = subst (λ n. InCount c left next n v w) same k.now }
+    record { count = 1; values = w; ran = ap (λ b. and_then (if b then Some (point (down_of c) w) else Some (point (counting_ones c) w)) (evaluate 0 (whole_ones c))) (ap (nat_eq 0) (k.tested ∙ none)); such = subst (λ n. InCount c left next n v w) same k.now }
 bit_of_ones {c} {left} {next} {count} {v} (suc zero) w lt some few h k =
     goes_on (record { count = 1; values = w; ran = ap (λ b. and_then (if b then Some (point (down_of c) w) else Some (point (counting_ones c) w)) (evaluate 0 (whole_ones c))) (not_zero (reg w 30) (omega arith)); such = k.now })
     (λ w1 k1. goes_on (counts_one (whole_ones c) (Bind 2 ∷ down_of c) w1 few h k1)
     (λ w2 k2. record { count = 1; values = w2; ran = refl; such = k2 }))
 bit_of_ones (suc (suc b)) w lt some few h k = absurd (omega arith)
 
--- turns_of_ones until no bit is left, by the ones that are still to be counted
+-- turns until no bit is left, by the ones that are still to be counted
 turns_of_ones : {c : Count} {v : Values} (left count : ℕ) (w : Values) → left ≤ 64 → IsCount c → count + ones left (reg v c.rs) ≡ ones c.bits (reg v c.rs) → InCount c left (2 ^ left / 2) count v w → Reaches (whole_ones c) (point (turn_of_ones c) w) [] (Counted c (ones c.bits (reg v c.rs)) v)
 turns_of_ones {c} {v} zero count w le h all k =
     let e : count ≡ ones c.bits (reg v c.rs) = omega arith in
@@ -188,11 +182,10 @@ by_bit {c} {left} leading zero w lt below few h end on tested k =
     (λ w2 k2. goes_on (goes_down whole (turn_of leading c) (bit_shift leading) (power_of leading c.bits left) w2 (omega arith) (places leading c).0 (power_next leading c.bits left below) h k2)
     (λ w3 k3. on refl w3 k3)))
 by_bit {c} {left} {v = v} leading (suc zero) w lt below few h end on tested k =
-    let some = pow_pos (index_of leading c.bits left) in
     record {
       count = 1;
       values = w;
-      ran = λ i. and_then (if not ((not_zero (reg w 30) (omega arith)) i) then to ((places leading c).1 i) w [] else Some (point (counting leading c) w)) (evaluate 0 (whole_of leading c));
+      ran = λ i. and_then (if not ((not_zero (reg w 30) (omega (arith, pow_pos (index_of leading c.bits left)))) i) then to ((places leading c).1 i) w [] else Some (point (counting leading c) w)) (evaluate 0 (whole_of leading c));
       such = subst (λ n. Counted c n v w) (end refl) (counted w k.holds);
     }
 by_bit leading (suc (suc b)) w lt below few h end on tested k = absurd (omega arith)
@@ -200,8 +193,7 @@ by_bit leading (suc (suc b)) w lt below few h end on tested k = absurd (omega ar
 -- turns until no bit is left or the next one is a one, by the zeros that are still to be counted
 turns : {c : Count} {v : Values} (leading : Bool) (left count : ℕ) (w : Values) → left ≤ c.bits → IsCount c → count + zeros_left leading c.bits left (reg v c.rs) ≡ zeros leading c.bits (reg v c.rs) → InCount c left (power_of leading c.bits left) count v w → Reaches (whole_of leading c) (point (turn_of leading c) w) [] (Counted c (zeros leading c.bits (reg v c.rs)) v)
 turns {c} {v} leading zero count w le h all k =
-    let none = none_to_count leading c.bits (reg v c.rs) in
-    let same : count ≡ zeros leading c.bits (reg v c.rs) = omega arith in
+    let same : count ≡ zeros leading c.bits (reg v c.rs) = omega (arith, none_to_count leading c.bits (reg v c.rs)) in
     reaches_such (λ w1 k1. subst (λ n. Counted c n v w1) same k1) (none_left (whole_of leading c) (testing leading c) w (places leading c).1 k)
 turns {c} {v} leading (suc left) count w le h all k =
     let n = reg v c.rs in
@@ -216,23 +208,14 @@ turns {c} {v} leading (suc left) count w le h all k =
 
 -- ---- the whole sequence
 
-ranges : (leading : Bool) (c : Count) → IsCount c → AreInRange (whole_of leading c)
-ranges true c h = search (rules, arith, h, small_shift)
-ranges false c h = search (rules, arith, h)
-
--- the first bit's power is the next one's where all are left
-first_next : (leading : Bool) (bits : ℕ) → first_power leading bits ≡ power_of leading bits bits
-first_next true bits = refl
-first_next false bits = let none : bits - bits ≡ 0 = omega arith in ap (λ k. wrap (2 ^ k)) (sym none)
-
 pub zeros_out : {site : Site} {start after : ℕ} {s : State} {v : Values} (leading : Bool) (c : Count) → IsCount c → SlotsOut site start after (slots_of site.context.flags (whole_of leading c)) s v (c.tmp ∷ c.step ∷ []) (set_reg v c.sum (zeros leading c.bits (reg v c.rs)))
 zeros_out {s = s} {v = v} leading c h e =
     let n = reg v c.rs in
     let whole = whole_of leading c in
     let few = zeros_few leading c.bits n in
-    pieces_out whole (c.tmp ∷ c.step ∷ []) (set_reg v c.sum (zeros leading c.bits n)) (ranges leading c h) e
+    pieces_out whole (c.tmp ∷ c.step ∷ []) (set_reg v c.sum (zeros leading c.bits n)) (elim leading as (λ l. AreInRange (whole_of l c)) [ true ↦ search (rules, arith, h, small_shift) | false ↦ search (rules, arith, h) ]) e
     (reaches_such (λ w k. same_beside h e.are_values k) (goes_on {Such = λ w. w ≡ s.values} (record { count = 2; values = s.values; ran = refl; such = refl })
     (λ w is. goes_on (starts whole (Bind 0 ∷ turn_of leading c) leading w h (subst (λ u. AreValues u) (sym is) e.is_state.values) (subst (λ u. SameBut (written c) v u) (sym is) (same_but (written c) e.same)))
-    (λ w1 k1. goes_on (record { count = 1; values = w1; ran = refl; such = subst (λ m. InCount c c.bits m 0 v w1) (first_next leading c.bits) k1 })
+    (λ w1 k1. goes_on (record { count = 1; values = w1; ran = refl; such = subst (λ m. InCount c c.bits m 0 v w1) ((elim leading as (λ l. first_power l c.bits ≡ power_of l c.bits c.bits) [ true ↦ refl | false ↦ let none : c.bits - c.bits ≡ 0 = omega arith in ap (λ k. wrap (2 ^ k)) (sym none) ])) k1 })
     (λ w2 k2. turns leading c.bits 0 w2 (omega arith) h (let all = zeros_all leading c.bits n in omega arith) k2)))))
     (λ fits. are_values_set v c.sum (zeros leading c.bits n) e.are_values (let a = h.sum_usable in omega arith) (let bits = h.few in omega arith))

@@ -1,14 +1,10 @@
 -- How code comes out at an exit: from the end of a chain, at a trap, and by the evaluation of an instruction's pieces.
-use Rattle.std.proofs.Common.{rules, refl, ◌≡◌, ℕ, ◌+◌, ◌<◌, Bool, true, false, List, [], ◌∷◌, arith, sym, subst, ◌∙◌, ap, ◌%◌, ◌^◌, ◌≤◌, length, lit<, if◌then◌else◌, zero, suc, Option, Some, None}
-use Rattle.rv_runs.proofs.Words.{AreInRange, AreOutside, AreValues, Arrives, Base, Break, BytesAt, CodeHas, ComesOut, ComesToPoint, Decoded, EmitVState, Enters, Exit, GapIn, Inst, IsAt, IsBeside, IsPlacedAt, IsState, IsZeroHalf, IsaFlags, Leads, MachLabel, Next, Part, Piece, Point, Same, SameBut}
-use Rattle.rv_runs.proofs.Words.{Site, Slot, StandIn, State, To, TrapCode, Values, and_then, are_values_set, at, byte, comes_goes, decodes_at, environment, evaluate, fetch, goes_first, goes_none, goes_second, inst_effect, inst_exit, inst_temporaries, inst_writes, integer_decodes, least_steps}
-use Rattle.rv_runs.proofs.Words.{led_on, next, parts_of, pc_in_code, pieces_long, pieces_run, point, same_Some, same_set, set_reg, size_of, slots_alone, slots_of, trap_bytes, wrap}
-use Rattle.rv_machine.specs.State.{Memory}
-use Rattle.rv_machine.specs.declared.ops.BaseOp.TheVariants.{Ebreak}
-use Rattle.rv_code.specs.Chains.{Goes}
-use Rattle.rv_machine.proofs.UnitOperations.{is_integer}
-use Rattle.rv_inst.specs.Records.{IsRecorded}
-use Rattle.rv_code.specs.Pieces.{Trap}
+use Rattle.std.proofs.Common.{Bool, List, None, Some, [], ap, arith, false, if◌then◌else◌, length, lit<, refl, rules, subst, suc, sym, true, zero, ℕ, ◌%◌, ◌+◌, ◌<◌, ◌^◌, ◌∙◌, ◌∷◌, ◌≡◌, ◌≤◌}
+use Rattle.rv_runs.proofs.Words.{AreInRange, AreOutside, AreValues, Arrives, Base, BytesAt, CodeHas, ComesOut, Decoded, EmitVState, Enters}
+use Rattle.rv_runs.proofs.Words.{Exit, GapIn, Goes, Inst, IsAt, IsBeside, IsPlacedAt, IsState, IsaFlags, MachLabel, Memory, Next, Part, Piece, Same, SameBut, Site, Slot, StandIn, State, To, TrapCode, Values, and_then, are_values_set, at, byte, comes_goes, decodes_at, environment, evaluate, fetch}
+use Rattle.rv_runs.proofs.Words.{goes_first, goes_none, goes_second, inst_effect, inst_exit, inst_temporaries, inst_writes, integer_decodes, is_integer_op as is_integer, least_steps, led_on, next, parts_of, pieces_long, point, same_Some, same_set, set_reg, size_of, slots_alone, slots_of, wrap}
+use Rattle.rv_code.{proofs.Evaluation.pieces_run, proofs.Steps.pc_in_code, specs.Evaluation.ComesToPoint, specs.Evaluation.Point, specs.InstParts.trap_bytes, specs.Pieces.Trap, specs.Sites.Leads}
+use Rattle.{rv_inst.specs.Meaning.Break, rv_inst.specs.Records.IsRecorded, rv_machine.specs.declared.ops.BaseOp.TheVariants.Ebreak}
 use Rattle.rv_inst.specs.Meaning as exit
 use Rattle.mach_records.specs.declared.records.Event.TheVariants as event
 
@@ -54,9 +50,7 @@ comes_out t g arrives b = search (rules, g, b)
 
 -- a chain before
 pub goes_out : {site : Site} {start after least : ℕ} {exit : Exit} {free : List ℕ} {v : Values} {s t : State} → Goes site.context.flags least s t → ComesOut site start after exit free v t → ComesOut site start after exit free v s
-goes_out {site} {start} {after} {least} {exit} {free} {v} {s} {t} g c =
-    let more : Goes site.context.flags (least_steps exit) t c.state = record { steps = c.steps; moved = c.moved; ran = c.ran } in
-    comes_out c.state (goes_second g more) c.arrives (record { same = c.same; is_state = c.is_state; are_values = c.are_values; placed = c.placed })
+goes_out {site} {start} {after} {least} {exit} {free} {v} {s} {t} g c = comes_out c.state (goes_second g (record { steps = c.steps; moved = c.moved; ran = c.ran })) c.arrives (record { same = c.same; is_state = c.is_state; are_values = c.are_values; placed = c.placed })
 
 -- what leads on, where it comes out
 pub led_beside : {site : Site} {free : List ℕ} {v : Values} {s t : State} → IsBeside site free v s → Same s.values t.values → IsState t → t.values.mem ≡ s.values.mem → IsBeside site free v t
@@ -83,36 +77,21 @@ break_out {site} {start} {after} {size} {free} {v} {s} d is h some has b = comes
 
 -- the low half of the word that the machine reads at them
 zero_half : (flags : IsaFlags) (mem : Memory) (a : ℕ) → BytesAt mem a (trap_bytes flags) → fetch mem a % 2 ^ 16 ≡ 0
-zero_half flags mem a = by flags.has_zca
-  where
-    both : byte mem (a + 0) ≡ 0 → byte mem (a + 1) ≡ 0 → a + 2 ≤ 2 ^ 64 → fetch mem a % 2 ^ 16 ≡ 0
-    both first second room =
-        let a0 : a ≡ a + 0 = omega arith in
-        let a1 : wrap (a + 1) ≡ a + 1 = omega arith in
-        let b0 : byte mem a ≡ 0 = ap (byte mem) a0 ∙ first in
-        let b1 : byte mem (wrap (a + 1)) ≡ 0 = ap (byte mem) a1 ∙ second in
-        omega arith
-
-    by : (c : Bool) → BytesAt mem a (if c then 0 ∷ 0 ∷ [] else 0 ∷ 0 ∷ 0 ∷ 0 ∷ []) → fetch mem a % 2 ^ 16 ≡ 0
-    by true bytes = both (bytes.there 0 (lit< tt)) (bytes.there 1 (lit< tt)) bytes.room
-    by false bytes = both (bytes.there 0 (lit< tt)) (bytes.there 1 (lit< tt)) (let room = bytes.room in omega arith)
-
-zero_here : {site : Site} {offset size : ℕ} {s : State} → IsAt site offset size s → 0 < size → BytesAt s.values.mem (site.base + offset) (trap_bytes site.context.flags) → IsZeroHalf s.values.mem s.pc
-zero_here {site} {offset} {size} {s} h some bytes =
-    ap (λ a. fetch s.values.mem a % 2 ^ 16) (pc_in_code h some)
-    ∙ zero_half site.context.flags s.values.mem (site.base + offset) bytes
+zero_half flags mem a =
+    let both : byte mem (a + 0) ≡ 0 → byte mem (a + 1) ≡ 0 → a + 2 ≤ 2 ^ 64 → fetch mem a % 2 ^ 16 ≡ 0 = λ first second room.
+    let a0 : a ≡ a + 0 = omega arith in
+    let a1 : wrap (a + 1) ≡ a + 1 = omega arith in
+    omega (arith, ap (byte mem) a0 ∙ first, ap (byte mem) a1 ∙ second) in
+    elim flags.has_zca as (λ c. BytesAt mem a (if c then 0 ∷ 0 ∷ [] else 0 ∷ 0 ∷ 0 ∷ 0 ∷ []) → fetch mem a % 2 ^ 16 ≡ 0)
+    [ true ↦ λ bytes. both (bytes.there 0 (lit< tt)) (bytes.there 1 (lit< tt)) bytes.room | false ↦ λ bytes. both (bytes.there 0 (lit< tt)) (bytes.there 1 (lit< tt)) (let room = bytes.room in omega arith) ]
 
 pub trap_some : (flags : IsaFlags) → 0 < length (trap_bytes flags)
-trap_some flags = by flags.has_zca
-  where
-    by : (c : Bool) → 0 < length {A = ℕ} (if c then 0 ∷ 0 ∷ [] else 0 ∷ 0 ∷ 0 ∷ 0 ∷ [])
-    by true = lit< tt
-    by false = lit< tt
+trap_some flags = elim flags.has_zca as (λ c. 0 < length {A = ℕ} (if c then 0 ∷ 0 ∷ [] else 0 ∷ 0 ∷ 0 ∷ 0 ∷ [])) [ true ↦ lit< tt | false ↦ lit< tt ]
 
 -- the machine stays where the word of a recorded trap stands
 pub trap_out : {site : Site} {start after offset size : ℕ} {free : List ℕ} {v : Values} {s : State} (code : TrapCode) → IsAt site offset size s → 0 < size → IsRecorded site.records offset (event.Trap code) → BytesAt s.values.mem (site.base + offset) (trap_bytes site.context.flags) →
     start ≤ offset → offset < after → IsBeside site free v s → ComesOut site start after (exit.Trap code) free v s
-trap_out {site} {start} {after} {offset} {size} {free} {v} {s} code h some recorded bytes le lt b = comes_out s (goes_none site.context.flags s) (offset, recorded, le, lt, h.pc, zero_here h some bytes) b
+trap_out {site} {start} {after} {offset} {size} {free} {v} {s} code h some recorded bytes le lt b = comes_out s (goes_none site.context.flags s) (offset, recorded, le, lt, h.pc, ap (λ a. fetch s.values.mem a % 2 ^ 16) (pc_in_code h some) ∙ zero_half site.context.flags s.values.mem (site.base + offset) bytes) b
 
 -- How an evaluation goes on, and how an instruction runs by that of its pieces.
 
@@ -127,11 +106,7 @@ evaluate_both : (m n : ℕ) (whole : List Piece) (p q r : Point) → evaluate m 
 evaluate_both zero n whole p q r e f = let none : 0 + n ≡ n = omega arith in ap (λ k. evaluate k whole p) none ∙ subst (λ o. evaluate n whole o ≡ Some r) (sym (same_Some p q e)) f
 evaluate_both (suc m) n whole p q r e f =
     let more : suc m + n ≡ suc (m + n) = omega arith in
-    ap (λ k. evaluate k whole p) more ∙ by (next whole p.ahead p.values p.written) refl e (λ t g. evaluate_both m n whole t q r g f)
-  where
-    by : (o : Option Point) → next whole p.ahead p.values p.written ≡ o → and_then o (evaluate m whole) ≡ Some q → ((t : Point) → evaluate m whole t ≡ Some q → evaluate (m + n) whole t ≡ Some r) → and_then o (evaluate (m + n) whole) ≡ Some r
-    by None is e later = absurd (cc)
-    by (Some t) is e later = later t e
+    ap (λ k. evaluate k whole p) more ∙ (elim (next whole p.ahead p.values p.written) as (λ o. and_then o (evaluate m whole) ≡ Some q → and_then o (evaluate (m + n) whole) ≡ Some r) [ None ↦ λ e. absurd (cc) | Some t ↦ λ e. evaluate_both m n whole t q r e f ]) e
 
 pub goes_on : {whole ps qs : List Piece} {p : Point} {Such Such' : Values → Type 0} → Reaches whole p ps Such → ((w : Values) → Such w → Reaches whole (point ps w) qs Such') → Reaches whole p qs Such'
 goes_on {whole} {ps} {qs} {p} r on =
@@ -147,8 +122,7 @@ reaches_such so r = record { count = r.count; values = r.values; ran = r.ran; su
 pub comes : {site : Site} {start after : ℕ} {s : State} {v : Values} (whole ps : List Piece) (w : Values) (n : ℕ) → AreInRange whole → (e : Enters site start after (slots_alone (slots_of site.context.flags whole)) s v) → evaluate n whole (point whole s.values) ≡ Some (point ps w) → ComesToPoint n site e.stands.0 start after (point ps w) s
 comes {site} {start} {after} {s} whole ps w n ranges e ran =
     let long = pieces_long site.context.flags whole in
-    let within = e.within in
-    let k : StandIn site e.stands.0 start after whole = record { stand = e.stands.1; even = e.even; ends = omega arith; room = within; ranges = ranges } in
+    let k : StandIn site e.stands.0 start after whole = record { stand = e.stands.1; even = e.even; ends = omega arith; room = e.within; ranges = ranges } in
     pieces_run site e.stands.0 start after whole k n (point whole s.values) (point ps w) s ran tt (record { offset = start; within = omega arith; here = record { even = e.even; room = omega arith; placed = e.placed; pc = e.pc }; stand = k; is_state = e.is_state; values = refl })
 
 pub point_goes : {most : ℕ} {site : Site} {allocated start end : ℕ} {p : Point} {s : State} (c : ComesToPoint most site allocated start end p s) → Goes site.context.flags 0 s c.state
@@ -158,15 +132,12 @@ point_goes c = record { steps = c.steps; moved = omega arith; ran = c.ran }
 pub pieces_out : {site : Site} {start after : ℕ} {s : State} {v : Values} (whole : List Piece) (free : List ℕ) (made : Values) → AreInRange whole → Enters site start after (slots_alone (slots_of site.context.flags whole)) s v → (r : Reaches whole (point whole s.values) [] (SameBut free made)) → (AreValues r.values → AreValues made) → ComesOut site start after Next free made s
 pieces_out {site} {start} {after} {s} {v} whole free made ranges e r are_values =
     let c = comes whole [] r.values r.count ranges e r.ran in
-    let same = subst (SameBut free made) (sym c.there.values) r.such in
-    let values = are_values (subst AreValues c.there.values c.there.is_state.values) in
-    comes_out c.state (point_goes c) (let pc = c.there.here.pc in let there = c.there.stand.ends in omega arith) (search (rules, c.there, same, values))
+    comes_out c.state (point_goes c) (let pc = c.there.here.pc in let there = c.there.stand.ends in omega arith) (search (rules, c.there, (subst (SameBut free made) (sym c.there.values) r.such), (are_values (subst AreValues c.there.values c.there.is_state.values))))
 
 -- and one whose pieces come to a trap
 pub pieces_trap : {site : Site} {start after : ℕ} {s : State} {v : Values} (whole ps : List Piece) (code : TrapCode) (free : List ℕ) (made : Values) → AreInRange whole → Enters site start after (slots_alone (slots_of site.context.flags whole)) s v → (r : Reaches whole (point whole s.values) (Trap code ∷ ps) (SameBut free made)) → (AreValues r.values → AreValues made) → ComesOut site start after (exit.Trap code) free made s
 pieces_trap {site} {start} {after} {s} {v} whole ps code free made ranges e r are_values =
     let c = comes whole (Trap code ∷ ps) r.values r.count ranges e r.ran in
-    let some = trap_some site.context.flags in
     goes_out (point_goes c)
-    (trap_out code c.there.here (omega arith) c.there.stand.stand.0 (c.there.stand.stand.1.0 c.state.values.mem c.there.here.placed) c.there.within (omega arith)
+    (trap_out code c.there.here (omega (arith, trap_some site.context.flags)) c.there.stand.stand.0 (c.there.stand.stand.1.0 c.state.values.mem c.there.here.placed) c.there.within (omega (arith, trap_some site.context.flags))
     (record { same = subst (SameBut free made) (sym c.there.values) r.such; is_state = c.there.is_state; are_values = are_values (subst AreValues c.there.values c.there.is_state.values); placed = c.there.here.placed }))

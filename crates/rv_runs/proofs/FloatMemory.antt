@@ -1,24 +1,15 @@
 -- Loads and stores of floating-point registers on the machine with all units, those of halves by integer registers, too.
-use Rattle.std.proofs.Common.{None, rules, [], ◌≡◌, ℕ, ◌+◌, ◌^◌, ◌<◌, length, arith, refl, sym, ap, subst, ◌∙◌, ◌-◌, ◌*◌, ◌/◌, ◌%◌, ◌∷◌, Option, Some, lit≤, lit<, Bool, true, false, is_some, if◌then◌else◌}
-use Rattle.rv_runs.proofs.Words.{unit_row, AllByRecursion, AreOutside, AreValues, Based, CodeHas, Decoded, Enters, FloatFormat, FloatLoad, FloatStore, FullComesOut, FullState, FullValues, H, IsAt, IsFullState, IsUsableAt, Lh, LoadOP, Location, Or, S, Same, SameBut, Sets, Sh, Site, StandsIn, State}
-use Rattle.rv_runs.proofs.Words.{StoreOP, TrapCode, Units, Values, act, act_on, address_at, addresses_from, are_values_set, at, boxed, boxing_slots, byte, eight_fit, environment, fiter_after, float_load, float_store, format_bytes, freg, goes_at_least, goes_both, goes_second, half_load_slots}
-use Rattle.rv_runs.proofs.Words.{half_store_slots, has_load, has_store, integer_run, ints, is_float_load, label_base, le_or_r, load_bytes, load_fits, load_format, load_line_slots, load_slots, loaded_same, low64, low_bytes, low_part, lui_acts, lui_sized, moved_to_float, moved_to_integer, only_halves}
-use Rattle.rv_runs.proofs.Words.{or_block, or_lt, or_mod, placed_after, put, put_bytes, put_units, put_values, reads_back, reads_other, reg, row_of, rrr_acts, rrr_sized, set_at, set_freg, set_reg, sets_one, short_lui, short_rrr, shorter, sign_extend, size_append, size_of, slots_alone, spare_set}
-use Rattle.rv_runs.proofs.Words.{stands_split, step_at, store_format, store_line_slots, store_same, store_slots, wrap}
-use Rattle.rv_machine.specs.declared.ops.FloatFormat.TheVariants.{D}
-use Rattle.rv_machine.specs.State.{Memory}
-use Rattle.rv_full.specs.Floats.{extended}
-use Rattle.rv_full.specs.Rows.{Does}
-use Rattle.rv_runs.specs.FloatAccesses.{float_loaded, float_stored}
-use Rattle.rv_runs.proofs.MemoryRuns.{DoesThere, before_values, IsBefore, enters_others, load_ready, x31_base, exact_out, store_out, IsBase, store_ready}
-use Rattle.rv_runs.proofs.Exits.{all_same, same_but, starts_at}
-use Rattle.rv_runs.proofs.UnitRuns.{float_set, extended_small, fiter_one, unit_next_at}
-use Rattle.std.specs.Int.{w16, w32}
-use Rattle.std.specs.Int.Bits.{or_zero_r}
-use Rattle.std.specs.Int.RustNames.{bit_or}
-use Rattle.rv_machine.specs.declared.ops.LoadOp.TheVariants.{Lh as half}
-use Rattle.rv_inst.specs.Halves.{high_bits}
-use Rattle.rv_code.specs.Chains.{Goes}
+use Rattle.std.proofs.Common.{Bool, None, Option, Some, [], ap, arith, false, if◌then◌else◌, is_some, length, lit<, lit≤, refl, rules, subst, sym, true, ℕ, ◌%◌, ◌*◌, ◌+◌, ◌-◌, ◌/◌, ◌<◌, ◌^◌, ◌∙◌, ◌∷◌, ◌≡◌}
+use Rattle.rv_runs.proofs.Words.{AllByRecursion, AreOutside, AreValues, Based, D, Decoded, Does, Enters, FloatFormat, FullComesOut}
+use Rattle.rv_runs.proofs.Words.{FullState, FullValues, H, InCourse, IsFullState, IsUsableAt, LoadOP, Location, Memory, Or, S, Same, SameBut, Site, StandsIn, State, StoreOP, TrapCode, Units, Values, act, act_on, address_at, addresses_from, are_values_set, at, boxed, byte, comes_on, environment}
+use Rattle.rv_runs.proofs.Words.{extended, fiter_after, float_loaded, format_bytes, freg, half_load_slots, half_store_slots, has_load, has_store, integer_run, ints, is_float_load, label_base, load_bytes, load_fits, load_format, load_line_slots, load_slots, low64, low_part, lui_acts, lui_sized}
+use Rattle.rv_runs.proofs.Words.{or_lt, placed_after, put, put_bytes, put_units, put_values, reads_back, reads_other, reg, rrr_writes, set_freg, set_reg, short_lui, short_rrr, size_append, size_of, slots_alone, spare_set, stands_split, store_format, store_slots, unit_row, w32, wrap, writes}
+use Rattle.rv_code.proofs.{OperationActs.float_load, OperationActs.float_store, OperationActs.only_halves, StackRuns.eight_fit, StackRuns.loaded_same, StackRuns.store_same}
+use Rattle.{rv_code.specs.InstParts.boxing_slots, rv_code.specs.InstParts.moved_to_float, rv_code.specs.InstParts.moved_to_integer, rv_code.specs.InstParts.store_line_slots, rv_full.specs.UnitRows.row_of, rv_inst.specs.Halves.high_bits, rv_machine.specs.Memory.sign_extend}
+use Rattle.{rv_machine.specs.declared.ops.LoadOp.TheVariants.Lh as half, rv_machine.specs.declared.ops.MOp.TheVariants.FloatLoad, rv_machine.specs.declared.ops.MOp.TheVariants.FloatStore, rv_ops.specs.declared.memory.LoadOP.TheVariants.Lh, rv_ops.specs.declared.memory.StoreOP.TheVariants.Sh}
+use Rattle.rv_runs.proofs.{Exits.all_same, Exits.same_but, Exits.starts_at, MemoryRuns.AreReady, MemoryRuns.DoesThere, MemoryRuns.IsBase, MemoryRuns.IsBefore, MemoryRuns.before_values, MemoryRuns.enters_others, MemoryRuns.exact_out, MemoryRuns.load_ready, MemoryRuns.store_out}
+use Rattle.rv_runs.{proofs.MemoryRuns.store_ready, proofs.MemoryRuns.x31_base, proofs.UnitRuns.extended_small, proofs.UnitRuns.fiter_one, proofs.UnitRuns.float_set, proofs.UnitRuns.unit_next_at, specs.FloatAccesses.float_stored, specs.FloatAccesses.low_bytes}
+use Rattle.std.{proofs.lemmas.Nat.le_or_r, proofs.lemmas.Nat.or_block, proofs.lemmas.Nat.or_mod, specs.Int.Bits.or_zero_r, specs.Int.RustNames.bit_or, specs.Int.w16}
 
 -- A load or a store of a floating-point register does what it means, on the machine with all units, where the machine has come to it.
 
@@ -26,8 +17,7 @@ use Rattle.rv_code.specs.Chains.{Goes}
 
 pub loaded_small : (format : FloatFormat) (mem : Memory) (a : ℕ) → ((x : ℕ) → byte mem x < 256) → boxed format (load_bytes mem a (format_bytes format)) < 2 ^ 64
 loaded_small H mem a h = let b0 = h (wrap (a + 0)) in let b1 = h (wrap (a + 1)) in omega arith
-loaded_small S mem a h =
-    omega arith
+loaded_small S mem a h = omega arith
 loaded_small D mem a h = eight_fit mem a h
 
 pub low_bytes_fit : (format : FloatFormat) (n : ℕ) → AllByRecursion (λ b. b < 256) (low_bytes format n)
@@ -35,32 +25,27 @@ low_bytes_fit H n = (omega arith, (omega arith, tt))
 low_bytes_fit S n = (omega arith, (omega arith, (omega arith, (omega arith, tt))))
 low_bytes_fit D n = (omega arith, (omega arith, (omega arith, (omega arith, (omega arith, (omega arith, (omega arith, (omega arith, tt))))))))
 
-pub low_bytes_long : (format : FloatFormat) (n : ℕ) → length (low_bytes format n) ≡ format_bytes format
-low_bytes_long H n = refl
-low_bytes_long format n = refl
-
 -- ---- what they do
 
 -- a load, by its row
-loaded_there : {site : Site} {start after : ℕ} {d : Decoded} {v : FullValues} {b : FullState} (format : FloatFormat) (register a : ℕ) (y : IsBefore site start after [] d v.ints b.state) → v.units ≡ b.units → AreValues v.ints → IsFullState b → register < 32 →
+loaded_there : {site : Site} {after : ℕ} {Such : Values → Type 0} {d : Decoded} {v : FullValues} {b : FullState} (format : FloatFormat) (register a : ℕ) (y : IsBefore site after Such d b.state) → SameBut [] v.ints y.comes.state.values → v.units ≡ b.units → AreValues v.ints → IsFullState b → register < 32 →
     ((s : State) → act d s ≡ None) → unit_row d (before_values b.units y) ≡ Does (float_loaded format register a (before_values b.units y)) → DoesThere site d (float_loaded format register a v) b (before_values b.units y)
-loaded_there {v = v} {b} format register a y units are_values full lt none row = record {
+loaded_there {v = v} {b} format register a y ints units are_values full lt none row = record {
   none = none;
   after = float_loaded format register a (before_values b.units y);
   row = row;
-  same = record { ints = all_same y.same; units = λ i. set_freg (units i) register (boxed format (loaded_same v.ints.mem y.values.mem a (format_bytes format) y.same.mem i)) };
+  same = record { ints = all_same ints; units = λ i. set_freg (units i) register (boxed format (loaded_same v.ints.mem y.comes.state.values.mem a (format_bytes format) ints.mem i)) };
   are_values = are_values;
-  written = y.written;
-  units = float_set b.units register (boxed format (load_bytes y.values.mem a (format_bytes format))) full.units lt (loaded_small format y.values.mem a y.written.bytes);
+  written = y.comes.course.is_state.values;
+  units = float_set b.units register (boxed format (load_bytes y.comes.state.values.mem a (format_bytes format))) full.units lt (loaded_small format y.comes.state.values.mem a y.comes.course.is_state.values.bytes);
   setting = refl;
-  placed = y.here.placed;
+  placed = y.comes.course.here.placed;
 }
 
-module _ {site : Site} {start after : ℕ} {d : Decoded} {v : FullValues} {b : FullState} (format : FloatFormat) (register a : ℕ) (y : IsBefore site start after [] d v.ints b.state) (address : wrap (reg y.values d.rs1 + low64 d.imm) ≡ a) (units : v.units ≡ b.units)
-    (are_values : AreValues v.ints) (full : IsFullState b) where
+module _ {site : Site} {after : ℕ} {d : Decoded} {v : FullValues} {b : FullState} (format : FloatFormat) (register a : ℕ) (y : IsBefore site after (AreReady [] d a v.ints b.state.values) d b.state) (units : v.units ≡ b.units) (are_values : AreValues v.ints) (full : IsFullState b) where
   pub load_does : d.op ≡ FloatLoad format → d.rd ≡ register → register < 32 → DoesThere site d (float_loaded format register a v) b (before_values b.units y)
-  load_does is to lt = loaded_there format register a y units are_values full lt (λ s. ap (λ op. act_on op d s) is)
-      (ap (λ op. row_of op d (before_values b.units y)) is ∙ (λ i. Does (float_loaded format (to i) (address i) (before_values b.units y))))
+  load_does is to lt = loaded_there format register a y y.comes.course.values.same units are_values full lt (λ s. ap (λ op. act_on op d s) is)
+      (ap (λ op. row_of op d (before_values b.units y)) is ∙ (λ i. Does (float_loaded format (to i) (y.comes.course.values.address i) (before_values b.units y))))
 
   pub store_does : d.op ≡ FloatStore format → d.rs2 ≡ register → AreOutside site.base (length site.bytes) (addresses_from a (format_bytes format)) → DoesThere site d (float_stored format register a v) b (before_values b.units y)
   store_does is from clear =
@@ -68,32 +53,29 @@ module _ {site : Site} {start after : ℕ} {d : Decoded} {v : FullValues} {b : F
       record {
         none = λ s. ap (λ op. act_on op d s) is;
         after = float_stored format register a (before_values b.units y);
-        row = ap (λ op. row_of op d (before_values b.units y)) is ∙ (λ i. Does (float_stored format (from i) (address i) (before_values b.units y)));
+        row = ap (λ op. row_of op d (before_values b.units y)) is ∙ (λ i. Does (float_stored format (from i) (y.comes.course.values.address i) (before_values b.units y)));
         same = record {
-          ints = subst (λ (u : Units). Same (put_bytes v.ints a (low_bytes format (freg u register))) (put_bytes y.values a bytes)) (sym units) (record { regs = λ m lt. y.same.regs m lt refl; mem = store_same v.ints.mem y.values.mem a bytes y.same.mem });
+          ints = subst (λ (u : Units). Same (put_bytes v.ints a (low_bytes format (freg u register))) (put_bytes y.comes.state.values a bytes)) (sym units) (record { regs = λ m lt. y.comes.course.values.same.regs m lt refl; mem = store_same v.ints.mem y.comes.state.values.mem a bytes y.comes.course.values.same.mem });
           units = units;
         };
         are_values = put_values v.ints a (low_bytes format (freg v.units register)) are_values (low_bytes_fit format (freg v.units register));
-        written = put_values y.values a bytes y.written (low_bytes_fit format (freg b.units register));
+        written = put_values y.comes.state.values a bytes y.comes.course.is_state.values (low_bytes_fit format (freg b.units register));
         units = full.units;
         setting = refl;
-        placed = placed_after site y.values.mem a bytes y.here.placed (subst (λ n. AreOutside site.base (length site.bytes) (addresses_from a n)) (sym (low_bytes_long format (freg b.units register))) clear);
+        placed = placed_after site y.comes.state.values.mem a bytes y.comes.course.here.placed (subst (λ n. AreOutside site.base (length site.bytes) (addresses_from a n)) (elim format as (λ x. format_bytes x ≡ length (low_bytes x (freg b.units register))) [ H ↦ refl | _ ↦ refl ]) clear);
       }
 
 -- Halves that integer registers move: one with ones above it is boxed, and one that was sign-extended has the same low bytes.
-
--- all of so many bits are set
-all_set : (q : ℕ) → q < 2 ^ 16 → bit_or q 65535 ≡ 65535
-all_set q lt = let low = le_or_r q 65535 in let high = or_lt 16 q 65535 lt (omega arith) in omega (arith, low, high)
 
 upper_set : (x n : ℕ) → x % 2 ^ 16 ≡ n → bit_or x (2 ^ 64 - 2 ^ 16) % 2 ^ 32 ≡ n + (2 ^ 32 - 2 ^ 16)
 upper_set x n e =
     let q = x % 2 ^ 32 / 2 ^ 16 in
     let parts : x % 2 ^ 32 ≡ q * 2 ^ 16 + n = omega arith in
+    let all : bit_or q 65535 ≡ 65535 = (let low = le_or_r q 65535 in let high = or_lt 16 q 65535 (omega arith) (omega arith) in omega (arith, low, high)) in
     or_mod x (2 ^ 64 - 2 ^ 16) 32
     ∙ ap (λ y. bit_or y (65535 * 2 ^ 16 + 0)) parts
     ∙ or_block 16 q 65535 n 0 (omega arith) (omega arith)
-    ∙ (λ i. all_set q (omega arith) i * 2 ^ 16 + or_zero_r n i)
+    ∙ (λ i. all i * 2 ^ 16 + or_zero_r n i)
     ∙ omega arith
 
 -- a half that was sign-extended
@@ -126,103 +108,70 @@ same_elsewhere site start other after later v _ = refl
 abbrev upper : ℕ
 upper = 2 ^ 64 - 2 ^ 16
 
-half_small : (mem : Memory) (a : ℕ) → ((x : ℕ) → byte mem x < 256) → load_bytes mem a 2 < 2 ^ 16
-half_small mem a h = let b0 = h (wrap (a + 0)) in let b1 = h (wrap (a + 1)) in omega arith
-
--- the machine at the move, with them in x31, too
-pub record IsBoxedAt (site : Site) (start after rd a : ℕ) (v : Values) (s : State) : Type 0 where
-  pub before : IsBefore site start after [] (moved_to_float rd 31) v s
-  pub value : boxed S (low_part S (reg before.values 31)) ≡ boxed H (load_bytes before.values.mem a 2)
-
--- from where x31 holds the half
-boxed_at : {site : Site} {start after : ℕ} {s : State} {v : Values} (rd size allocated a : ℕ) (w : Values) → Goes site.context.flags 0 s (at (wrap (s.pc + size)) w) → IsAt site (start + size) (size_of (boxing_slots site.context.flags rd)) (at (wrap (s.pc + size)) w) →
-    StandsIn site allocated (start + size) (boxing_slots site.context.flags rd) → start + size + size_of (boxing_slots site.context.flags rd) ≡ after → SameBut [] v w → AreValues w → reg w 31 ≡ half_at w.mem a → IsBoxedAt site start after rd a v s
-boxed_at {site} {start} {after} {s} {v} rd size allocated a w g here stands ends same hw held =
-    let flags = site.context.flags in
-    let lui = short_lui flags 30 high_bits in
-    let orr = short_rrr flags Or 31 31 30 in
-    let x = reg w 31 in
-    let y = bit_or x upper in
-    let s1 = at (wrap (s.pc + size)) w in
-    let h1 : IsAt site (start + size) (lui.len + (orr.len + 4)) s1 = shorter (lui.len + (orr.len + 4)) here (omega arith) in
-    let s2 = at (wrap (s1.pc + lui.len)) (set_reg w 30 upper) in
-    let g2 : Sets flags lui.len s1 30 upper = sets_one lui 30 upper h1 (omega arith) stands.0 (lui_acts flags 30 high_bits s1 (record { pc = omega arith; values = hw })) in
-    let w2 : AreValues s2.values = are_values_set w 30 upper hw (lit< tt) (lit< tt) in
-    let h2 : IsAt site (start + size + lui.len) (orr.len + 4) s2 = set_at lui.len 30 upper h1 (lui_sized flags 30 high_bits).even in
-    let low : reg s2.values 31 ≡ x = reads_other w 30 31 upper (λ e. absurd (omega arith)) in
-    let high : reg s2.values 30 ≡ upper = reads_back w 30 upper hw (lit< tt) (lit< tt) in
-    let s3 = at (wrap (s2.pc + orr.len)) (set_reg s2.values 31 y) in
-    let g3 : Sets flags orr.len s2 31 y = sets_one orr 31 y h2 (omega arith) stands.1.0 (rrr_acts flags Or 31 31 30 s2 (record { pc = omega arith; values = w2 }) ∙ (λ i. Some (at (wrap (s2.pc + orr.len)) (set_reg s2.values 31 (bit_or (low i) (high i)))))) in
-    let h3 : IsAt site (start + size + lui.len + orr.len) 4 s3 = set_at orr.len 31 y h2 (rrr_sized flags Or 31 31 30).even in
-    let over : s3.pc ≡ wrap (s.pc + (size + lui.len + orr.len)) = omega arith in
-    record {
-      before = record {
-        size = size + lui.len + orr.len;
-        values = s3.values;
-        goes = subst (λ n. Goes flags 0 s (at n s3.values)) over (goes_both {m = 0} {n = 0} g (goes_both {m = 0} {n = 0} g2 g3));
-        here = record { even = let h = h3.even in omega arith; room = let h = h3.room in omega arith; placed = h3.placed; pc = let h = h3.pc in omega arith };
-        has = subst (λ n. CodeHas site n (moved_to_float rd 31 ∷ [])) (omega arith) stands.1.1.0;
-        some = lit< tt;
-        ends = omega arith;
-        same = spare_set v s2.values 31 y (lit≤ tt) (spare_set v w 30 upper (lit≤ tt) same);
-        written = are_values_set s2.values 31 y w2 (lit< tt) (or_lt 64 x upper (hw.fits 31) (lit< tt));
-      };
-      value = ap (λ r. boxed S (low_part S r)) (reads_back s2.values 31 y w2 (lit< tt) (lit< tt) ∙ ap (λ n. bit_or n upper) held) ∙ half_boxed (load_bytes w.mem a 2) (half_small w.mem a hw.bytes);
-    }
+-- with them in x31, too
+pub record AreBoxed (a : ℕ) (v w : Values) : Type 0 where
+  pub same : SameBut [] v w
+  pub value : boxed S (low_part S (reg w 31)) ≡ boxed H (load_bytes w.mem a 2)
 
 pub half_ready : {site : Site} {start after : ℕ} {s : State} {v : Values} (rd : ℕ) (loc : Location) (trap : Option TrapCode) → IsUsableAt loc → Enters site start after (slots_alone (half_load_slots site.context.flags rd trap loc)) s v →
-    IsBoxedAt site start after rd (address_at (environment site start after) v loc) v s
+    IsBefore site after (AreBoxed (address_at (environment site start after) v loc) v) (moved_to_float rd 31) s
 half_ready {site} {start} {after} {s} {v} rd loc trap based e =
     let flags = site.context.flags in
     let slots = load_slots flags 31 Lh trap loc in
     let last = boxing_slots flags rd in
+    let lui = short_lui flags 30 high_bits in
+    let orr = short_rrr flags Or 31 31 30 in
     let long = size_append slots last in
     let both = stands_split site e.stands.0 start slots last e.stands.1 in
     let y = load_ready [] 31 Lh loc trap based (x31_base loc) (enters_others (start + size_of slots) (slots_alone slots) (omega arith) (e.stands.0, both.0, refl) e) in
     let d = y.operation in
-    let c = y.before in
+    let stands = subst (λ n. StandsIn site e.stands.0 n last) (sym y.before.ends) both.1 in
     let a = address_at (environment site start after) v loc in
-    let there : wrap (reg c.values d.rs1 + low64 d.imm) ≡ a = y.address ∙ same_elsewhere site start start (start + size_of slots) after v loc in
-    let x = half_at c.values.mem a in
-    let fits : x < 2 ^ 64 = load_fits half c.values.mem a c.written.bytes in
-    let t = at (wrap (s.pc + c.size)) c.values in
-    let w = set_reg c.values 31 x in
-    let size = c.size + d.len in
-    let over : wrap (t.pc + d.len) ≡ wrap (s.pc + size) = omega arith in
-    let acts : act d t ≡ Some (at (wrap (t.pc + d.len)) w) = ap (λ o. act_on o d t) y.is ∙ (λ i. Some (at (wrap (t.pc + d.len)) (set_reg c.values (y.register i) (half_at c.values.mem (there i))))) in
-    let goes = subst (λ n. Goes flags 0 s (at n w)) over (goes_at_least (lit≤ tt) (goes_second c.goes (step_at d [] (at (wrap (t.pc + d.len)) w) c.here c.some c.has acts))) in
-    let next : start + size_of slots ≡ start + size = omega arith in
-    let here : IsAt site (start + size) (size_of last) (at (wrap (s.pc + size)) w) = record { even = let h = c.here.even in omega arith; room = omega arith; placed = c.here.placed; pc = let h = c.here.pc in omega arith } in
-    boxed_at rd size e.stands.0 a w goes here (subst (λ n. StandsIn site e.stands.0 n last) next both.1) (omega arith) (spare_set v c.values 31 x (lit≤ tt) c.same) (are_values_set c.values 31 x c.written (lit< tt) fits) (reads_back c.values 31 x c.written (lit< tt) (lit< tt))
+    record {
+      offset = y.before.offset + d.len + lui.len + orr.len;
+      comes = comes_on y.before.comes (λ t0 k0.
+          let k : InCourse site y.before.offset (d.len + (lui.len + (orr.len + 4))) (AreReady [] d _ v s.values) t0 = record { here = record { even = k0.here.even; room = omega arith; placed = k0.here.placed; pc = k0.here.pc }; is_state = k0.is_state; values = k0.values } in
+          let there : wrap (reg t0.values d.rs1 + low64 d.imm) ≡ a = k0.values.address ∙ same_elsewhere site start start (start + size_of slots) after v loc in
+          comes_on (writes (λ w. SameBut [] v w × (reg w 31 ≡ half_at w.mem a)) d 31 (half_at t0.values.mem a) y.before.sized y.before.has
+          (ap (λ o. act_on o d t0) y.is ∙ (λ i. Some (at (wrap (t0.pc + d.len)) (set_reg t0.values (y.register i) (half_at t0.values.mem (there i)))))) (lit< tt) (load_fits half t0.values.mem a k0.is_state.values.bytes) k
+          ((spare_set v t0.values 31 (half_at t0.values.mem a) (lit≤ tt) k0.values.same), reads_back t0.values 31 (half_at t0.values.mem a) k0.is_state.values (lit< tt) (lit< tt))) (λ t1 k1.
+          comes_on (writes (λ w. SameBut [] v w × (reg w 31 ≡ half_at w.mem a) × (reg w 30 ≡ upper)) lui 30 upper (lui_sized flags 30 high_bits) stands.0 (lui_acts flags 30 high_bits t1 k1.is_state) (lit< tt) (lit< tt) k1
+          (spare_set v t1.values 30 upper (lit≤ tt) k1.values.0, reads_other t1.values 30 31 upper (λ e. absurd (omega arith)) ∙ k1.values.1, reads_back t1.values 30 upper k1.is_state.values (lit< tt) (lit< tt))) (λ t2 k2.
+          let x = bit_or (half_at t2.values.mem a) upper in
+          rrr_writes (AreBoxed a v) Or 31 31 30 x stands.1.0 (λ i. bit_or (k2.values.1 i) (k2.values.2 i)) (lit< tt) k2 (record {
+            same = spare_set v t2.values 31 x (lit≤ tt) k2.values.0;
+            value = ap (λ r. boxed S (low_part S r)) (reads_back t2.values 31 x k2.is_state.values (lit< tt) (lit< tt)) ∙ half_boxed (load_bytes t2.values.mem a 2) (let b0 = k2.is_state.values.bytes (wrap (a + 0)) in let b1 = k2.is_state.values.bytes (wrap (a + 1)) in omega arith);
+          }))));
+      has = stands.1.1.0;
+      sized = record { even = refl; some = lit< tt; few = lit≤ tt };
+      ends = omega arith;
+    }
 
--- ---- the e.stands.2
+-- ---- the access
 
 pub half_load_out : {site : Site} {start after : ℕ} {v : FullValues} {b : FullState} (rd : ℕ) (loc : Location) (trap : Option TrapCode) → rd < 32 → IsUsableAt loc → Enters site start after (slots_alone (half_load_slots site.context.flags rd trap loc)) b.state v.ints → v.units ≡ b.units → IsFullState b → FullComesOut site after [] (float_loaded H rd (address_at (environment site start after) v.ints loc) v) [] b
 half_load_out {site} {start} {after} {v} {b} rd loc trap lt based e units full =
     let z = half_ready rd loc trap based e in
-    exact_out z.before (loaded_there H rd (address_at (environment site start after) v.ints loc) z.before units e.are_values full lt (λ s. refl) (ap (λ r. Does (put_units (set_freg b.units rd r) (before_values b.units z.before))) z.value)) full.answers
+    let k = z.comes.course.values in
+    exact_out z (loaded_there H rd (address_at (environment site start after) v.ints loc) z k.same units e.are_values full lt (λ s. refl) (ap (λ r. Does (put_units (set_freg b.units rd r) (before_values b.units z))) k.value)) full.answers
 
 -- A half that is stored by an integer register: the move into x30, which takes no answer, and then sh.
 
 -- the machine after the move, before the store
 store_enters : {site : Site} {start after z : ℕ} {s : State} {v : Values} (src : ℕ) (loc : Location) (trap : Option TrapCode) → z < 2 ^ 64 → Enters site start after (slots_alone (half_store_slots site.context.flags src trap loc)) s v → Enters site (start + 4) after (slots_alone (store_slots site.context.flags Sh 30 trap loc)) (at (wrap (s.pc + 4)) (set_reg s.values 30 z)) v
-store_enters {z = z} {s} {v} src loc trap fits e =
-    let values = are_values_set s.values 30 z e.is_state.values (lit< tt) fits in
-    let same = all_same (spare_set v s.values 30 z (lit≤ tt) (same_but [] e.same)) in
-    search (rules, arith, e, values, same)
+store_enters {z = z} {s} {v} src loc trap fits e = search (rules, arith, e, (are_values_set s.values 30 z e.is_state.values (lit< tt) fits), (all_same (spare_set v s.values 30 z (lit≤ tt) (same_but [] e.same))))
 
 pub half_store_out : {site : Site} {start after : ℕ} {v : FullValues} {b : FullState} (src : ℕ) (loc : Location) (trap : Option TrapCode) → IsUsableAt loc → Enters site start after (slots_alone (half_store_slots site.context.flags src trap loc)) b.state v.ints → v.units ≡ b.units → IsFullState b → AreOutside site.base (length site.bytes) (addresses_from (address_at (environment site start after) v.ints loc) 2) → FullComesOut site after [] (float_stored H src (address_at (environment site start after) v.ints loc) v) [] b
 half_store_out {site} {start} {after} {v} {b} src loc trap based e units full clear =
     let flags = site.context.flags in
-    let s = b.state in
     let number = freg b.units src in
     let z = extended S number in
-    let t = at (wrap (s.pc + 4)) (set_reg s.values 30 z) in
+    let t = at (wrap (b.state.pc + 4)) (set_reg b.state.values 30 z) in
     let c = put t b in
     let a = address_at (environment site start after) v.ints loc in
     let there : address_at (environment site (start + 4) after) v.ints loc ≡ a = same_elsewhere site (start + 4) start after after v.ints loc in
     let g = store_out Sh 30 loc trap refl (lit< tt) based (store_enters src loc trap (extended_small S number (full.units.float_fits src)) e) (subst (λ x. AreOutside site.base (length site.bytes) (addresses_from x 2)) (sym there) clear) in
-    let bytes : low_bytes H (reg t.values 30) ≡ low_bytes H (freg v.units src) = ap (low_bytes H) (reads_back s.values 30 z e.is_state.values (lit< tt) (lit< tt)) ∙ half_moved number ∙ ap (λ u. low_bytes H (freg u src)) (sym units) in
+    let bytes : low_bytes H (reg t.values 30) ≡ low_bytes H (freg v.units src) = ap (low_bytes H) (reads_back b.state.values 30 z e.is_state.values (lit< tt) (lit< tt)) ∙ half_moved number ∙ ap (λ u. low_bytes H (freg u src)) (sym units) in
     let made : put_bytes v.ints (address_at (environment site (start + 4) after) v.ints loc) (low_bytes H (reg t.values 30)) ≡ (float_stored H src a v).ints = λ i. put_bytes v.ints (there i) (bytes i) in
     record {
       steps = g.steps + 1;
@@ -247,21 +196,20 @@ float_base op rd loc float = subst (λ (c : Bool). IsBase [] loc (if c then 31 e
 
 -- a load of a line ends at an even offset
 pub line_even : {site : Site} {start after : ℕ} {s : State} {v : Values} (rd : ℕ) (op : LoadOP) (trap : Option TrapCode) (loc : Location) → is_float_load op ≡ true → IsUsableAt loc → Enters site start after (slots_alone (load_line_slots site.context.flags rd op trap loc)) s v → after % 2 ≡ 0
-line_even {site} {start} {after} {s} {v} rd op trap loc float based = by (has_load site.context.flags op)
-  where
-    by : (has : Bool) → Enters site start after (slots_alone (if has then load_slots site.context.flags rd op trap loc else half_load_slots site.context.flags rd trap loc)) s v → after % 2 ≡ 0
-    by true e = let y = load_ready [] rd op loc trap based (float_base op rd loc float) e in let even = y.before.here.even in let ends = y.before.ends in let own = y.even in omega arith
-    by false e = let y = (half_ready rd loc trap based e).before in let even = y.here.even in let ends = y.ends in omega arith
+line_even {site} {start} {after} {s} {v} rd op trap loc float based =
+    elim (has_load site.context.flags op) as (λ has. Enters site start after (slots_alone (if has then load_slots site.context.flags rd op trap loc else half_load_slots site.context.flags rd trap loc)) s v → after % 2 ≡ 0) [
+      | true ↦ λ e. let y = load_ready [] rd op loc trap based (float_base op rd loc float) e in let even = y.before.comes.course.here.even in let ends = y.before.ends in let own = y.before.sized.even in omega arith
+      | false ↦ λ e. let y = half_ready rd loc trap based e in let even = y.comes.course.here.even in let ends = y.ends in omega arith
+    ]
 
 -- the load of a line, which may be that of a half by integer registers
 pub line_load : {site : Site} {start after : ℕ} {v : FullValues} {b : FullState} (rd : ℕ) (op : LoadOP) (trap : Option TrapCode) (loc : Location) (format : FloatFormat) → load_format op ≡ Some format → rd < 32 → IsUsableAt loc → Enters site start after (slots_alone (load_line_slots site.context.flags rd op trap loc)) b.state v.ints → v.units ≡ b.units → IsFullState b → FullComesOut site after [] (float_loaded format rd (address_at (environment site start after) v.ints loc) v) [] b
-line_load {site} {start} {after} {v} {b} rd op trap loc format is lt based e units full = by (has_load site.context.flags op) refl e
-  where
-    by : (has : Bool) → has_load site.context.flags op ≡ has → Enters site start after (slots_alone (if has then load_slots site.context.flags rd op trap loc else half_load_slots site.context.flags rd trap loc)) b.state v.ints → FullComesOut site after [] (float_loaded format rd (address_at (environment site start after) v.ints loc) v) [] b
-    by true has e =
-        let y = load_ready [] rd op loc trap based (float_base op rd loc (ap is_some is)) e in
-        exact_out y.before (load_does format rd (address_at (environment site start after) v.ints loc) y.before y.address units e.are_values full (y.is ∙ float_load op format is) y.register lt) full.answers
-    by false none e = subst (λ f. FullComesOut site after [] (float_loaded f rd (address_at (environment site start after) v.ints loc) v) [] b) (sym (only_halves site.context.flags (load_format op) format is none)) (half_load_out rd loc trap lt based e units full)
+line_load {site} {start} {after} {v} {b} rd op trap loc format is lt based e units full =
+    let a = address_at (environment site start after) v.ints loc in
+    (elim (has_load site.context.flags op) as (λ has. has_load site.context.flags op ≡ has → Enters site start after (slots_alone (if has then load_slots site.context.flags rd op trap loc else half_load_slots site.context.flags rd trap loc)) b.state v.ints → FullComesOut site after [] (float_loaded format rd a v) [] b) [
+      | true ↦ λ has e. let y = load_ready [] rd op loc trap based (float_base op rd loc (ap is_some is)) e in exact_out y.before (load_does format rd a y.before units e.are_values full (y.is ∙ float_load op format is) y.register lt) full.answers
+      | false ↦ λ none e. subst (λ f. FullComesOut site after [] (float_loaded f rd a v) [] b) (sym (only_halves site.context.flags (load_format op) format is none)) (half_load_out rd loc trap lt based e units full)
+    ]) refl e
 
 -- ---- stores
 
@@ -269,14 +217,11 @@ line_load {site} {start} {after} {v} {b} rd op trap loc format is lt based e uni
 pub line_store : {site : Site} {start after : ℕ} {v : FullValues} {b : FullState} (op : StoreOP) (src : ℕ) (trap : Option TrapCode) (loc : Location) (format : FloatFormat) → store_format op ≡ Some format → IsUsableAt loc →
     Enters site start after (slots_alone (store_line_slots site.context.flags op src trap loc)) b.state v.ints → v.units ≡ b.units → IsFullState b → AreOutside site.base (length site.bytes) (addresses_from (address_at (environment site start after) v.ints loc) (format_bytes format)) →
     FullComesOut site after [] (float_stored format src (address_at (environment site start after) v.ints loc) v) [] b
-line_store {site} {start} {after} {v} {b} op src trap loc format is based e units full clear = by (has_store site.context.flags op) refl e
-  where
-    by : (has : Bool) → has_store site.context.flags op ≡ has → Enters site start after (slots_alone (if has then store_slots site.context.flags op src trap loc else half_store_slots site.context.flags src trap loc)) b.state v.ints →
-        FullComesOut site after [] (float_stored format src (address_at (environment site start after) v.ints loc) v) [] b
-    by true has e =
-        let y = store_ready op src loc trap based e in
-        exact_out y.before (store_does format src (address_at (environment site start after) v.ints loc) y.before y.address units e.are_values full (y.is ∙ float_store op format is) y.register clear) full.answers
-    by false none e =
-        let half = only_halves site.context.flags (store_format op) format is none in
-        subst (λ f. FullComesOut site after [] (float_stored f src (address_at (environment site start after) v.ints loc) v) [] b) (sym half)
-        (half_store_out src loc trap based e units full (subst (λ f. AreOutside site.base (length site.bytes) (addresses_from (address_at (environment site start after) v.ints loc) (format_bytes f))) half clear))
+line_store {site} {start} {after} {v} {b} op src trap loc format is based e units full clear =
+    let a = address_at (environment site start after) v.ints loc in
+    (elim (has_store site.context.flags op) as (λ has. has_store site.context.flags op ≡ has → Enters site start after (slots_alone (if has then store_slots site.context.flags op src trap loc else half_store_slots site.context.flags src trap loc)) b.state v.ints → FullComesOut site after [] (float_stored format src a v) [] b) [
+      | true ↦ λ has e. let y = store_ready op src loc trap based e in exact_out y.before (store_does format src a y.before units e.are_values full (y.is ∙ float_store op format is) y.register clear) full.answers
+      | false ↦ λ none e.
+          let half = only_halves site.context.flags (store_format op) format is none in
+          subst (λ f. FullComesOut site after [] (float_stored f src a v) [] b) (sym half) (half_store_out src loc trap based e units full (subst (λ f. AreOutside site.base (length site.bytes) (addresses_from a (format_bytes f))) half clear))
+    ]) refl e

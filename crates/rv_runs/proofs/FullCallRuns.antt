@@ -1,19 +1,13 @@
 -- Calls and tail calls on the machine with all units, where registers of both files come from the stack.
-use Rattle.std.proofs.Common.{rules, ◌≡◌, ℕ, ◌+◌, ◌<◌, ◌≤◌, false, List, [], ◌∷◌, ◌++◌, length, Option, Some, None, arith, refl, sym, ap, subst, ◌∙◌, lit<, is_some, ◌^◌, Bool, pos, ◌*◌, ◌/◌, true}
-use Rattle.rv_runs.proofs.Words.{AreOthersAs, AreStackLoads, Ask, Based, Call, CallInd, ComesOut, EmitVState, Enters, Exit, FloatFormat, FrameLayout, FullComesOut, FullEnds, FullState, FullValues, InCourse, Inst, IsAs, IsAt, IsFullState, IsLoadableAs, IsOtherAs, IsRestorable, Keeps, Leave, Notes}
-use Rattle.rv_runs.proofs.Words.{Op, Resumes, Return, ReturnCall, ReturnCallInd, Site, Slot, Slots, StackLoad, StandsIn, State, TailCall, TryCallInfo, UserStackMap, Values, call_parts, call_to, call_usable, code_limit, comes_here, environment, fallen, fiter_none, frame_above, frame_left}
-use Rattle.rv_runs.proofs.Words.{full_loaded, inst_effect, inst_exit, inst_temporaries, integer_loaded, integer_other, integer_run, is_bad_frame_for, is_float_load, is_restorable, line_comes, load_format, load_line_slots, loaded, loaded_as, loads_float, low64, or_parts, parts_of, put, reads_other}
-use Rattle.rv_runs.proofs.Words.{reg, restores_float, return_of, return_slots, same_Some, set_int, short_jalr, size_append, size_of, slots_alone, small_number, stack_load_slots, stack_loaded, stack_step_slots, stands_split, step_comes, t0_other, tail_call_of, target_fine, try_call_of, try_exit}
-use Rattle.rv_runs.proofs.Words.{wrap}
-use Rattle.rv_inst.specs.Returns.{restores}
-use Rattle.rv_runs.specs.FloatAccesses.{float_loaded}
-use Rattle.rv_runs.specs.FullReturns.{full_left, with_ints, full_resumed}
-use Rattle.rv_code.proofs.Courses.{Comes}
-use Rattle.rv_runs.proofs.Exits.{all_same}
-use Rattle.rv_runs.proofs.UnitRuns.{FullSteps, no_steps, more_steps}
-use Rattle.rv_runs.proofs.FloatMemory.{line_even, line_load}
-use Rattle.rv_runs.proofs.CallRuns.{restores_none, call_ind_out, call_out, Opens, by_call, comes_to_loads, continues, IsLeft, frame_enters, register_out, symbol_out}
-use Rattle.mach_records.specs.declared.records.Event.TheVariants as event
+use Rattle.std.proofs.Common.{Bool, List, None, Option, Some, [], ap, arith, false, is_some, length, lit<, pos, refl, rules, subst, sym, true, ℕ, ◌*◌, ◌++◌, ◌+◌, ◌/◌, ◌<◌, ◌^◌, ◌∙◌, ◌∷◌, ◌≡◌, ◌≤◌}
+use Rattle.rv_runs.proofs.Words.{AreStackLoads, Ask, Based, Call, CallInd, CallSite, Comes, ComesOut, EmitVState, Enters, Exit, FloatFormat, FrameLayout, FullComesOut, FullEnds, FullState, FullValues, InCourse, Inst, IsAs}
+use Rattle.rv_runs.proofs.Words.{IsAt, IsFullState, IsRestorable, Keeps, Leave, Notes, Op, Resumes, Return, ReturnCall, ReturnCallInd, Site, Slot, Slots, StackLoad, StandsIn, State, TailCall, TryCallInfo, UserStackMap, Values, call_parts, call_to, call_usable, code_limit, comes_here, environment}
+use Rattle.rv_runs.proofs.Words.{fallen, fiter_none, float_loaded, frame_above, frame_left, inst_effect, inst_exit, inst_temporaries, integer_run, is_bad_frame_for, is_float_load, is_restorable, load_format, load_line_slots, loads_float, low64, or_parts, parts_of, put, reads_other, reg, restores}
+use Rattle.rv_runs.proofs.Words.{restores_float, return_of, return_slots, same_Some, short_jalr, size_append, size_of, slots_alone, small_number, stack_load_slots, stack_loaded, stack_step_slots, stands_split, step_comes, t0_other, tail_call_of, target_fine, try_call_of, try_exit, with_ints, wrap}
+use Rattle.{rv_code.proofs.StackRuns.AreOthersAs, rv_code.proofs.StackRuns.IsLoadableAs, rv_code.proofs.StackRuns.IsOtherAs, rv_code.proofs.StackRuns.integer_loaded, rv_code.proofs.StackRuns.line_comes, rv_code.proofs.StackRuns.one_other as integer_other, rv_inst.specs.Meaning.loaded}
+use Rattle.rv_runs.proofs.CallRuns.{IsLeft, Opens, by_call, call_ind_out, call_out, comes_to_loads, continues, frame_enters, loads_first, register_out, restores_none, symbol_out}
+use Rattle.rv_runs.proofs.{Exits.all_same, FloatMemory.line_even, FloatMemory.line_load, UnitRuns.FullSteps, UnitRuns.more_steps, UnitRuns.no_steps}
+use Rattle.rv_runs.specs.FullReturns.{full_left, full_loaded, full_resumed, loaded_as, set_int}
 
 -- Registers of both files come from the stack, on the machine with all units: integer words are lifted, and each load of a floating-point
 -- register is one exact row after them.
@@ -33,8 +27,7 @@ FullComes site offset size v b = FullSteps site (FullCourse site offset size v) 
 
 -- as the integer machine does by integer words
 pub integers_come : {site : Site} {offset size : ℕ} {u : Values} (v : FullValues) (b : FullState) → v.units ≡ b.units → IsFullState b → Comes site offset size (IsAs u) b.state → FullComes site offset size (with_ints u v) b
-integers_come {site} v b units full c =
-    record { steps = c.goes.steps; state = put c.state b; ran = integer_run site.context.flags c.goes.steps c.state b c.goes.ran; answers = refl; setting = refl; there = search (rules, c.course, units, full) }
+integers_come {site} v b units full c = record { steps = c.goes.steps; state = put c.state b; ran = integer_run site.context.flags c.goes.steps c.state b c.goes.ran; answers = refl; setting = refl; there = search (rules, c.course, units, full) }
 
 pub in_course : {site : Site} {offset size : ℕ} {v : FullValues} {b : FullState} → FullCourse site offset size v b → InCourse site offset size (IsAs v.ints) b.state
 in_course k = record { here = k.here; is_state = k.is_state.state; values = k.ints }
@@ -67,17 +60,12 @@ pub stack_kept : (loads : List StackLoad) → AreStackLoads loads → AreOthersA
 stack_kept [] h = tt
 stack_kept (l ∷ loads) h = (stack_other (load_format l.op) l.register h.0, stack_kept loads h.1)
 
--- of integer registers they are as on the integer machine
-one_integer : (l : StackLoad) (format : Option FloatFormat) (a : ℕ) (v : FullValues) → is_some format ≡ false → loaded_as format l a v ≡ with_ints (loaded l.op l.register a v.ints) v
-one_integer l None a v e = refl
-one_integer l (Some format) a v e = absurd (cc)
-
 pub loaded_integers : (sp : ℕ) (loads : List StackLoad) (v : FullValues) → loads_float loads ≡ false → full_loaded sp loads v ≡ with_ints (stack_loaded sp loads v.ints) v
 loaded_integers sp [] v e = refl
 loaded_integers sp (l ∷ loads) v e =
     let a = wrap (sp + low64 l.offset) in
     let both = or_parts (is_float_load l.op) (loads_float loads) e in
-    ap (full_loaded sp loads) (one_integer l (load_format l.op) a v both.0)
+    ap (full_loaded sp loads) ((elim (load_format l.op) as (λ f. is_some f ≡ false → loaded_as f l a v ≡ with_ints (loaded l.op l.register a v.ints) v) [ None ↦ λ e. refl | Some format ↦ λ e. absurd (cc) ]) both.0)
     ∙ loaded_integers sp loads (with_ints (loaded l.op l.register a v.ints) v) both.1
 
 pub left_integers : (frame : FrameLayout) (tail : TailCall) (arguments : ℕ) (v : FullValues) → restores_float frame (Some tail) ≡ false → full_left frame arguments v ≡ with_ints (frame_left frame arguments v.ints) v
@@ -98,8 +86,7 @@ module _ {site : Site} (short : length site.bytes < code_limit) (labels : (label
 
   one_comes : {offset size : ℕ} {v : FullValues} {b : FullState} (allocated : ℕ) (l : StackLoad) (format : Option FloatFormat) → load_format l.op ≡ format → IsLoadableAs format l.register → StandsIn site allocated offset (load_line_slots site.context.flags l.register l.op None (Based 2 l.offset)) → FullCourse site offset (size_of (load_line_slots site.context.flags l.register l.op None (Based 2 l.offset)) + size) v b → FullComes site (offset + size_of (load_line_slots site.context.flags l.register l.op None (Based 2 l.offset))) size (loaded_as format l (wrap (reg v.ints 2 + low64 l.offset)) v) b
   one_comes {offset} {size} {v} {b} allocated l None is h stands k =
-      let n = size_of (load_line_slots site.context.flags l.register l.op None (Based 2 l.offset)) in
-      subst (λ w. FullComes site (offset + n) size (with_ints w v) b) (sym (integer_loaded l.op l.register (wrap (reg v.ints 2 + low64 l.offset)) v.ints (ap is_some is)))
+      subst (λ w. FullComes site (offset + (size_of (load_line_slots site.context.flags l.register l.op None (Based 2 l.offset)))) size (with_ints w v) b) (sym (integer_loaded l.op l.register (wrap (reg v.ints 2 + low64 l.offset)) v.ints (ap is_some is)))
       (integers_come v b k.units k.is_state (line_comes allocated l.register 2 l.op l.offset (ap is_some is) h.usable (lit< tt) stands (in_course k)))
   one_comes allocated l (Some format) is h stands k = float_comes allocated l format is h stands k
 
@@ -109,14 +96,12 @@ module _ {site : Site} (short : length site.bytes < code_limit) (labels : (label
       let there : offset ≡ offset + 0 = omega arith in
       subst (λ n. FullComes site n size v b) there (no_steps (subst (λ n. FullCourse site offset n v b) (omega arith) k))
   full_loads_come {size} allocated sp (l ∷ loads) offset v b h from stands k =
-      let flags = site.context.flags in
-      let first = load_line_slots flags l.register l.op None (Based 2 l.offset) in
-      let rest = stack_load_slots flags loads in
-      let long : size_of (first ++ rest) ≡ size_of first + size_of rest = size_append first rest in
-      let over : offset + size_of first + size_of rest ≡ offset + size_of (first ++ rest) = omega arith in
+      let first = load_line_slots site.context.flags l.register l.op None (Based 2 l.offset) in
+      let rest = stack_load_slots site.context.flags loads in
+      let over : offset + size_of first + size_of rest ≡ offset + size_of (first ++ rest) = omega (arith, size_append first rest) in
       let both = stands_split site allocated offset first rest stands in
       let a = wrap (sp + low64 l.offset) in
-      let one = one_comes {size = size_of rest + size} allocated l (load_format l.op) refl h.0 both.0 (subst (λ n. FullCourse site offset n v b) (omega arith) k) in
+      let one = one_comes {size = size_of rest + size} allocated l (load_format l.op) refl h.0 both.0 (subst (λ n. FullCourse site offset n v b) (omega (arith, size_append first rest)) k) in
       subst (λ n. FullComes site n size (full_loaded sp (l ∷ loads) v) b) over
       (more_steps (subst (λ r. FullComes site (offset + size_of first) (size_of rest + size) (loaded_as (load_format l.op) l (wrap (r + low64 l.offset)) v) b) from one)
       (λ c k1. full_loads_come allocated sp loads (offset + size_of first) (loaded_as (load_format l.op) l a v) c h.1 (one_other l (load_format l.op) a 2 v (stack_other (load_format l.op) l.register h.0) ∙ from) both.1 k1))
@@ -136,8 +121,9 @@ module _ {site : Site} (short : length site.bytes < code_limit) (labels : (label
   loaded_out offset popped n patchable entries t call loads few loadable o h =
       let u = fallen popped v.ints in
       let a = comes_to_loads offset popped n patchable entries t call loads few o h in
-      let c = more_steps (integers_come v b units full a.comes) (λ c k. full_loads_come short labels a.allocated (reg u 2) loads a.offset (with_ints u v) c loadable refl a.loaded k) in
-      ends_by c (continues a.allocated t a.jump a.ends (comes_here (in_course c.there)))
+      let y = loads_first a in
+      let c = more_steps (integers_come v b units full y.0) (λ c k. full_loads_come short labels a.there.allocated (reg u 2) loads a.there.offset (with_ints u v) c loadable refl y.1 k) in
+      ends_by c (continues a.there.allocated t y.2 y.3 (comes_here (in_course c.there)))
 
   pub full_resumes : (setting : EmitVState) (inst : Inst) (r : Return) → Keeps inst → return_of site.context.flags inst ≡ Some r → Resumes site start after (start + r.offset) (parts_of site.context setting inst) b.state v.ints →
       FullEnds site start after (try_exit (try_call_of inst)) [] (full_resumed r v) [] b
@@ -152,35 +138,34 @@ record FullLeft (site : Site) (arguments : ℕ) (rest : List Slot) (v : FullValu
   left : IsLeft site rest (full_left site.context.frame arguments v).ints comes.state.state
 
 t0_kept : (frame : FrameLayout) (arguments : ℕ) (v : FullValues) → AreOthersAs 5 (restores frame) → reg (full_left frame arguments v).ints 5 ≡ reg v.ints 5
-t0_kept frame arguments v others =
-    reads_other (full_loaded (reg v.ints 2) (restores frame) v).ints 2 5 (wrap (reg v.ints 2 + frame_above frame arguments)) (λ e. absurd (omega arith)) ∙ full_other (reg v.ints 2) 5 (restores frame) v others
+t0_kept frame arguments v others = reads_other (full_loaded (reg v.ints 2) (restores frame) v).ints 2 5 (wrap (reg v.ints 2 + frame_above frame arguments)) (λ e. absurd (omega arith)) ∙ full_other (reg v.ints 2) 5 (restores frame) v others
 
 module _ {site : Site} (short : length site.bytes < code_limit) (labels : (label at : ℕ) → site.place label ≡ Some at → at ≤ length site.bytes) where
   -- what was saved is restored, and the stack pointer rises
   return_comes : {offset size : ℕ} {v : FullValues} {b : FullState} (allocated arguments : ℕ) → IsRestorable site.context.frame → StandsIn site allocated offset (return_slots site.context.flags site.context.frame arguments) → FullCourse site offset (size_of (return_slots site.context.flags site.context.frame arguments) + size) v b → FullComes site (offset + size_of (return_slots site.context.flags site.context.frame arguments)) size (full_left site.context.frame arguments v) b
   return_comes {offset} {size} {v} {b} allocated arguments h stands k =
-      let flags = site.context.flags in
-      let frame = site.context.frame in
-      let loads = restores frame in
-      let n = frame_above frame arguments in
-      let first = stack_load_slots flags loads in
-      let rest = stack_step_slots flags (pos n) in
+      let loads = restores site.context.frame in
+      let n = frame_above site.context.frame arguments in
+      let first = stack_load_slots site.context.flags loads in
+      let rest = stack_step_slots site.context.flags (pos n) in
       let long : size_of (first ++ rest) ≡ size_of first + size_of rest = size_append first rest in
       let over : offset + size_of first + size_of rest ≡ offset + size_of (first ++ rest) = omega arith in
       let both = stands_split site allocated offset first rest stands in
       let u = full_loaded (reg v.ints 2) loads v in
       let rise : low64 (pos n) ≡ n = small_number n (let small = h.small in omega arith) in
       let kept : reg u.ints 2 ≡ reg v.ints 2 = full_other (reg v.ints 2) 2 loads v (stack_kept loads h.registers) in
-      subst (λ m. FullComes site m size (full_left frame arguments v) b) over
+      subst (λ m. FullComes site m size (full_left site.context.frame arguments v) b) over
       (more_steps (full_loads_come short labels allocated (reg v.ints 2) loads offset v b h.registers refl both.0 (subst (λ m. FullCourse site offset m v b) (omega arith) k))
       (λ c k1. subst (λ w. FullComes site (offset + size_of first + size_of rest) size w c) (λ i. set_int u 2 (wrap (kept i + rise i))) (integers_come u c k1.units k1.is_state (step_comes {size = size} allocated (pos n) both.1 (in_course k1)))))
 
   frame_leaves : {start after : ℕ} {v : FullValues} {b : FullState} (space arguments : ℕ) (rest : List Slot) → IsRestorable site.context.frame → v.units ≡ b.units → IsFullState b → Enters site start after (Ask space ∷ Slots (return_slots site.context.flags site.context.frame arguments ++ rest) ∷ []) b.state v.ints → FullLeft site arguments rest v b
   frame_leaves {v = v} {b} space arguments rest h units full e =
-      let y = frame_enters space arguments rest e in
-      let n = y.offset + size_of (return_slots site.context.flags site.context.frame arguments) in
-      let c = more_steps (integers_come v b units full y.comes) (λ c k. return_comes {size = size_of rest} y.allocated arguments h y.returns k) in
-      record { offset = n; comes = c; left = record { allocated = y.allocated; offset = n; stands = y.stands; comes = comes_here (in_course c.there) } }
+      let slots = return_slots site.context.flags site.context.frame arguments in
+      let y = frame_enters space (slots ++ rest) e in
+      let both = stands_split site y.allocated y.offset slots rest y.stands in
+      let n = y.offset + size_of slots in
+      let c = more_steps (integers_come v b units full (subst (λ n. Comes site y.offset n (IsAs v.ints) b.state) (size_append slots rest) y.comes)) (λ c k. return_comes {size = size_of rest} y.allocated arguments h both.0 k) in
+      record { offset = n; comes = c; left = record { allocated = y.allocated; offset = n; stands = both.1; comes = comes_here (in_course c.there) } }
 
   module _ {start after : ℕ} {v : FullValues} {b : FullState} (units : v.units ≡ b.units) (full : IsFullState b) where
     pub full_leaves : (setting : EmitVState) (inst : Inst) (tail : TailCall) → Keeps inst → tail_call_of inst ≡ Some tail → is_bad_frame_for site.context.frame (tail_call_of inst) ≡ false → Enters site start after (parts_of site.context setting inst) b.state v.ints →
@@ -188,16 +173,14 @@ module _ {site : Site} (short : length site.bytes < code_limit) (labels : (label
     full_leaves setting (ReturnCall info) tail k is fine =
         let frame = site.context.frame in
         let n = info.new_stack_arg_size in
-        let h = is_restorable frame (record { stack_arg_size = n; by_register = false }) fine in
         subst (λ (t : TailCall). Enters site start after (parts_of site.context setting (ReturnCall info)) b.state v.ints → FullEnds site start after (inst_exit (environment site start after) (ReturnCall info) v.ints) [] (full_left frame t.stack_arg_size v) [] b) (same_Some _ tail is)
-        (λ e. let l = frame_leaves _ n (Notes event.CallSite ∷ call_to 0 31 info.dest ∷ []) h units full e in ends_by l.comes (symbol_out info.dest l.left))
+        (λ e. let l = frame_leaves _ n (Notes CallSite ∷ call_to 0 31 info.dest ∷ []) (is_restorable frame (record { stack_arg_size = n; by_register = false }) fine) units full e in ends_by l.comes (symbol_out info.dest l.left))
     full_leaves setting (ReturnCallInd info) tail k is fine =
         let frame = site.context.frame in
         let n = info.new_stack_arg_size in
-        let h = is_restorable frame (record { stack_arg_size = n; by_register = true }) fine in
         subst (λ (t : TailCall). Enters site start after (parts_of site.context setting (ReturnCallInd info)) b.state v.ints → FullEnds site start after (inst_exit (environment site start after) (ReturnCallInd info) v.ints) [] (full_left frame t.stack_arg_size v) [] b) (same_Some _ tail is)
         (λ e.
-        let l = frame_leaves _ n (Op (short_jalr site.context.flags 0 5 (pos 0)) ∷ []) h units full e in
+        let l = frame_leaves _ n (Op (short_jalr site.context.flags 0 5 (pos 0)) ∷ []) (is_restorable frame (record { stack_arg_size = n; by_register = true }) fine) units full e in
         subst (λ m. FullEnds site start after (Leave (reg v.ints m / 2 * 2)) [] (full_left frame n v) [] b) (sym (target_fine info k).1)
         (ends_by l.comes (register_out (reg v.ints 5) (t0_kept frame n v (t0_other frame n fine)) (e.are_values.fits 5) l.left)))
     full_leaves setting _ tail k is fine = absurd (cc)

@@ -1,23 +1,14 @@
 -- What instructions mean on the machine with all units, and that each runs as it means.
-use Rattle.std.proofs.Common.{◌≡◌, Bool, true, false, List, [], Some, None, refl, ap, ◌∙◌, is_some, not, if◌then◌else◌, Option, ℕ, ◌+◌, ◌%◌, ◌<◌, ◌≤◌, length, arith, sym, subst, inl, inr, ◌&&◌}
-use Rattle.rv_runs.proofs.Words.{AMode, Answer, AreOutside, AtReturn, AtStart, Call, CallInd, ComesFully, EmitVState, EndsAsMeant, Enters, Environment, Exit, FloatFormat, FullComesOut, FullEnds, FullMeaning, FullState, FullValues, FullyOut, Inst, IsFullState, IsaFlags, Load, LoadOP, MemFlagsData}
-use Rattle.rv_runs.proofs.Words.{Mov, Next, Nop0, PartsStand, Put, Reg, Resumes, Return, ReturnCall, ReturnCallInd, RunsFully, SameFull, Select, SelectInfo, Site, Store, StoreOP, TailCall, Writable, addresses_from, and_parts, answers_of, call_returned, call_started, code_limit, context_by}
-use Rattle.rv_runs.proofs.Words.{environment, family_of, fiter_after, format_bytes, full_load_kept, full_store_kept, inst_effect, inst_exit, inst_meaning, inst_rule, inst_temporaries, inst_writes, integer_run, is_bad_frame_for, is_float, is_integer_family, is_integer_in, is_unit, keeps, load_format}
-use Rattle.rv_runs.proofs.Words.{location_of, meaning_by, move_row, named_labels, not_true, number_of, of_access, of_call, of_choice, of_float_load, of_float_move, of_float_store, of_integer, of_integers, of_memory, of_unit, operands_of, operation_of, operation_row, parts_of, put, restores_float}
-use Rattle.rv_runs.proofs.Words.{resumed_by, return_of, row_takes, store_format, tail_call_of, try_call_of, try_exit, values_of}
-use Rattle.rv_inst.specs.Core.{is_integer}
-use Rattle.rv_inst.specs.declared.inst.Family.{Family}
-use Rattle.rv_inst.specs.declared.inst.Family.TheVariants.{Integer, Memory, Calls, Float}
-use Rattle.rv_runs.specs.Entries.{Entry}
-use Rattle.rv_runs.specs.FullMeaning.{with_ints, float_loaded, float_stored, full_left, full_resumed}
-use Rattle.rv_runs.proofs.FullCallRuns.{left_integers, call_starts, full_resumes, full_leaves, ends_at_once}
-use Rattle.rv_inst.specs.Environments.{AgreeOn}
-use Rattle.rv_inst.proofs.Meaning.{effect_agrees, load_address_agrees, store_address_agrees, writes_agree}
-use Rattle.rv_runs.proofs.FloatMemory.{line_load, line_store}
-use Rattle.rv_runs.proofs.FullChoices.{full_select}
-use Rattle.rv_runs.proofs.InstRuns.{inst_runs}
-use Rattle.rv_runs.proofs.OneOperations.{ComesAsMeant, OutAsMeant, move_runs, out_at_end, unit_runs}
-use Rattle.rv_code.specs.Evaluation.{to}
+use Rattle.std.proofs.Common.{Bool, List, None, Option, Some, [], ap, arith, false, if◌then◌else◌, inl, inr, is_some, length, not, refl, subst, sym, true, ℕ, ⊎_elim, ◌%◌, ◌&&◌, ◌+◌, ◌<◌, ◌∙◌, ◌≡◌, ◌≤◌}
+use Rattle.rv_runs.proofs.Words.{AMode, Answer, AreOutside, AtStart, Call, CallInd, EmitVState, EndsAsMeant, Enters, Environment, Exit, FloatFormat, FullComesOut, FullEnds, FullMeaning}
+use Rattle.rv_runs.proofs.Words.{FullState, FullValues, Inst, IsFullState, IsaFlags, Load, LoadOP, MemFlagsData, Mov, Next, Nop0, PartsStand, Put, Reg, Resumes, Return, ReturnCall, ReturnCallInd, SameFull, Select, SelectInfo, Site, Store, StoreOP, TailCall, Writable, addresses_from, and_parts}
+use Rattle.rv_runs.proofs.Words.{answers_of, code_limit, context_by, environment, family_of, fiter_after, format_bytes, inst_effect, inst_exit, inst_meaning, inst_rule, inst_temporaries, inst_writes, integer_run, is_bad_frame_for, is_float, is_integer, is_integer_family, is_integer_in, is_unit}
+use Rattle.rv_runs.proofs.Words.{keeps, load_format, location_of, meaning_by, move_row, not_true, number_of, of_float_move, of_integers, operands_of, operation_of, operation_row, parts_of, put, restores_float, return_of, row_takes, store_format, tail_call_of, to, try_call_of, try_exit, values_of}
+use Rattle.{rv_code.proofs.LineOperands.full_load_kept, rv_code.proofs.LineOperands.full_store_kept, rv_inst.proofs.Meaning.effect_agrees, rv_inst.proofs.Meaning.load_address_agrees, rv_inst.proofs.Meaning.store_address_agrees, rv_inst.proofs.Meaning.writes_agree}
+use Rattle.rv_inst.specs.{Environments.AgreeOn, Meaning.resumed_by, Operands.named_labels, declared.inst.Family.Family, declared.inst.Family.TheVariants.Calls, declared.inst.Family.TheVariants.Float, declared.inst.Family.TheVariants.Integer, declared.inst.Family.TheVariants.Memory}
+use Rattle.rv_runs.proofs.{FloatMemory.line_load, FloatMemory.line_store, FullCallRuns.call_starts, FullCallRuns.ends_at_once, FullCallRuns.full_leaves, FullCallRuns.full_resumes, FullCallRuns.left_integers, FullChoices.full_select, InstRuns.inst_runs, OneOperations.ComesAsMeant}
+use Rattle.rv_runs.{proofs.OneOperations.OutAsMeant, proofs.OneOperations.move_runs, proofs.OneOperations.out_at_end, proofs.OneOperations.unit_runs, specs.Entries.AtReturn, specs.Entries.Entry, specs.FullInstRuns.FullyOut, specs.FullInstRuns.RunsFully}
+use Rattle.rv_runs.specs.FullMeaning.{call_returned, call_started, float_loaded, float_stored, full_left, full_resumed, of_access, of_call, of_choice, of_float_load, of_float_store, of_integer, of_memory, of_unit, with_ints}
 
 -- An instruction of the integer core means on the machine with all units what it means on integers, with the units as they were.
 
@@ -93,9 +84,8 @@ module _ {e f : Environment} (v : FullValues) where
 
   memory_same : (entry : Entry) (inst : Inst) → AgreeOn (named_labels (Put inst)) e f → MeansSame (of_memory entry inst) e f v
   memory_same entry (Load rd op flags from) a =
-      let same = load_address_agrees rd op flags from v.ints a in
       access_same (load_format op) (λ format. of_float_load format rd.reg from) (of_integers entry (Put (Load rd op flags from)))
-      (λ format. record { takes = λ answers. ap (λ n. Some (float_loaded format (number_of rd.reg) n v, answers)) same; writes = λ answers. refl; own = refl })
+      (λ format. record { takes = λ answers. ap (λ n. Some (float_loaded format (number_of rd.reg) n v, answers)) (load_address_agrees rd op flags from v.ints a); writes = λ answers. refl; own = refl })
       (integers_same entry (Load rd op flags from) a)
   memory_same entry (Store src op flags to) a =
       let same = store_address_agrees to op flags src v.ints a in
@@ -108,11 +98,9 @@ module _ {e f : Environment} (v : FullValues) where
   operation_same : (inst : Inst) → AgreeOn (named_labels (Put inst)) e f → operation_of (context_by e.flags e.frame []) inst ≡ operation_of (context_by f.flags f.frame []) inst
   operation_same inst a = λ i. operation_of (context_by (a.flags i) (a.frame i) []) inst
 
-  move_same : (inst : Inst) → AgreeOn (named_labels (Put inst)) e f → MeansSame (of_float_move inst) e f v
-  move_same inst a = record { takes = λ answers. ap (λ o. row_takes (move_row o v) answers) (operation_same inst a); writes = λ answers. refl; own = ap (λ o. answers_of (move_row o v)) (operation_same inst a) }
-
   integer_same : (entry : Entry) (inst : Inst) → AgreeOn (named_labels (Put inst)) e f → MeansSame (of_integer entry inst) e f v
-  integer_same entry (Mov rd rm type) a = either_same (is_float rd.reg) (of_float_move (Mov rd rm type)) (of_integers entry (Put (Mov rd rm type))) (move_same (Mov rd rm type) a) (integers_same entry (Mov rd rm type) a)
+  integer_same entry (Mov rd rm type) a = either_same (is_float rd.reg) (of_float_move (Mov rd rm type)) (of_integers entry (Put (Mov rd rm type)))
+      (record { takes = λ answers. ap (λ o. row_takes (move_row o v) answers) (operation_same (Mov rd rm type) a); writes = λ answers. refl; own = ap (λ o. answers_of (move_row o v)) (operation_same (Mov rd rm type) a) }) (integers_same entry (Mov rd rm type) a)
   integer_same entry (Select info) a = either_same (operands_of (Select info)).floats (of_choice info) (of_integers entry (Put (Select info))) (record { takes = λ answers. refl; writes = λ answers. refl; own = refl }) (integers_same entry (Select info) a)
   integer_same entry Nop0 a = integers_same entry Nop0 a
   integer_same entry inst a = integers_same entry inst a
@@ -239,9 +227,8 @@ module _ (site : Site) (start after : ℕ) (v : FullValues) (b : FullState) (set
   call_out : (inst : Inst) (r : Return) → return_of site.context.flags inst ≡ Some r → Begins inst → Out inst
   call_out inst r is h =
       let c = returns_call site.context.flags inst r is in
-      let out = call_starts setting inst r (keeps site.context inst h.rule) is h.enters in
       left inst c.0 (with_ints (inst_effect env inst v.ints) v) (ap (λ o. call_started env inst o v) c.1)
-      (subst (λ free. FullEnds site start after (inst_exit env inst v.ints) free (with_ints (inst_effect env inst v.ints) v) [] b) (none_free inst c.0) (ends_at_once v same.units full out))
+      (subst (λ free. FullEnds site start after (inst_exit env inst v.ints) free (with_ints (inst_effect env inst v.ints) v) [] b) (none_free inst c.0) (ends_at_once v same.units full (call_starts setting inst r (keeps site.context inst h.rule) is h.enters)))
 
   -- of a family of integers
   floating : (inst : Inst) → Begins inst → is_integer_family (family_of inst) ≡ true → is_integer inst ≡ false → Comes inst
@@ -253,15 +240,10 @@ module _ (site : Site) (start after : ℕ) (v : FullValues) (b : FullState) (set
   floating (CallInd info) h family other = inl (call_out (CallInd info) _ refl h)
   floating inst h family other = absurd (cc)
 
-  -- a tail call that restores one
-  restoring : (inst : Inst) (o : Option TailCall) → Begins inst → tail_call_of inst ≡ o → restores_float site.context.frame o ≡ true → Comes inst
-  restoring inst None h is some = absurd (cc)
-  restoring inst (Some tail) h is some = inl (tail_out inst tail is h)
-
   -- in the integer core, where a floating-point register is restored, of a family of integers, or a word of a unit
   begun : (inst : Inst) → Begins inst → (core restores family : Bool) → is_integer_in site.context.frame inst ≡ core → restores_float site.context.frame (tail_call_of inst) ≡ restores → is_integer_family (family_of inst) ≡ family → Comes inst
   begun inst h true restores family core e f = inl (integers_out inst h core)
-  begun inst h false true family other e f = restoring inst (tail_call_of inst) h refl e
+  begun inst h false true family other e f = (elim (tail_call_of inst) as (λ o. tail_call_of inst ≡ o → restores_float site.context.frame o ≡ true → Comes inst) [ None ↦ λ is some. absurd (cc) | Some tail ↦ λ is some. inl (tail_out inst tail is h) ]) refl e
   begun inst h false false true other e f = floating inst h f (subst (λ c. (not c && is_integer inst) ≡ false) e other)
   begun inst h false false false other e f = unit_runs setting inst (is_unit inst f) h.rule h.enters same full
 
@@ -302,13 +284,10 @@ out_fully {site} {b = b} h =
       placed = out.placed;
     }
 
-come_fully : {site : Site} {start after : ℕ} {v : FullValues} {b : FullState} (inst : Inst) → ComesAsMeant site start after inst v b → ComesFully site start after (inst_meaning AtStart inst) (inst_exit (environment site start after) inst v.ints) (inst_temporaries inst) v b
-come_fully inst (inl out) = inl (out_fully out)
-come_fully inst (inr asks) = inr asks
-
 module _ (site : Site) (setting : EmitVState) (inst : Inst) (start after : ℕ) (rule : inst_rule site.context inst ≡ None) (even : start % 2 ≡ 0) (within : after ≤ length site.bytes) (short : length site.bytes < code_limit) (labels : (label at : ℕ) → site.place label ≡ Some at → at ≤ length site.bytes) (stands : PartsStand site start after (parts_of site.context setting inst)) where
   pub runs_fully : is_bad_frame_for site.context.frame (tail_call_of inst) ≡ false → RunsFully site start after inst AtStart start
-  runs_fully restores v b a clear = come_fully inst (inst_full_runs setting inst rule restores (record { even = even; within = within; short = short; labels = labels; stands = stands; placed = a.placed; pc = a.pc; is_state = a.is_state.state; are_values = a.are_values; same = a.same.ints }) a.same a.is_state clear)
+  runs_fully restores v b a clear = ⊎_elim (λ out. inl (out_fully out)) (λ asks. inr asks)
+      (inst_full_runs setting inst rule restores (record { even = even; within = within; short = short; labels = labels; stands = stands; placed = a.placed; pc = a.pc; is_state = a.is_state.state; are_values = a.are_values; same = a.same.ints }) a.same a.is_state clear)
 
   pub resumes_fully : (r : Return) → return_of site.context.flags inst ≡ Some r → RunsFully site start after inst AtReturn (start + r.offset)
   resumes_fully r is v b a clear = inl (out_fully (inst_full_resumes setting inst r rule is labels (record { even = even; within = within; short = short; stands = stands; placed = a.placed; pc = a.pc; is_state = a.is_state.state; are_values = a.are_values; same = a.same.ints }) a.same a.is_state))

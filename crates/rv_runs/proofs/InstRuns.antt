@@ -1,22 +1,16 @@
 -- Every instruction of the integer core that breaks no rule runs as it means.
-use Rattle.std.proofs.Common.{◌≡◌, ℕ, true, false, [], ◌∷◌, None, subst, arith, lit<, nat_eq, pos, refl, not}
-use Rattle.rv_runs.proofs.Words.{AluRRImm12, AluRRR, Args, AtLabel, Auipc, BrTable, Brev8, Call, CallInd, Cltz, CondBr, DummyUse, EBreak, EmitIsland, EmitVState, Extend, FrameLayout, GapIn, Inst, Jal, Jalr, Keeps, Label, LabelAddress, Load, LoadAddr, LoadExtNameFar, LoadExtNameGot, LoadExtNameNear}
-use Rattle.rv_runs.proofs.Words.{LoadInlineConst, Lui, Mov, MovFromPReg, Nop0, Nop4, Op, Popcnt, RawData, Ret, Rets, ReturnCall, ReturnCallInd, RunsIn, Select, SequencePoint, Site, StackProbeLoop, State, Store, TrapIf, Udf, Unwind, Values, all_integers, and_parts, are_usable, call_usable, compares}
-use Rattle.rv_runs.proofs.Words.{constant_kept, count_of, decoded_addi, ebreak_breaks, ebreak_sized, extend_kept, goes_none, inst_rule, is_bad_frame_for, is_float_load, is_float_store, is_integer_in, is_probe, is_table, is_zero, jump_to, keeps, label_address_kept, load_addr_kept, load_kept}
-use Rattle.rv_runs.proofs.Words.{location_of, low_word, move_usable, not_true, number_of, or_left, preg_usable, reg, restores_float, short_ebreak, signed, store_kept, tail_call_of, target_fine, trap_if_usable, trap_slots, window_some}
-use Rattle.rv_runs.proofs.Exits.{RunsHere, starts_beside, starts_at, gap_out, break_out, comes_out, trap_out, trap_some}
-use Rattle.rv_inst.specs.Core.{is_integer}
-use Rattle.rv_code.proofs.Operands.{not_zero, is_count, is_reversal, reversal_of, zeros_count}
-use Rattle.rv_runs.proofs.MemoryRuns.{load_runs, store_runs, address_out, constant_runs}
-use Rattle.rv_runs.proofs.PlainRuns.{nothing_out, alu_rrr_runs, alu_rri_runs, lui_runs, auipc_runs, mov_runs, ret_runs, jalr_runs, move_out, next_out, cond_br_runs, jump_out, trap_if_out, got_runs, far_runs, near_out}
-use Rattle.rv_runs.proofs.CountRuns.{popcnt_out, zeros_out}
-use Rattle.rv_runs.proofs.SelectRuns.{extend_out, select_runs}
-use Rattle.rv_runs.proofs.ReverseRuns.{reverse_out}
-use Rattle.rv_runs.proofs.ProbeRuns.{probe_out}
-use Rattle.rv_runs.proofs.TableRuns.{table_out}
-use Rattle.rv_runs.proofs.CallRuns.{call_ind_out, call_out, return_call_runs, return_call_ind_runs}
-use Rattle.rv_inst.specs.Returns.{restores}
-use Rattle.rv_code.specs.Evaluation.{to}
+use Rattle.std.proofs.Common.{None, [], arith, false, lit<, nat_eq, not, pos, refl, subst, true, ℕ, ◌∷◌, ◌≡◌}
+use Rattle.rv_runs.proofs.Words.{AluRRImm12, AluRRR, AtLabel, Auipc, Call, CallInd, CondBr, EBreak}
+use Rattle.rv_runs.proofs.Words.{EmitVState, Extend, FrameLayout, GapIn, Inst, Jalr, Keeps, Label, Load, LoadAddr, LoadExtNameFar, LoadExtNameGot, LoadInlineConst, Lui, Mov, MovFromPReg, Nop0, Nop4, Op, Ret, ReturnCall, ReturnCallInd, Select, Site, State, Store, Values, and_parts, call_usable}
+use Rattle.rv_runs.proofs.Words.{compares, decoded_addi, goes_none, inst_rule, is_bad_frame_for, is_float_load, is_float_store, is_integer, is_integer_in, jump_to, keeps, location_of, low_word, not_true, number_of, reg, restores, restores_float, signed, tail_call_of, target_fine, to, window_some}
+use Rattle.rv_code.proofs.LineOperands.{label_address_kept, load_addr_kept, load_kept, store_kept}
+use Rattle.rv_code.proofs.Operands.{all_integers, are_usable, constant_kept, extend_kept, is_count, is_probe, is_reversal, is_table, move_usable, not_zero, or_left, preg_usable, reversal_of, trap_if_usable, zeros_count}
+use Rattle.{rv_code.proofs.OperationActs.ebreak_breaks, rv_code.proofs.OperationActs.ebreak_sized, rv_code.proofs.Registers.count_of, rv_code.specs.InstParts.trap_slots, rv_code.specs.InstRuns.RunsIn, rv_inst.specs.Forms.short_ebreak, rv_inst.specs.Rules.is_zero}
+use Rattle.rv_inst.specs.declared.inst.Inst.TheVariants.{Args, BrTable, Brev8, Cltz, DummyUse, EmitIsland, Jal, LabelAddress, LoadExtNameNear, Popcnt, RawData, Rets, SequencePoint, StackProbeLoop, TrapIf, Udf, Unwind}
+use Rattle.rv_runs.proofs.CallRuns.{call_ind_out, call_out, return_call_ind_runs, return_call_runs}
+use Rattle.rv_runs.proofs.{CountRuns.popcnt_out, CountRuns.zeros_out, Exits.RunsHere, Exits.break_out, Exits.comes_out, Exits.gap_out, Exits.starts_at, Exits.starts_beside, Exits.trap_out, Exits.trap_some, MemoryRuns.address_out, MemoryRuns.constant_runs, MemoryRuns.load_runs, MemoryRuns.store_runs}
+use Rattle.rv_runs.proofs.PlainRuns.{alu_rri_runs, alu_rrr_runs, auipc_runs, cond_br_runs, far_runs, got_runs, jalr_runs, jump_out, lui_runs, mov_runs, move_out, near_out, next_out, nothing_out, ret_runs, trap_if_out}
+use Rattle.rv_runs.proofs.{ProbeRuns.probe_out, ReverseRuns.reverse_out, SelectRuns.extend_out, SelectRuns.select_runs, TableRuns.table_out}
 
 -- a tail call of the integer core restores no floating-point register
 none_restored : (frame : FrameLayout) (inst : Inst) → is_integer_in frame inst ≡ true → restores_float frame (tail_call_of inst) ≡ false

@@ -1,23 +1,15 @@
 -- Instructions that become one operation, on either machine.
-use Rattle.std.proofs.Common.{rules, ⊎_elim, ◌≡◌, ℕ, ◌+◌, Bool, true, false, List, [], ◌∷◌, ◌++◌, Option, Some, None, pos, refl, ap, subst, lit<, nat_eq, if◌then◌else◌, not, ◌&&◌, sym, ◌∙◌, ◌⊎◌, ◌*◌, ◌<◌, arith, inl, inr, unwrap_or}
-use Rattle.rv_runs.proofs.Words.{Environment, goes_none, Action, Addi, AluRRImm12, AluRRR, Andi, Answer, AreUsableIn, AtStart, Auipc, Based, CodeHas, Context, Decoded, Do, EBreak, EmitVState, EndsAsMeant, Enters, Exit, Extend, Faults, FullComesOut, FullEnds, FullMeaning, FullState, FullValues}
-use Rattle.rv_runs.proofs.Words.{FullyAsks, Inst, Int, IrType, IsAt, IsFullState, IsIntegerLoad, IsIntegerStore, IsPlacedAt, IsUnit, IsaFlags, Jalr, Load, LoadAddr, LoadOP, Location, Lui, Mov, MovFromPReg, Next, Nop4, Op, Part, PartsStand, Piece, Put, Reg, RegClass, Ret, Row, RowAsks, RowGoes}
-use Rattle.rv_runs.proofs.Words.{RowsAgree, Rri, SameFull, Sign, Site, Slot, State, Store, StoreOP, TrapCode, UnitWord, Vector, Writable, access_slots, act, acts_integer, address_operation, address_slots, answers_of, are_usable_in, class_of, context_by, environment, family_of, fetch, fiter_none}
-use Rattle.rv_runs.proofs.Words.{fnext, format_of, full_at, has_load, has_store, inst_exit, inst_meaning, inst_rule, inst_temporaries, integer_decodes, is_byte, is_float, is_float_class, is_float_load, is_float_store, is_integer_family, is_integer_op, is_near, is_reserved, is_unit, is_virtual}
-use Rattle.rv_runs.proofs.Words.{keeps, list_any, load_line_operation, load_line_slots, load_operation, load_slots, location_of, meaning_by, move_action, move_op, move_operation, move_pieces, move_row, not_true, number_below, number_of, of_float_move, of_integers, op_of, operands_of, operation_of}
-use Rattle.rv_runs.proofs.Words.{operation_row, parts_of, row_next, row_takes, same_Some, short_ebreak_is, short_jalr_does, short_load_does, short_lui_does, short_rri_does, short_rrr_does, short_store_does, slots_alone, slots_of, store_line_operation, store_line_slots, store_operation, store_slots}
-use Rattle.rv_runs.proofs.Words.{unit_parts, unit_row, values_of, width_of, wrap, zero_at}
-use Rattle.rv_base.specs.declared.regs.RegClass.TheVariants.{Float}
-use Rattle.rv_machine.specs.State.{Memory}
-use Rattle.rv_machine.specs.Decode.{decode, int_decode}
-use Rattle.rv_machine.proofs.States.{zero_state}
-use Rattle.rv_inst.specs.Core.{is_integer}
-use Rattle.rv_runs.proofs.UnitRuns.{parts_are, fiter_one, row_comes, shape_agrees, unit_next_at, unit_operation}
-use Rattle.rv_code.proofs.OperationActs.{Does}
-use Rattle.rv_ops.specs.declared.float_fields.FpuOPWidth.TheVariants.{D}
-use Rattle.rv_runs.proofs.PlainRuns.{nothing_out}
-use Rattle.rv_runs.proofs.FullCallRuns.{ends_at_once}
-use Rattle.rv_runs.proofs.Exits.{same_but, comes_out}
+use Rattle.std.proofs.Common.{Bool, List, None, Option, Some, [], ap, arith, false, if◌then◌else◌, inl, inr, lit<, nat_eq, not, pos, refl, rules, subst, sym, true, unwrap_or, ℕ, ⊎_elim, ◌&&◌, ◌*◌, ◌++◌, ◌+◌, ◌<◌, ◌∙◌, ◌∷◌, ◌≡◌, ◌⊎◌}
+use Rattle.rv_runs.proofs.Words.{Addi, AluRRImm12, AluRRR, Andi, Answer, AreUsableIn, AtStart, Auipc, Based, CodeHas, Context, Decoded, Do, EBreak, EmitVState, EndsAsMeant, Enters, Environment, Exit, Extend, Float, FullComesOut}
+use Rattle.rv_runs.proofs.Words.{FullEnds, FullMeaning, FullState, FullValues, Inst, IrType, IsAt, IsFullState, IsIntegerLoad, IsIntegerStore, IsPlacedAt, IsaFlags, Jalr, Load, LoadAddr, LoadOP, Location, Lui, Memory, Mov, MovFromPReg, Next, Nop4, Op, Part, PartsStand, Piece, Put, Reg, RegClass}
+use Rattle.rv_runs.proofs.Words.{Ret, Row, RowAsks, RowGoes, RowsAgree, Rri, SameFull, Sign, Site, Slot, State, Store, StoreOP, TrapCode, Writable, access_slots, act, address_slots, answers_of, class_of, context_by, environment, family_of, fetch, fiter_none, format_of, full_at, goes_none, has_load}
+use Rattle.rv_runs.proofs.Words.{has_store, inst_exit, inst_meaning, inst_rule, inst_temporaries, integer_decodes, is_byte, is_float, is_float_class, is_float_load, is_float_store, is_integer, is_integer_family, is_integer_op, is_near, is_reserved, is_unit, is_virtual, keeps, list_any, load_slots}
+use Rattle.rv_runs.proofs.Words.{location_of, meaning_by, move_action, move_pieces, move_row, not_true, number_below, number_of, of_float_move, of_integers, op_of, operands_of, operation_of, operation_row, parts_of, row_takes, same_Some, slots_alone, slots_of, store_slots, unit_row, values_of, wrap}
+use Rattle.rv_code.proofs.{Operands.are_usable_in, OperationActs.Does, OperationActs.short_ebreak_is, OperationActs.short_jalr_does, OperationActs.short_load_does, OperationActs.short_lui_does, OperationActs.short_rri_does, OperationActs.short_rrr_does, OperationActs.short_store_does}
+use Rattle.{rv_code.specs.Pieces.Action, rv_inst.proofs.UnitWords.IsUnit, rv_inst.specs.Rules.Faults, rv_inst.specs.Sizes.address_operation, rv_inst.specs.Sizes.load_operation, rv_inst.specs.Sizes.move_op, rv_inst.specs.Sizes.move_operation, rv_inst.specs.Sizes.store_operation}
+use Rattle.{rv_machine.proofs.States.zero_state, rv_machine.proofs.UnitOperations.acts_integer, rv_machine.specs.Decode.decode, rv_machine.specs.Decode.int_decode, rv_machine.specs.Steps.zero_at, rv_ops.specs.FloatFields.width_of, rv_ops.specs.declared.float_fields.FpuOPWidth.TheVariants.D}
+use Rattle.rv_runs.proofs.{Exits.comes_out, Exits.same_but, FullCallRuns.ends_at_once, PlainRuns.nothing_out, UnitRuns.fiter_one, UnitRuns.parts_are, UnitRuns.row_comes, UnitRuns.shape_agrees, UnitRuns.unit_next_at, UnitRuns.unit_operation}
+use Rattle.rv_runs.specs.FullInstRuns.{FullyAsks}
 
 -- An instruction of one machine word becomes one operation, which is read where it starts.
 
@@ -48,8 +40,7 @@ unless flags false a integer e = after_trap None (op_of flags a) integer e
 
 moves : {d : Decoded} (flags : IsaFlags) (class : RegClass) (type : IrType) (rd rs : ℕ) → move_operation flags class type rd rs ≡ Some d → IsAlone (not (is_float_class class)) (slots_alone (slots_of flags (move_pieces class type rd rs))) d
 moves flags Float type rd rs e = unless flags (nat_eq rd rs) (move_action Float type rd rs) (λ core. absurd (cc)) e
-moves flags Int type rd rs e = unless flags (nat_eq rd rs) (Rri Addi rd rs (pos 0)) (λ core. does_integer (short_rri_does flags Addi rd rs (pos 0))) e
-moves flags Vector type rd rs e = unless flags (nat_eq rd rs) (Rri Addi rd rs (pos 0)) (λ core. does_integer (short_rri_does flags Addi rd rs (pos 0))) e
+moves flags _ type rd rs e = unless flags (nat_eq rd rs) (Rri Addi rd rs (pos 0)) (λ core. does_integer (short_rri_does flags Addi rd rs (pos 0))) e
 
 only_where : {core : Bool} {d : Decoded} (flags : IsaFlags) (c : Bool) (a : Action) (others : List Piece) → is_integer_op (op_of flags a).op ≡ true → (if c then Some (op_of flags a) else None) ≡ Some d → IsAlone core (slots_alone (slots_of flags (if c then Do a ∷ [] else others))) d
 only_where flags true a others integer e = alone (op_of flags a) integer e
@@ -74,13 +65,6 @@ addresses : {core : Bool} {d : Decoded} (flags : IsaFlags) (rd : ℕ) (location 
 addresses flags rd (Based r o) e = near (is_near o) None _ _ (λ core. does_integer (short_rri_does flags Addi rd r o)) e
 addresses flags rd _ e = absurd (cc)
 
--- a half by integer registers is none of them
-load_lines : {core : Bool} {d : Decoded} (flags : IsaFlags) (op : LoadOP) (rd : ℕ) (trap : Option TrapCode) (location : Location) → (core ≡ true → IsIntegerLoad op) → load_line_operation flags op rd location ≡ Some d → IsAlone core (slots_alone (load_line_slots flags rd op trap location)) d
-load_lines flags op rd trap location integer e = either (has_load flags op) _ _ _ (loads flags op rd trap location integer) e
-
-store_lines : {core : Bool} {d : Decoded} (flags : IsaFlags) (op : StoreOP) (src : ℕ) (trap : Option TrapCode) (location : Location) → (core ≡ true → IsIntegerStore op) → store_line_operation flags op src location ≡ Some d → IsAlone core (slots_alone (store_line_slots flags op src trap location)) d
-store_lines flags op src trap location integer e = either (has_store flags op) _ _ _ (stores flags op src trap location integer) e
-
 -- of the families of integers
 of_integer_family : (context : Context) (setting : EmitVState) (inst : Inst) (d : Decoded) → is_integer_family (family_of inst) ≡ true → operation_of context inst ≡ Some d → IsAlone (is_integer inst) (parts_of context setting inst) d
 of_integer_family context setting Nop4 d family e = alone _ refl e
@@ -92,25 +76,23 @@ of_integer_family context setting (AluRRImm12 op rd rs imm) d family e = alone _
 of_integer_family context setting (Mov rd rm type) d family e = moves context.flags (class_of rd.reg) type (number_of rd.reg) (number_of rm) e
 of_integer_family context setting (MovFromPReg rd rm) d family e = unless context.flags (nat_eq (number_of rd.reg) rm.number) (Rri Addi (number_of rd.reg) rm.number (pos 0)) (λ core. does_integer (short_rri_does context.flags Addi (number_of rd.reg) rm.number (pos 0))) e
 of_integer_family context setting (Extend rd rn signed from_bits to_bits) d family e = only_where context.flags (is_byte signed from_bits) (Rri Andi (number_of rd.reg) (number_of rn) (pos 255)) _ (does_integer (short_rri_does context.flags Andi (number_of rd.reg) (number_of rn) (pos 255))) e
-of_integer_family context setting (Load rd op flags from) d family e = load_lines context.flags op (number_of rd.reg) flags.trap (location_of context.frame from) (not_true (is_float_load op)) e
-of_integer_family context setting (Store src op flags to) d family e = store_lines context.flags op (number_of src) flags.trap (location_of context.frame to) (not_true (is_float_store op)) e
+of_integer_family context setting (Load rd op flags from) d family e = either (has_load context.flags op) _ _ _ (loads context.flags op (number_of rd.reg) flags.trap (location_of context.frame from) (not_true (is_float_load op))) e
+of_integer_family context setting (Store src op flags to) d family e = either (has_store context.flags op) _ _ _ (stores context.flags op (number_of src) flags.trap (location_of context.frame to) (not_true (is_float_store op))) e
 of_integer_family context setting (LoadAddr rd mem) d family e = addresses context.flags (number_of rd.reg) (location_of context.frame mem) e
 of_integer_family context setting Ret d family e = alone _ (does_integer (short_jalr_does context.flags 0 1 (pos 0))) e
 of_integer_family context setting (Jalr rd base offset) d family e = alone _ (does_integer (short_jalr_does context.flags (number_of rd.reg) (number_of base) offset.value)) e
 of_integer_family context setting inst d family e = absurd (cc)
 
 pub one_slot : (context : Context) (setting : EmitVState) (inst : Inst) (d : Decoded) → operation_of context inst ≡ Some d → IsAlone (is_integer inst) (parts_of context setting inst) d
-one_slot context setting inst d e = by (is_integer_family (family_of inst)) refl
-  where
-    by : (family : Bool) → is_integer_family (family_of inst) ≡ family → IsAlone (is_integer inst) (parts_of context setting inst) d
-    by true family = of_integer_family context setting inst d family e
-    by false family =
-        let u = is_unit inst family in
-        record {
-          trap = u.word.trap;
-          only = parts_are context setting inst u.word u.is ∙ ap (λ (y : Decoded). slots_alone (access_slots u.word.trap ++ Op y ∷ [])) (same_Some u.word.operation d (sym (λ i. (u.code context i).operation) ∙ e));
-          integer = λ core. let none : false ≡ true = sym (ap (λ c. c && not (operands_of inst).floats) family) ∙ core in absurd (cc);
-        }
+one_slot context setting inst d e =
+    (elim (is_integer_family (family_of inst)) as (λ c. is_integer_family (family_of inst) ≡ c → IsAlone (is_integer inst) (parts_of context setting inst) d) [
+      | true ↦ λ family. of_integer_family context setting inst d family e
+      | false ↦ λ family. let u = is_unit inst family in record {
+        trap = u.word.trap;
+        only = parts_are context setting inst u.word u.is ∙ ap (λ (y : Decoded). slots_alone (access_slots u.word.trap ++ Op y ∷ [])) (same_Some u.word.operation d (sym (λ i. (u.code context i).operation) ∙ e));
+        integer = λ core. let none : false ≡ true = sym (ap (λ c. c && not (operands_of inst).floats) family) ∙ core in absurd (cc);
+      }
+    ]) refl
 
 module _ (site : Site) (start : ℕ) (d : Decoded) where
   pub stands_alone : (trap : Option TrapCode) (after : ℕ) → PartsStand site start after (slots_alone (access_slots trap ++ Op d ∷ [])) → CodeHas site start (d ∷ [])
@@ -125,8 +107,7 @@ module _ (site : Site) (start : ℕ) (d : Decoded) where
 
   -- and by that of integer operations, where it is one
   pub has_operation : (setting : EmitVState) (inst : Inst) (after : ℕ) → is_integer inst ≡ true → operation_of site.context inst ≡ Some d → PartsStand site start after (parts_of site.context setting inst) → (mem : Memory) → IsPlacedAt site mem → int_decode site.context.flags (fetch mem (site.base + start)) ≡ Some d
-  has_operation setting inst after core e p mem placed =
-      integer_decodes site.context.flags (fetch mem (site.base + start)) d ((one_slot site.context setting inst d e).integer core) (reads_operation setting inst after e p mem placed)
+  has_operation setting inst after core e p mem placed = integer_decodes site.context.flags (fetch mem (site.base + start)) d ((one_slot site.context setting inst d e).integer core) (reads_operation setting inst after e p mem placed)
 
 -- Instructions that do one operation's row: the machine with all units does it, comes to where the instruction ends, and takes the answer
 -- that the row takes; or it asks for one, where those that are left don't begin with one of its kind. They are the words of units, and
@@ -160,12 +141,9 @@ out_at_end {site} {after} {made} {took} {b} start inst v g exit takes = record {
 
 -- ---- rows
 
--- an instruction that means what a row does, and one operation's
+-- an instruction that means what a row does
 abbrev of_row : (Environment → FullValues → Row) → FullMeaning
 of_row row = record { takes = λ env v answers. row_takes (row env v) answers; writes = λ env v answers. []; own_answers = λ env v. answers_of (row env v); own_of = λ took. took }
-
-abbrev of_operation : Decoded → FullMeaning
-of_operation d = of_row (λ env v. unit_row d v)
 
 -- The operation is all of the instruction's code, none of integers, and its rows agree; the instruction means its row, and goes on.
 record IsRow (site : Site) (start after : ℕ) (inst : Inst) (d : Decoded) (v : FullValues) (b : FullState) : Type 0 where
@@ -174,7 +152,7 @@ record IsRow (site : Site) (start after : ℕ) (inst : Inst) (d : Decoded) (v : 
   ends : start + 4 ≡ after
   none : act d b.state ≡ None
   agree : RowsAgree (values_of b) (unit_row d v) (unit_row d (values_of b))
-  means : inst_meaning AtStart inst ≡ of_operation d
+  means : inst_meaning AtStart inst ≡ of_row (λ env v. unit_row d v)
   temporaries : inst_temporaries inst ≡ []
   exit : inst_exit (environment site start after) inst v.ints ≡ Next
 
@@ -184,33 +162,23 @@ pc_after d b = wrap (b.state.pc + d.len)
 
 module _ {site : Site} {start after : ℕ} {parts : List Part} (inst : Inst) {v : FullValues} {b : FullState} (e : Enters site start after parts b.state v.ints) (full : IsFullState b) (d : Decoded) where
   row_runs : IsRow site start after inst d v b → ComesAsMeant site start after inst v b
-  row_runs h = ⊎_elim (λ g. inl (came_out g)) (λ a. inr (asks a)) (row_comes (pc_after d b) (values_of b) (unit_row d v) (unit_row d (values_of b)) b.answers h.agree full.answers)
-    where
-      is_at : IsAt site start 4 b.state
-      is_at = record { even = e.even; room = let w = e.within in let ends = h.ends in omega arith; placed = e.placed; pc = e.pc }
-
-      next : fnext site.context.flags b ≡ row_next (pc_after d b) (unit_row d (values_of b)) b.answers
-      next = unit_next_at b d [] h.none is_at (lit< tt) h.has
-
-      came_out : RowGoes (pc_after d b) (values_of b) (unit_row d v) (unit_row d (values_of b)) b.answers → OutAsMeant site start after inst v b
-      came_out g =
-          let out : FullComesOut site after [] g.made g.took b = record {
-            steps = 1;
-            state = full_at (pc_after d b) g.after g.left;
-            ran = fiter_one site.context.flags b (full_at (pc_after d b) g.after g.left) (next ∙ g.next);
-            pc = let here = e.pc in let ends = h.ends in let long = h.long in omega arith;
-            same = record { ints = same_but [] g.agree.same.ints; units = g.agree.same.units };
-            are_values = g.agree.are_values;
-            is_state = record { state = record { pc = omega arith; values = g.agree.is_values }; units = g.agree.units; answers = g.fit };
-            answers = g.parted;
-            setting = g.agree.setting;
-            placed = subst (IsPlacedAt site) (sym g.agree.mem) e.placed;
-          } in
-          out_at_end start inst v (subst (λ free. FullComesOut site after free g.made g.took b) (sym h.temporaries) out) h.exit
-          (subst (λ (m : FullMeaning). m.takes (environment site start after) v (m.own_of g.took) ≡ Some (g.made, [])) (sym h.means) g.takes)
-
-      asks : RowAsks (pc_after d b) (unit_row d v) (unit_row d (values_of b)) b.answers → FullyAsks site start after (inst_meaning AtStart inst) v b
-      asks a = record {
+  row_runs h =
+      let is_at : IsAt site start 4 b.state = record { even = e.even; room = let w = e.within in let ends = h.ends in omega arith; placed = e.placed; pc = e.pc } in
+      let next = unit_next_at b d [] h.none is_at (lit< tt) h.has in
+      ⊎_elim
+      (λ (g : RowGoes (pc_after d b) (values_of b) (unit_row d v) (unit_row d (values_of b)) b.answers). inl (out_at_end start inst v (subst (λ free. FullComesOut site after free g.made g.took b) (sym h.temporaries) (record {
+        steps = 1;
+        state = full_at (pc_after d b) g.after g.left;
+        ran = fiter_one site.context.flags b (full_at (pc_after d b) g.after g.left) (next ∙ g.next);
+        pc = let here = e.pc in let ends = h.ends in let long = h.long in omega arith;
+        same = record { ints = same_but [] g.agree.same.ints; units = g.agree.same.units };
+        are_values = g.agree.are_values;
+        is_state = record { state = record { pc = omega arith; values = g.agree.is_values }; units = g.agree.units; answers = g.fit };
+        answers = g.parted;
+        setting = g.agree.setting;
+        placed = subst (IsPlacedAt site) (sym g.agree.mem) e.placed;
+      })) h.exit (subst (λ (m : FullMeaning). m.takes (environment site start after) v (m.own_of g.took) ≡ Some (g.made, [])) (sym h.means) g.takes)))
+      (λ (a : RowAsks (pc_after d b) (unit_row d v) (unit_row d (values_of b)) b.answers). inr (record {
         steps = 0;
         state = b;
         ran = fiter_none site.context.flags b;
@@ -219,17 +187,10 @@ module _ {site : Site} {start after : ℕ} {parts : List Part} (inst : Inst) {v 
         answers = refl;
         lacks = subst (λ (m : FullMeaning). m.takes (environment site start after) v (m.own_of b.answers) ≡ None) (sym h.means) a.lacks;
         few = subst (λ (m : FullMeaning). 0 < 2 * m.own_answers (environment site start after) v) (sym h.means) (subst (λ (r : Row). 0 < 2 * answers_of r) (sym a.takes) (lit< tt));
-      }
+      }))
+      (row_comes (pc_after d b) (values_of b) (unit_row d v) (unit_row d (values_of b)) b.answers h.agree full.answers)
 
 -- ---- words of units
-
--- where a word of a unit ends
-unit_ends : (site : Site) (start after : ℕ) (w : UnitWord) → w.operation.len ≡ 4 → PartsStand site start after (unit_parts w) → start + 4 ≡ after
-unit_ends site start after w long p = on w.trap p
-  where
-    on : (trap : Option TrapCode) → PartsStand site start after (slots_alone (access_slots trap ++ Op w.operation ∷ [])) → start + 4 ≡ after
-    on None p = let e = p.2 in omega arith
-    on (Some code) p = let e = p.2 in omega arith
 
 pub unit_runs : {site : Site} {start after : ℕ} {v : FullValues} {b : FullState} (setting : EmitVState) (inst : Inst) → IsUnit inst → inst_rule site.context inst ≡ None → Enters site start after (parts_of site.context setting inst) b.state v.ints → SameFull v (values_of b) → IsFullState b → ComesAsMeant site start after inst v b
 unit_runs {site} {start} {after} {v} {b} setting inst u rule e same full =
@@ -240,7 +201,7 @@ unit_runs {site} {start} {after} {v} {b} setting inst u rule e same full =
     row_runs inst e full u.word.operation (record {
       has = stands_alone site start u.word.operation u.word.trap after parts;
       long = operation.long;
-      ends = unit_ends site start after u.word operation.long parts;
+      ends = (let long = operation.long in elim u.word.trap as (λ trap. PartsStand site start after (slots_alone (access_slots trap ++ Op u.word.operation ∷ [])) → start + 4 ≡ after) [ None ↦ λ p. let e = p.2 in omega arith | Some code ↦ λ p. let e = p.2 in omega arith ]) parts;
       none = operation.none b.state;
       agree = operation.agrees v (values_of b) same e.are_values full.state.values full.units usable;
       means = ap (λ f. meaning_by f AtStart inst) u.family ∙ (λ k. of_row (λ env v. operation_row (u.code (context_by env.flags env.frame []) k).operation v));
@@ -250,55 +211,29 @@ unit_runs {site} {start} {after} {v} {b} setting inst u rule e same full =
 
 -- ---- moves of a floating-point register
 
-float_class : (c : RegClass) → is_float_class c ≡ true → c ≡ Float
-float_class Int e = absurd (cc)
-float_class c e = cc
-
-module _ {site : Site} {start after : ℕ} {v : FullValues} {b : FullState} (setting : EmitVState) (rd : Writable Reg) (rm : Reg) (type : IrType) (e : Enters site start after (parts_of site.context setting (Mov rd rm type)) b.state v.ints) (same : SameFull v (values_of b)) (full : IsFullState b) (float : is_float rd.reg ≡ true) where
-  abbrev inst : Inst
-  inst = Mov rd rm type
-
-  abbrev to : ℕ
-  to = number_of rd.reg
-
-  abbrev from : ℕ
-  from = number_of rm
-
-  abbrev d : Decoded
-  d = op_of site.context.flags (move_action Float type to from)
-
-  class : class_of rd.reg ≡ Float
-  class = float_class (class_of rd.reg) float
-
-  means : inst_meaning AtStart inst ≡ of_float_move inst
-  means = ap (λ c. if c then of_float_move inst else of_integers AtStart (Put inst)) float
-
-  parts : (own : Bool) → nat_eq to from ≡ own → PartsStand site start after (slots_alone (slots_of site.context.flags (if own then [] else Do (move_action Float type to from) ∷ [])))
-  parts own test =
-      subst (λ c. PartsStand site start after (slots_alone (slots_of site.context.flags (if c then [] else Do (move_action Float type to from) ∷ [])))) test
-      (subst (λ c. PartsStand site start after (slots_alone (slots_of site.context.flags (move_pieces c type to from)))) class e.stands)
-
-  pub move_runs : ComesAsMeant site start after inst v b
-  move_runs = by (nat_eq to from) refl
-    where
-      by : (own : Bool) → nat_eq to from ≡ own → ComesAsMeant site start after inst v b
-      by true test =
-          let p = parts true test in
-          inl (record {
-            took = [];
-            made = v;
-            takes = ap (λ (m : FullMeaning). m.takes (environment site start after) v (m.own_of [])) means ∙ ap (λ c. row_takes (move_row (if c then None else Some (move_op site.context.flags (class_of rd.reg) type to from)) v) []) test;
-            ends = ends_at_once v same.units full (nothing_out (let ends = p.2 in omega arith) e);
-          })
-      by false test =
-          let p = parts false test in
-          row_runs inst e full d (record {
-            has = stands_alone site start d None after p;
-            long = refl;
-            ends = let ends = p.2 in omega arith;
-            none = refl;
-            agree = shape_agrees d v (values_of b) same e.are_values full.state.values full.units Sign (format_of (unwrap_or (width_of type) D)) (number_below rd.reg);
-            means = means ∙ (λ k. of_row (λ env v. move_row (if test k then None else Some (move_op env.flags (class k) type to from)) v));
-            temporaries = refl;
-            exit = refl;
-          })
+pub move_runs : {site : Site} {start after : ℕ} {v : FullValues} {b : FullState} (setting : EmitVState) (rd : Writable Reg) (rm : Reg) (type : IrType) → Enters site start after (parts_of site.context setting (Mov rd rm type)) b.state v.ints → SameFull v (values_of b) → IsFullState b → is_float rd.reg ≡ true → ComesAsMeant site start after (Mov rd rm type) v b
+move_runs {site} {start} {after} {v} {b} setting rd rm type e same full float =
+    let inst = Mov rd rm type in
+    let to = number_of rd.reg in
+    let from = number_of rm in
+    let d = op_of site.context.flags (move_action Float type to from) in
+    let class = (elim (class_of rd.reg) as (λ c. is_float_class c ≡ true → c ≡ Float) [ Float ↦ λ e. refl | _ ↦ λ e. absurd (cc) ]) float in
+    let means : inst_meaning AtStart inst ≡ of_float_move inst = ap (λ c. if c then of_float_move inst else of_integers AtStart (Put inst)) float in
+    (elim (nat_eq to from) as (λ own. nat_eq to from ≡ own → PartsStand site start after (slots_alone (slots_of site.context.flags (if own then [] else Do (move_action Float type to from) ∷ []))) → ComesAsMeant site start after inst v b) [
+      | true ↦ λ test p. inl (record {
+        took = [];
+        made = v;
+        takes = ap (λ (m : FullMeaning). m.takes (environment site start after) v (m.own_of [])) means ∙ ap (λ c. row_takes (move_row (if c then None else Some (move_op site.context.flags (class_of rd.reg) type to from)) v) []) test;
+        ends = ends_at_once v same.units full (nothing_out (let ends = p.2 in omega arith) e);
+      })
+      | false ↦ λ test p. row_runs inst e full d (record {
+        has = stands_alone site start d None after p;
+        long = refl;
+        ends = let ends = p.2 in omega arith;
+        none = refl;
+        agree = shape_agrees d v (values_of b) same e.are_values full.state.values full.units Sign (format_of (unwrap_or (width_of type) D)) (number_below rd.reg);
+        means = means ∙ (λ k. of_row (λ env v. move_row (if test k then None else Some (move_op env.flags (class k) type to from)) v));
+        temporaries = refl;
+        exit = refl;
+      })
+    ]) refl (subst (λ c. PartsStand site start after (slots_alone (slots_of site.context.flags (move_pieces c type to from)))) class e.stands)

@@ -1,26 +1,17 @@
 -- Plain instructions: those of no operation or of one, jumps and branches, traps, and the addresses of symbols.
-use Rattle.std.proofs.Common.{◌≡◌, ℕ, ◌+◌, ◌*◌, ◌/◌, ◌^◌, ◌<◌, ◌≤◌, pos, Bool, true, false, [], ◌∷◌, List, Some, arith, refl, sym, ap, subst, ◌∙◌, lit<, lit≤, eqb-true, nat_eq, if◌then◌else◌, not, nat_lt, ℤ, ◌-ℤ◌}
-use Rattle.rv_runs.proofs.Words.{AVirtual, Addi, AddressOf, AimsFrom, AluOPRRI, AluRRImm12, AluRRR, Arrives, Auipc, B12, Base, Bind, ComesOut, CondBr, Decoded, Do, EmitVState, Enters, Exit, ExternalName, FillsFrom, Int, IntCC, IntegerCompare, IrType, IsAt, IsBeside, IsIntRegister, IsState, IsUsable}
-use Rattle.rv_runs.proofs.Words.{IsaFlags, Jalr, Label, Ld, Leave, LoadExtNameFar, LoadExtNameGot, Lui, MachLabel, Mov, Next, NotEqual, Op, Part, Real, Reg, Ret, Rri, Same, Sets, SignedGreaterThanOrEqual, SignedLessThanOrEqual, Site, Slot, SlotOf, StandsIn, State, Symbol, To, TrapCode}
-use Rattle.rv_runs.proofs.Words.{UnsignedGreaterThanOrEqual, UnsignedLessThanOrEqual, Values, Writable, act, aims_at, alu_result_fits, alu_rri, alu_rrr, and_then, at, at_next, between, branch_acts, branch_to, class_of, compares, complement_of, decoded, decoded_addi, decoded_branch, decoded_load}
-use Rattle.rv_runs.proofs.Words.{eight_there, evaluate, goes_at_least, goes_none, got_slots, holds, is_fallthrough, is_out_of_range, jalr_acts, jalr_sized, jump_acts, jump_kind, jump_size, jump_to, least_steps, load_fits, load_op, load_result, load_same, low64, low64_small, lower_of_distance}
-use Rattle.rv_runs.proofs.Words.{lui_acts, lui_sized, move_pieces, near_slots, number_of, over_goes, parts_sum, plus_none, point, reads_back, reg, rri_acts, rri_op, rri_sized, rrr_acts, rrr_fits, rrr_sized, set_at, set_own, set_reg, sets_both, sets_one, short_jalr, short_jump, short_lui, short_rri}
-use Rattle.rv_runs.proofs.Words.{short_rrr, shorter, signed_below, size_of, slots_alone, slots_of, step_at, symbol_address, target_exit, to_le_bytes, upper_of_distance, window_some, wrap}
-use Rattle.rv_runs.proofs.Exits.{SlotsOut, RunsHere, writes_beside, same_but, starts_beside, starts_at, comes_out, goes_out, label_out, pieces_out, pieces_trap}
-use Rattle.rv_inst.specs.Meaning.{Trap}
-use Rattle.rv_imms.specs.declared.imm12.Imm12.{Imm12}
-use Rattle.rv_imms.specs.declared.imm20.Imm20.{Imm20}
-use Rattle.rv_ops.specs.declared.alu.AluOPRRR.{AluOPRRR}
-use Rattle.rv_code.specs.Slots.{Target}
-use Rattle.rv_code.specs.InstParts.{far_slots}
-use Rattle.rv_inst.specs.declared.inst.CondBrTarget.{CondBrTarget}
-use Rattle.rv_inst.specs.declared.inst.CondBrTarget.TheVariants.{Label as ToLabel, Fallthrough}
-use Rattle.rv_inst.specs.LabelUse.{has_veneer_of}
-use Rattle.rv_code.specs.Chains.{Goes}
-use Rattle.rv_code.specs.Traps.{trap_if_pieces}
-use Rattle.std.specs.Int.{w64}
-use Rattle.rv_runs.proofs.MemoryRuns.{sets_out}
-use Rattle.rv_code.proofs.LineSlots.{far_long}
+use Rattle.std.proofs.Common.{Bool, List, Some, [], ap, arith, eqb-true, false, if◌then◌else◌, lit<, lit≤, nat_eq, nat_lt, not, pos, refl, subst, sym, true, ℕ, ℤ, ◌*◌, ◌+◌, ◌-ℤ◌, ◌/◌, ◌<◌, ◌^◌, ◌∙◌, ◌∷◌, ◌≡◌, ◌≤◌}
+use Rattle.rv_runs.proofs.Words.{AVirtual, Addi}
+use Rattle.rv_runs.proofs.Words.{AddressOf, AimsFrom, AluOPRRI, AluRRImm12, AluRRR, Arrives, Auipc, Base, Bind, ComesOut, CondBr, Decoded, Do, EmitVState, Enters, Exit, ExternalName, Goes, Int, IntCC, IntegerCompare, IrType, IsAt, IsBeside, IsIntRegister, IsUsable, IsaFlags, Jalr, Label, Ld, Leave}
+use Rattle.rv_runs.proofs.Words.{LoadExtNameFar, LoadExtNameGot, Lui, MachLabel, Mov, Next, NotEqual, Op, Part, Real, Reg, Ret, Rri, Same, Sets, Site, Slot, StandsIn, State, To, TrapCode, Values, Writable, act, alu_result_fits, alu_rri, alu_rrr, and_then, at, at_next, between, class_of, compares}
+use Rattle.rv_runs.proofs.Words.{complement_of, decoded, decoded_addi, decoded_load, eight_there, evaluate, goes_at_least, goes_none, holds, jalr_acts, jalr_sized, jump_acts, jump_size, jump_to, least_steps, load_fits, load_op, load_result, load_same, low64, lower_of_distance, lui_acts, lui_sized}
+use Rattle.rv_runs.proofs.Words.{move_pieces, number_of, plus_none, point, reads_back, reg, rri_op, set_at, set_own, set_reg, short_jalr, short_jump, short_lui, short_rri, short_rrr, shorter, signed_below, size_of, slots_alone, slots_of, step_at, symbol_address, to_le_bytes, w64, window_some, wrap}
+use Rattle.rv_base.specs.declared.condcodes.IntCC.TheVariants.{SignedGreaterThanOrEqual, SignedLessThanOrEqual, UnsignedGreaterThanOrEqual, UnsignedLessThanOrEqual}
+use Rattle.rv_code.proofs.{Courses.over_goes, Courses.parts_sum, Courses.sets_both, Courses.sets_one, LineSlots.far_long, OperationActs.branch_acts, OperationActs.low64_small, OperationActs.rri_acts, OperationActs.rri_sized, OperationActs.rrr_acts, OperationActs.rrr_fits, OperationActs.rrr_sized}
+use Rattle.rv_code.{proofs.Steps.aims_at, specs.Immediates.upper_of_distance, specs.InstParts.branch_to, specs.InstParts.far_slots, specs.InstParts.got_slots, specs.InstParts.near_slots, specs.Sites.FillsFrom, specs.Slots.SlotOf, specs.Slots.Symbol, specs.Slots.Target, specs.Traps.trap_if_pieces}
+use Rattle.{rv_encode.specs.Operations.decoded_branch, rv_imms.specs.declared.imm12.Imm12.Imm12, rv_imms.specs.declared.imm20.Imm20.Imm20}
+use Rattle.rv_inst.specs.{Forms.jump_kind, LabelUse.has_veneer_of, Meaning.Trap, Meaning.target_exit, Rules.is_fallthrough, Rules.is_out_of_range, declared.inst.CondBrTarget.CondBrTarget, declared.inst.CondBrTarget.TheVariants.Fallthrough, declared.inst.CondBrTarget.TheVariants.Label as ToLabel}
+use Rattle.{rv_inst.specs.declared.label_use.LabelUse.TheVariants.B12, rv_ops.specs.declared.alu.AluOPRRR.AluOPRRR}
+use Rattle.rv_runs.proofs.{Exits.RunsHere, Exits.SlotsOut, Exits.comes_out, Exits.goes_out, Exits.label_out, Exits.pieces_out, Exits.pieces_trap, Exits.same_but, Exits.starts_at, Exits.starts_beside, Exits.writes_beside, MemoryRuns.sets_out}
 use Rattle.rv_machine.specs.declared.ops.BaseOp.TheVariants as base
 use Rattle.rv_code.specs.Pieces as piece
 
@@ -41,8 +32,7 @@ writes_out {s = s} exit d pc n x e some one acts arrives pc_fits usable fits =
 -- and goes on
 pub next_out : {site : Site} {start after : ℕ} {s : State} {v : Values} (d : Decoded) (n x : ℕ) → Enters site start after (slots_alone (Op d ∷ [])) s v → 0 < d.len → act d s ≡ Some (at (wrap (s.pc + d.len)) (set_reg s.values n x)) → n < 30 → x < 2 ^ 64 →
     ComesOut site start after Next [] (set_reg v n x) s
-next_out {site} {start} {after} {s} d n x e some acts usable fits =
-    writes_out Next d (wrap (s.pc + d.len)) n x e some (lit≤ tt) acts (let pc = e.pc in let ends = e.stands.2 in omega arith) (omega arith) usable fits
+next_out {site} {start} {after} {s} d n x e some acts usable fits = writes_out Next d (wrap (s.pc + d.len)) n x e some (lit≤ tt) acts (let pc = e.pc in let ends = e.stands.2 in omega arith) (omega arith) usable fits
 
 -- ---- operations of registers and immediates
 
@@ -83,8 +73,7 @@ int_class (AVirtual class index) h = absurd h
 
 -- a move, by whether it is one to itself
 pub move_out : {site : Site} {start after : ℕ} {s : State} {v : Values} (own : Bool) (rd rs : ℕ) → nat_eq rd rs ≡ own → rd < 30 → rs < 30 → SlotsOut site start after (slots_of site.context.flags (if own then [] else Do (Rri Addi rd rs (pos 0)) ∷ [])) s v [] (set_reg v rd (reg v rs))
-move_out {site} {start} {after} {s} {v} true rd rs test h h1 e =
-    subst (λ (w : Values). ComesOut site start after Next [] w s) (sym (ap (λ n. set_reg v rd (reg v n)) (sym (eqb-true rd rs test)) ∙ set_own v rd)) (nothing_out (let ends = e.stands.2 in omega arith) e)
+move_out {site} {start} {after} {s} {v} true rd rs test h h1 e = subst (λ (w : Values). ComesOut site start after Next [] w s) (sym (ap (λ n. set_reg v rd (reg v n)) (sym (eqb-true rd rs test)) ∙ set_own v rd)) (nothing_out (let ends = e.stands.2 in omega arith) e)
 move_out {site} {start} {after} {s} {v} false rd rs test h h1 e =
     let d = short_rri site.context.flags Addi rd rs (pos 0) in
     next_out d rd (reg v rs) e (rri_sized site.context.flags Addi rd rs (pos 0)).some
@@ -156,8 +145,7 @@ branch_out {site} {start} {after} {s} {v} kind t f true test h1 h2 e =
     let h = starts_at (branch_to kind (Label t) ∷ otherwise site.context.flags f) e in
     let a = e.stands.1.0 in
     let pc = wrap (s.pc + low64 (between start a.to)) in
-    let held = sym (compares_same kind v s.values h1 h2 e.same) ∙ test in
-    label_out true t a.to (at pc s.values) a.reaches (branch_goes (Label t) kind true held h (omega arith) a) (aims_at a.to h (omega arith)) (moved_beside pc (omega arith) (starts_beside [] e))
+    label_out true t a.to (at pc s.values) a.reaches (branch_goes (Label t) kind true (sym (compares_same kind v s.values h1 h2 e.same) ∙ test) h (omega arith) a) (aims_at a.to h (omega arith)) (moved_beside pc (omega arith) (starts_beside [] e))
 branch_out {site} {start} {after} {s} {v} kind t f false test h1 h2 e =
     let h = starts_at (branch_to kind (Label t) ∷ otherwise site.context.flags f) e in
     let pc = wrap (s.pc + 4) in
@@ -207,60 +195,33 @@ trap_if_out {s = s} {v} cmp code false test h1 h2 e = pieces_out (trap_if_pieces
 abbrev upper_sum : ℕ → ℤ → ℕ
 upper_sum pc d = wrap (pc + low64 (upper_of_distance d) * 2 ^ 12)
 
--- two words that hold the distance to a symbol, the first of which is auipc
-abbrev HoldsSymbol : Site → ℕ → ℕ → Symbol → (ℤ → List Decoded) → Type 0
-HoldsSymbol site offset rd symbol lower = FillsFrom site offset symbol (λ d. decoded (Base base.Auipc) rd 0 0 (upper_of_distance d) ∷ []) lower
-
--- the first of them is done
-first_goes : {site : Site} {offset size : ℕ} {s : State} (rd : ℕ) (symbol : Symbol) (lower : ℤ → List Decoded) → IsAt site offset size s → 0 < size → (f : HoldsSymbol site offset rd symbol lower) → Sets site.context.flags 4 s rd (upper_sum s.pc f.distance)
-first_goes {s = s} rd symbol lower h some f = sets_one (decoded (Base base.Auipc) rd 0 0 (upper_of_distance f.distance)) rd (upper_sum s.pc f.distance) h some f.has_upper refl
-
--- the lower part, which the second one has, makes it the symbol's address
-second_sums : {site : Site} {offset size : ℕ} {s : State} (rd : ℕ) (symbol : Symbol) (lower : ℤ → List Decoded) → 0 < rd → rd < 32 → IsState s → IsAt site offset size s → (f : HoldsSymbol site offset rd symbol lower) →
-    wrap (reg (set_reg s.values rd (upper_sum s.pc f.distance)) rd + low64 (lower_of_distance (f.distance -ℤ pos 4))) ≡ symbol_address site symbol
-second_sums {site} {offset} {s = s} rd symbol lower some lt is_state h f =
-    let over : wrap (wrap (site.base + offset) + low64 f.distance) ≡ wrap (site.base + offset + low64 f.distance) = omega arith in
-    (λ i. wrap (reads_back s.values rd (upper_sum s.pc f.distance) is_state.values some lt i + low64 (lower_of_distance (f.distance -ℤ pos 4))))
-    ∙ parts_sum s.pc f.distance f.near
-    ∙ (λ i. wrap (h.pc i + low64 f.distance))
-    ∙ over
-    ∙ f.leads
-
-pub near_out : {site : Site} {start after : ℕ} {s : State} {v : Values} (rd : ℕ) (name : ExternalName) (offset : ℤ) → rd < 30 → 0 < rd → SlotsOut site start after (near_slots rd name offset) s v [] (set_reg v rd (symbol_address site (AddressOf name offset)))
-near_out {site} {start} {s = s} rd name offset usable some e =
-    let slots = near_slots rd name offset in
-    let lower = λ (d : ℤ). decoded_addi rd rd (lower_of_distance d) ∷ [] in
-    let symbol = AddressOf name offset in
-    let f = e.stands.1.0 in
-    let h = starts_at slots e in
-    let x = upper_sum s.pc f.distance in
-    let s1 = at (wrap (s.pc + 4)) (set_reg s.values rd x) in
-    let h1 : IsAt site (start + 4) 4 s1 = set_at 4 rd x (shorter 8 h (omega arith)) refl in
-    let sum = second_sums rd symbol lower some (omega arith) e.is_state h f in
-    sets_out slots 8 rd (symbol_address site symbol) usable (omega arith) e refl
-    (sets_both 4 4 rd x (symbol_address site symbol) (first_goes rd symbol lower h (omega arith) f)
-    (sets_one (decoded_addi rd rd (lower_of_distance (f.distance -ℤ pos 4))) rd (symbol_address site symbol) h1 (omega arith) f.has_lower (λ i. Some (at (wrap (s1.pc + 4)) (set_reg s1.values rd (sum i))))))
-
--- what stands in the symbol's slot is loaded
-got_out : {site : Site} {start after : ℕ} {s : State} {v : Values} (rd : ℕ) (name : ExternalName) → rd < 30 → 0 < rd → SlotsOut site start after (got_slots rd name) s v [] (set_reg v rd (load_result (load_op Ld) s.values.mem (site.slot name.number)))
-got_out {site} {start} {s = s} rd name usable some e =
-    let slots = got_slots rd name in
-    let lower = λ (d : ℤ). decoded_load Ld rd rd (lower_of_distance d) ∷ [] in
-    let symbol = SlotOf name in
-    let f = e.stands.1.0 in
+-- two words hold the distance to a symbol: auipc, and one that does what it does with the symbol's address
+by_symbol : {site : Site} {start after : ℕ} {s : State} {v : Values} (slots : List Slot) (rd x : ℕ) (symbol : Symbol) (second : ℤ → Decoded) → rd < 30 → 0 < rd → x < 2 ^ 64 → Enters site start after (slots_alone slots) s v → 8 ≡ size_of slots → ((d : ℤ) → (second d).len ≡ 4) →
+    (f : FillsFrom site start symbol (λ d. decoded (Base base.Auipc) rd 0 0 (upper_of_distance d) ∷ []) (λ d. second d ∷ [])) → ((d : ℤ) (w : Values) → w.mem ≡ s.values.mem → wrap (reg w rd + low64 (lower_of_distance d)) ≡ symbol_address site symbol → act (second d) (at (wrap (s.pc + 4)) w) ≡ Some (at (wrap (wrap (s.pc + 4) + (second d).len)) (set_reg w rd x))) → ComesOut site start after Next [] (set_reg v rd x) s
+by_symbol {site} {start} {s = s} slots rd x symbol second usable some fits e long four f acts =
     let h = starts_at slots e in
     let y = upper_sum s.pc f.distance in
     let w = set_reg s.values rd y in
-    let x = load_result (load_op Ld) s.values.mem (site.slot name.number) in
+    let d = f.distance -ℤ pos 4 in
     let h1 : IsAt site (start + 4) 4 (at (wrap (s.pc + 4)) w) = set_at 4 rd y (shorter 8 h (omega arith)) refl in
-    let sum = second_sums rd symbol lower some (omega arith) e.is_state h f in
-    sets_out slots 8 rd x usable (load_fits (load_op Ld) s.values.mem (site.slot name.number) e.is_state.values.bytes) e refl
-    (sets_both 4 4 rd y x (first_goes rd symbol lower h (omega arith) f)
-    (sets_one (decoded_load Ld rd rd (lower_of_distance (f.distance -ℤ pos 4))) rd x h1 (omega arith) f.has_lower (λ i. Some (at (wrap (wrap (s.pc + 4) + 4)) (set_reg w rd (load_result (load_op Ld) s.values.mem (sum i)))))))
+    let over : wrap (wrap (site.base + start) + low64 f.distance) ≡ wrap (site.base + start + low64 f.distance) = omega arith in
+    let sum = (λ i. wrap (reads_back s.values rd y e.is_state.values some (omega arith) i + low64 (lower_of_distance d))) ∙ parts_sum s.pc f.distance f.near ∙ (λ i. wrap (h.pc i + low64 f.distance)) ∙ over ∙ f.leads in
+    sets_out slots 8 rd x usable fits e long
+    (sets_both 4 4 rd y x (sets_one (decoded (Base base.Auipc) rd 0 0 (upper_of_distance f.distance)) rd y h (omega arith) f.has_upper refl)
+    (subst (λ n. Sets site.context.flags n (at (wrap (s.pc + 4)) w) rd x) (four d) (sets_one (second d) rd x h1 (omega arith) f.has_lower (acts d w refl sum))))
+
+pub near_out : {site : Site} {start after : ℕ} {s : State} {v : Values} (rd : ℕ) (name : ExternalName) (offset : ℤ) → rd < 30 → 0 < rd → SlotsOut site start after (near_slots rd name offset) s v [] (set_reg v rd (symbol_address site (AddressOf name offset)))
+near_out {site} {s = s} rd name offset usable some e =
+    by_symbol (near_slots rd name offset) rd (symbol_address site (AddressOf name offset)) (AddressOf name offset) (λ d. decoded_addi rd rd (lower_of_distance d)) usable some (omega arith) e refl (λ d. refl) e.stands.1.0 (λ d w kept sum i. Some (at (wrap (wrap (s.pc + 4) + 4)) (set_reg w rd (sum i))))
+
+-- what stands in the symbol's slot is loaded
+got_out : {site : Site} {start after : ℕ} {s : State} {v : Values} (rd : ℕ) (name : ExternalName) → rd < 30 → 0 < rd → SlotsOut site start after (got_slots rd name) s v [] (set_reg v rd (load_result (load_op Ld) s.values.mem (site.slot name.number)))
+got_out {site} {s = s} rd name usable some e =
+    by_symbol (got_slots rd name) rd _ (SlotOf name) (λ d. decoded_load Ld rd rd (lower_of_distance d)) usable some (load_fits (load_op Ld) s.values.mem (site.slot name.number) e.is_state.values.bytes) e refl (λ d. refl) e.stands.1.0
+    (λ d w kept sum i. Some (at (wrap (wrap (s.pc + 4) + 4)) (set_reg w rd (load_result (load_op Ld) (kept i) (sum i)))))
 
 pub got_runs : (site : Site) (setting : EmitVState) (start after : ℕ) (s : State) (v : Values) (rd : Writable Reg) (name : ExternalName) → IsUsable rd.reg → 0 < number_of rd.reg → RunsHere site setting (LoadExtNameGot rd name) start after s v
-got_runs site setting start after s v rd name h some e clear =
-    subst (λ x. ComesOut site start after Next [] (set_reg v (number_of rd.reg) x) s) (sym (load_same (load_op Ld) v.mem s.values.mem (site.slot name.number) e.same.mem)) (got_out (number_of rd.reg) name h.1 some e)
+got_runs site setting start after s v rd name h some e clear = subst (λ x. ComesOut site start after Next [] (set_reg v (number_of rd.reg) x) s) (sym (load_same (load_op Ld) v.mem s.values.mem (site.slot name.number) e.same.mem)) (got_out (number_of rd.reg) name h.1 some e)
 
 -- ---- from among the code
 

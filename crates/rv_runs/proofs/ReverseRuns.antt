@@ -1,12 +1,10 @@
 -- The bits of a register's bytes are set in reverse order, from the highest bit on.
-use Rattle.std.proofs.Common.{rules, ◌≡◌, ℕ, zero, suc, ◌+◌, ◌-◌, ◌*◌, ◌/◌, ◌%◌, ◌^◌, ◌<◌, ◌≤◌, pos, negsuc, true, false, [], ◌∷◌, List, length, Some, arith, refl, sym, ap, subst, ◌∙◌, nat_eq, if◌then◌else◌, not, bit_or, bit_and, int_rem}
-use Rattle.rv_runs.proofs.Words.{reads_other, reads_set, temporary_set, Addi, And, AreValues, Bind, Branch, Do, Equal, Jump, Or, Piece, Rem, Rri, Rrr, SameBut, Site, Slli, Srli, State, Values, alu_rri, alu_rrr, and_comm, and_pow, and_then, are_values_set, bit_at, bit_at-lt, count_set, evaluate}
-use Rattle.rv_runs.proofs.Words.{half_power, ints, low64, nat_tests, none_below, point, pow_below, pow_pos, reg, reversed_bytes, set_reg, signed64, signed_below, slots_of, small_number, small_shift, wrap}
-use Rattle.rv_runs.proofs.Exits.{SlotsOut, same_but, Reaches, goes_on, reaches_such, pieces_out}
-use Rattle.rv_code.specs.Reversals.{reverse_turn, reverse_down, reverse_move, reverse_pieces}
-use Rattle.rv_code.proofs.Registers.{not_zero}
-use Rattle.rv_code.proofs.ReversedBytes.{Reversal, IsReversal, Holds, InReversal, Tests, written, source_kept, rd_set, tmp_set, tmp2_set, step_set, spare_tests, same_beside, mirrored, mirrored_bits, whole_bytes, IsClear, all_clear, clear_after, or_plus, place_of, place_down, place_up, place_first}
-use Rattle.rv_code.proofs.ReversedBytes.{place_fits}
+use Rattle.std.proofs.Common.{List, Some, [], ap, arith, bit_and, bit_or, false, if◌then◌else◌, int_rem, nat_eq, negsuc, not, pos, refl, rules, subst, suc, sym, zero, ℕ, ◌%◌, ◌*◌, ◌+◌, ◌-◌, ◌/◌, ◌<◌, ◌^◌, ◌∙◌, ◌∷◌, ◌≡◌, ◌≤◌}
+use Rattle.rv_runs.proofs.Words.{Addi, And, AreValues, Bind, Branch, Do, Equal, Or, Piece, Rri, Rrr, SameBut, Site, Slli, Srli, State, Values, alu_rri, alu_rrr, and_comm, and_pow, and_then}
+use Rattle.rv_runs.proofs.Words.{are_values_set, bit_at, bit_at-lt, count_set, evaluate, half_power, ints, low64, nat_tests, none_below, not_zero, point, pow_below, pow_pos, reads_other, reads_set, reg, set_reg, signed64, signed_below, slots_of, small_number, small_shift, temporary_set, wrap}
+use Rattle.rv_code.proofs.ReversedBytes.{Holds, InReversal, IsClear, IsReversal, Reversal, Tests, all_clear, clear_after, mirrored, mirrored_bits, or_plus, place_down, place_first, place_fits, place_of, place_up, same_beside, source_kept, spare_tests, step_set, tmp_set, whole_bytes, written}
+use Rattle.{rv_code.specs.Pieces.Jump, rv_code.specs.Reversals.reverse_down, rv_code.specs.Reversals.reverse_move, rv_code.specs.Reversals.reverse_pieces, rv_code.specs.Reversals.reverse_turn, rv_inst.specs.Bits.reversed_bytes, rv_ops.specs.declared.alu.AluOPRRR.TheVariants.Rem}
+use Rattle.rv_runs.proofs.Exits.{Reaches, SlotsOut, goes_on, pieces_out, reaches_such, same_but}
 
 abbrev whole_of : Reversal → List Piece
 whole_of c = reverse_pieces c.rd c.tmp c.tmp2 c.step c.rs c.bits
@@ -24,12 +22,10 @@ setting_of c = Do (Rrr Or c.rd c.rd c.tmp2) ∷ Bind 2 ∷ down_of c
 abbrev testing_of : Reversal → List Piece
 testing_of c = Branch Equal 0 30 2 ∷ setting_of c
 
--- the end of a turn; and from where the next bit goes to the byte below, or to the bit above in the same
-abbrev last_of : List Piece
-last_of = Bind 4 ∷ Jump 0 ∷ Bind 1 ∷ []
+-- from where the next bit goes to the bit above in the same byte, or to the byte below, to the end of a turn
 
 abbrev higher_of : Reversal → List Piece
-higher_of c = Do (Rri Slli c.tmp2 c.tmp2 (pos 1)) ∷ last_of
+higher_of c = Do (Rri Slli c.tmp2 c.tmp2 (pos 1)) ∷ Bind 4 ∷ Jump 0 ∷ Bind 1 ∷ []
 
 abbrev lower_of : Reversal → List Piece
 lower_of c = Do (Rri Srli c.tmp2 c.tmp2 (pos 15)) ∷ Jump 4 ∷ Bind 3 ∷ higher_of c
@@ -38,65 +34,42 @@ lower_of c = Do (Rri Srli c.tmp2 c.tmp2 (pos 15)) ∷ Jump 4 ∷ Bind 3 ∷ high
 
 starts : {c : Reversal} {v : Values} (w : Values) → IsReversal c → AreValues w → SameBut (written c) v w → Reaches (whole_of c) (point (whole_of c) w) (turn_of c) (InReversal c c.bits (2 ^ c.bits / 2) (place_of c.bits) 0 v)
 starts {c} {v} w h hw others =
-    let w1 = set_reg w c.rd 0 in
-    let y = alu_rri Addi 0 (pos c.bits) in
-    let w2 = set_reg w1 c.step y in
-    let w3 = set_reg w2 c.tmp 1 in
-    let x = alu_rri Slli (reg w3 c.tmp) (pos (c.bits - 1)) in
-    let w4 = set_reg w3 c.tmp x in
-    let w5 = set_reg w4 c.tmp2 1 in
-    let z = alu_rri Slli (reg w5 c.tmp2) (pos (c.bits - 8)) in
-    let a1 : length w1.regs ≡ 31 = count_set w c.rd 0 hw.count in
-    let a2 : length w2.regs ≡ 31 = count_set w1 c.step y a1 in
-    let a3 : length w3.regs ≡ 31 = count_set w2 c.tmp 1 a2 in
-    let a4 : length w4.regs ≡ 31 = count_set w3 c.tmp x a3 in
-    let a5 : length w5.regs ≡ 31 = count_set w4 c.tmp2 1 a4 in
-    let k3 = tmp_set 1 h a2 (step_set y h a1 (rd_set 0 h hw.count (record { step = refl; tmp = refl; tmp2 = refl; rd = refl; others = others }))) in
-    let k5 = tmp2_set 1 h a4 (tmp_set x h a3 k3) in
-    let k6 = tmp2_set z h a5 k5 in
-    let full : y ≡ c.bits = omega (arith, ints) in
+    let full : alu_rri Addi 0 (pos c.bits) ≡ c.bits = omega (arith, ints) in
+    goes_on {Such = InReversal c c.bits 1 (reg w c.tmp2) 0 v} (record { count = 8; values = set_reg (set_reg (set_reg w c.rd 0) c.step (alu_rri Addi 0 (pos c.bits))) c.tmp 1; ran = refl; such = search (rules, reads_other, reads_set, count_set, hw, h, temporary_set, others, full) }) (λ w3 k3.
     let amount : low64 (pos (c.bits - 1)) % 64 ≡ c.bits - 1 = omega (arith, ints) in
     let power = pow_below (c.bits - 1) 64 (omega arith) in
     let bits : suc (c.bits - 1) ≡ c.bits = omega arith in
     let half : 2 ^ (c.bits - 1) ≡ 2 ^ c.bits / 2 = sym (half_power (c.bits - 1)) ∙ ap (λ k. 2 ^ k / 2) bits in
-    let highest : x ≡ 2 ^ c.bits / 2 = (λ i. wrap (k3.tmp i * 2 ^ amount i)) ∙ omega arith in
+    let highest : alu_rri Slli (reg w3 c.tmp) (pos (c.bits - 1)) ≡ 2 ^ c.bits / 2 = (λ i. wrap (k3.holds.tmp i * 2 ^ amount i)) ∙ omega arith in
+    goes_on {Such = InReversal c c.bits (2 ^ c.bits / 2) (reg w c.tmp2) 0 v} (record { count = 1; values = set_reg w3 c.tmp (alu_rri Slli (reg w3 c.tmp) (pos (c.bits - 1))); ran = refl; such = search (rules, reads_other, reads_set, count_set, k3, h, temporary_set, highest) }) (λ w4 k4.
+    goes_on {Such = InReversal c c.bits (2 ^ c.bits / 2) 1 0 v} (record { count = 1; values = set_reg w4 c.tmp2 1; ran = refl; such = search (rules, reads_other, reads_set, count_set, k4, h, temporary_set) }) (λ w5 k5.
     let amount2 : low64 (pos (c.bits - 8)) % 64 ≡ c.bits - 8 = omega (arith, ints) in
-    let first = place_first c.bits h.some h.whole in
-    let fits = place_fits c.bits h.few in
-    let lowest : z ≡ place_of c.bits = (λ i. wrap (k5.tmp2 i * 2 ^ amount2 i)) ∙ omega arith in
-    record {
-      count = 12;
-      values = set_reg w5 c.tmp2 z;
-      ran = refl;
-      such = record { all = count_set w5 c.tmp2 z a5; holds = record { step = k6.step ∙ full; tmp = k6.tmp ∙ highest; tmp2 = k6.tmp2 ∙ lowest; rd = k6.rd; others = k6.others } };
-    }
+    let lowest : alu_rri Slli (reg w5 c.tmp2) (pos (c.bits - 8)) ≡ place_of c.bits = (λ i. wrap (k5.holds.tmp2 i * 2 ^ amount2 i)) ∙ omega (arith, place_first c.bits h.some h.whole, place_fits c.bits h.few) in
+    record { count = 2; values = set_reg w5 c.tmp2 (alu_rri Slli (reg w5 c.tmp2) (pos (c.bits - 8))); ran = refl; such = search (rules, reads_other, reads_set, count_set, k5, h, temporary_set, lowest) })))
 
 -- ---- the next bit
 
 -- no bit is left
 none_left : {c : Reversal} {next place got : ℕ} {v : Values} (w : Values) → InReversal c 0 next place got v w → Reaches (whole_of c) (point (turn_of c) w) [] (Holds c 0 next place got v)
-none_left {c} w k =
-    record { count = 1; values = w; ran = ap (λ b. and_then (if not b then Some (point [] w) else Some (point (Do (Rrr And 30 c.tmp c.rs) ∷ testing_of c) w)) (evaluate 0 (whole_of c))) (ap (signed_below 0) k.holds.step); such = k.holds }
+none_left {c} w k = record { count = 1; values = w; ran = ap (λ b. and_then (if not b then Some (point [] w) else Some (point (Do (Rrr And 30 c.tmp c.rs) ∷ testing_of c) w)) (evaluate 0 (whole_of c))) (ap (signed_below 0) k.holds.step); such = k.holds }
 
 -- some are left, and the next one goes to x30
 tested : {c : Reversal} {left next place got : ℕ} {v : Values} (w : Values) → left < 64 → IsReversal c → InReversal c (suc left) next place got v w → Reaches (whole_of c) (point (turn_of c) w) (testing_of c) (Tests c (suc left) next place got (bit_and next (reg v c.rs)) v)
 tested {c} {left} {next} {place} {got} {v} w lt h k =
     let x = bit_and (reg w c.tmp) (reg w c.rs) in
-    let same : x ≡ bit_and next (reg v c.rs) = λ i. bit_and (k.holds.tmp i) (source_kept h k.holds i) in
     record {
       count = 2;
       values = set_reg w 30 x;
       ran = ap (λ b. and_then (if not b then Some (point [] w) else Some (point (Do (Rrr And 30 c.tmp c.rs) ∷ testing_of c) w)) (evaluate 1 (whole_of c))) (ap (signed_below 0) k.holds.step ∙ none_below left lt);
-      such = subst (λ n. Tests c (suc left) next place got n v (set_reg w 30 x)) same (spare_tests x h k.all k.holds);
+      such = subst (λ n. Tests c (suc left) next place got n v (set_reg w 30 x)) (λ i. bit_and (k.holds.tmp i) (source_kept h k.holds i)) (spare_tests x h k.all k.holds);
     }
 
 -- x30 holds the next bit's power or 0: the bit is set where it goes, or isn't
 by_bit : {c : Reversal} {left next place got : ℕ} {v : Values} (power b : ℕ) (w : Values) → b < 2 → 0 < power → bit_or got place ≡ got + place → IsReversal c → Tests c left next place got (b * power) v w → Reaches (whole_of c) (point (testing_of c) w) (down_of c) (InReversal c left next place (got + b * place) v)
 by_bit {c} {left} {next} {place} {got} {v} power zero w lt some plus h k =
     let none : 0 * power ≡ 0 = omega arith in
-    let e : nat_eq 0 (reg w 30) ≡ true = ap (nat_eq 0) (k.spare ∙ none) in
     let same : got ≡ got + 0 * place = omega arith in
-    record { count = 1; values = w; ran = ap (λ b. and_then (if b then Some (point (down_of c) w) else Some (point (setting_of c) w)) (evaluate 0 (whole_of c))) e; such = subst (λ n. InReversal c left next place n v w) same k.now }
+    record { count = 1; values = w; ran = ap (λ b. and_then (if b then Some (point (down_of c) w) else Some (point (setting_of c) w)) (evaluate 0 (whole_of c))) (ap (nat_eq 0) (k.spare ∙ none)); such = subst (λ n. InReversal c left next place n v w) same k.now }
 by_bit {c} {left} {next} {place} {got} {v} power (suc zero) w lt some plus h k =
     let x = bit_or (reg w c.rd) (reg w c.tmp2) in
     let more : x ≡ got + 1 * place = (λ i. bit_or (k.now.holds.rd i) (k.now.holds.tmp2 i)) ∙ plus ∙ omega arith in
@@ -121,32 +94,22 @@ rest_of_eight n lt =
 goes_down : {c : Reversal} {left next place got : ℕ} {v : Values} (w : Values) → left < 64 → IsReversal c → InReversal c (suc left) next place got v w → Reaches (whole_of c) (point (down_of c) w) (reverse_move c.tmp2) (Tests c left (next / 2) place got (left % 8) v)
 goes_down {c} {left} {next} {place} {got} {v} w lt h k =
     let y = alu_rri Addi (reg w c.step) (negsuc 0) in
-    let w1 = set_reg w c.step y in
-    let z = alu_rri Srli (reg w1 c.tmp) (pos 1) in
-    let w2 = set_reg w1 c.tmp z in
-    let w3 = set_reg w2 30 8 in
-    let x = alu_rrr Rem (reg w3 c.step) (reg w3 30) in
-    let a1 : length w1.regs ≡ 31 = count_set w c.step y k.all in
-    let k1 = step_set y h k.all k.holds in
-    let k2 = tmp_set z h a1 k1 in
+    let z = alu_rri Srli (reg (set_reg w c.step y) c.tmp) (pos 1) in
     let less : y ≡ left = omega arith in
-    let k2' : Holds c left (next / 2) place got v w2 = record { step = k2.step ∙ less; tmp = k2.tmp ∙ (ap (λ n. n / 2) k1.tmp); tmp2 = k2.tmp2; rd = k2.rd; others = k2.others } in
-    let t3 = spare_tests 8 h (count_set w1 c.tmp z a1) k2' in
-    let t4 = spare_tests x h t3.now.all t3.now.holds in
-    let rest : x ≡ left % 8 = (λ i. alu_rrr Rem (t3.now.holds.step i) (t3.spare i)) ∙ rest_of_eight left lt in
-    record { count = 4; values = set_reg w3 30 x; ran = refl; such = record { now = t4.now; spare = t4.spare ∙ rest } }
+    let k2 = tmp_set z h (count_set w c.step y k.all) (step_set y h k.all k.holds) in
+    goes_on {Such = InReversal c left (next / 2) place got v} (record { count = 2; values = set_reg (set_reg w c.step y) c.tmp z; ran = refl; such = search (rules, count_set, k, k2, (k2.step ∙ less), (k2.tmp ∙ ap (λ n. n / 2) (step_set y h k.all k.holds).tmp)) }) (λ w2 k2.
+    let t3 = spare_tests 8 h k2.all k2.holds in
+    let t4 = spare_tests (alu_rrr Rem (reg (set_reg w2 30 8) c.step) (reg (set_reg w2 30 8) 30)) h t3.now.all t3.now.holds in
+    record { count = 2; values = _; ran = refl; such = record { now = t4.now; spare = t4.spare ∙ ((λ i. alu_rrr Rem (t3.now.holds.step i) (t3.spare i)) ∙ rest_of_eight left lt) } })
 
 -- x30 holds how many bits are left of the next one's byte: the next one goes to the byte below, or on in the same; and a turn begins
 by_rest : {c : Reversal} {left next got : ℕ} {v : Values} (rest : ℕ) (w : Values) → left % 8 ≡ rest → left < 64 → IsReversal c → Tests c left next (2 ^ mirrored left) got (left % 8) v w → Reaches (whole_of c) (point (reverse_move c.tmp2) w) (turn_of c) (InReversal c left next (place_of left) got v)
 by_rest {c} {left} {next} {got} {v} zero w rest lt h k =
-    let e : nat_eq (reg w 30) 0 ≡ true = ap (λ m. nat_eq m 0) (k.spare ∙ rest) in
-    let x = alu_rri Srli (reg w c.tmp2) (pos 15) in
-    let lower : x ≡ place_of left = ap (λ y. y / 2 ^ 15) k.now.holds.tmp2 ∙ place_down left rest in
     record {
       count = 4;
-      values = set_reg w c.tmp2 x;
-      ran = ap (λ b. and_then (if not b then Some (point (higher_of c) w) else Some (point (lower_of c) w)) (evaluate 3 (whole_of c))) e;
-      such = search (rules, reads_other, reads_set, count_set, k, h, temporary_set, lower);
+      values = set_reg w c.tmp2 (alu_rri Srli (reg w c.tmp2) (pos 15));
+      ran = ap (λ b. and_then (if not b then Some (point (higher_of c) w) else Some (point (lower_of c) w)) (evaluate 3 (whole_of c))) (ap (λ m. nat_eq m 0) (k.spare ∙ rest));
+      such = search (rules, reads_other, reads_set, count_set, k, h, temporary_set, (ap (λ y. y / 2 ^ 15) k.now.holds.tmp2 ∙ place_down left rest));
     }
 by_rest {c} {left} {next} {got} {v} (suc r) w rest lt h k =
     let e : nat_eq (reg w 30) 0 ≡ false = (let held = k.spare ∙ rest in grind (arith, nat_tests)) in
@@ -175,9 +138,8 @@ turns {c} {v} zero got w le clear h all k =
 turns {c} {v} (suc left) got w le clear h all k =
     let n = reg v c.rs in
     let b = bit_at n left in
-    let plus = or_plus got (mirrored left) (clear left (omega arith)) in
     goes_on (tested w (omega arith) h (subst (λ m. InReversal c (suc left) m (place_of (suc left)) got v w) (half_power left) k))
-    (λ w1 k1. goes_on (by_bit (2 ^ left) b w1 (bit_at-lt n left) (pow_pos left) plus h (subst (λ x. Tests c (suc left) (2 ^ left) (place_of (suc left)) got x v w1) (and_comm (2 ^ left) n ∙ and_pow n left) k1))
+    (λ w1 k1. goes_on (by_bit (2 ^ left) b w1 (bit_at-lt n left) (pow_pos left) (or_plus got (mirrored left) (clear left (omega arith))) h (subst (λ x. Tests c (suc left) (2 ^ left) (place_of (suc left)) got x v w1) (and_comm (2 ^ left) n ∙ and_pow n left) k1))
     (λ w2 k2. goes_on (goes_down w2 (omega arith) h k2)
     (λ w3 k3. goes_on (by_rest (left % 8) w3 refl (omega arith) h k3)
     (λ w4 k4. turns left (got + b * 2 ^ mirrored left) w4 (omega arith) (clear_after left got b (bit_at-lt n left) clear) h (omega arith) k4))))

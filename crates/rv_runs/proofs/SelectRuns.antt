@@ -1,15 +1,13 @@
 -- Of integer registers, one of two values is chosen, and the low bits are extended.
-use Rattle.std.proofs.Common.{◌≡◌, ℕ, Bool, true, false, [], ◌∷◌, ◌++◌, List, map, refl, sym, ap, subst, ◌∙◌, if◌then◌else◌, not, zero, suc, ◌+◌, ◌-◌, ◌*◌, ◌/◌, ◌%◌, ◌^◌, ◌<◌, ◌≤◌, pos, negsuc, nat_lt, arith, lit<, eqb-true, mod-lt, mul-le-mul}
-use Rattle.rv_runs.proofs.Words.{small_shift, Andi, AreInRange, AreValues, ComesOut, Do, EmitVState, Enters, FullValues, Int, Keeps, Next, Piece, Reg, RegClass, Rri, Same, SameBut, SameFull, Select, SelectInfo, Site, Slli, State, Values, all_of, alu_result_fits, alu_rri, and_mask, and_then}
-use Rattle.rv_runs.proofs.Words.{are_values_set, choice_pieces, chosen, class_of, compares, div-mul-add, evaluate, extend_pieces, immediate_of, inst_registers, ints, is_beyond, is_byte, is_int_class, is_other_class, list_any, low64, mod-pow-add, mul-div_cancel, mul-mod_left, mul_assoc, nat_tests}
-use Rattle.rv_runs.proofs.Words.{none_of_both, number_of, or_parts, point, pow-add, pow-suc, pow_pos, put_all, put_in, reads_back, reg, right_shift, rri_op, same_set, set_reg, set_regs, set_twice, shift_limit, signed, signed64, slots_alone, slots_of, to_z-of_z, value_in, value_of, wrap, written_in}
-use Rattle.rv_runs.proofs.Exits.{SlotsOut, RunsHere, same_but, Reaches, goes_on, reaches_such, pieces_out}
-use Rattle.rv_base.specs.declared.regs.RegClass.TheVariants.{Float}
-use Rattle.rv_full.specs.View.{zero_units}
-use Rattle.rv_runs.proofs.FullChoices.{AreAllowed, HasOrder, IsFairChoice, choice_comes, choice_range, chosen_fits, chosen_same, is_fair, order_of}
-use Rattle.std.specs.Int.Signed.{shr_z}
+use Rattle.std.proofs.Common.{Bool, List, [], ap, arith, eqb-true, false, if◌then◌else◌, lit<, map, mod-lt, mul-le-mul, nat_lt, negsuc, not, pos, refl, subst, suc, sym, true, zero, ℕ, ◌%◌, ◌*◌, ◌++◌, ◌+◌, ◌-◌, ◌/◌, ◌<◌, ◌^◌, ◌∙◌, ◌∷◌, ◌≡◌, ◌≤◌}
+use Rattle.rv_runs.proofs.Words.{Andi, AreInRange}
+use Rattle.rv_runs.proofs.Words.{AreValues, ComesOut, Do, EmitVState, Enters, FullValues, Int, Keeps, Next, Piece, Reg, Rri, Same, SameBut, Select, SelectInfo, Site, Slli, State, Values, all_of, alu_result_fits, alu_rri, and_then, are_values_set, chosen, class_of, compares, evaluate, extend_pieces}
+use Rattle.rv_runs.proofs.Words.{ints, is_byte, is_int_class, list_any, low64, nat_tests, number_of, or_parts, point, pow_pos, put_all, put_in, reads_back, reg, rri_op, same_set, set_reg, set_twice, signed, signed64, slots_alone, slots_of, small_shift, value_in, value_of, wrap, written_in}
+use Rattle.{rv_code.proofs.Operands.none_of_both, rv_full.specs.View.zero_units, rv_inst.specs.Bits.extended, rv_inst.specs.Meaning.set_regs, rv_inst.specs.Operands.inst_registers}
+use Rattle.{rv_inst.specs.Rules.is_beyond, rv_inst.specs.Rules.is_other_class, rv_inst.specs.Sizes.right_shift, rv_ops.specs.Operations.immediate_of, rv_ops.specs.Operations.shift_limit, rv_runs.proofs.Exits.Reaches, rv_runs.proofs.Exits.RunsHere, rv_runs.proofs.Exits.SlotsOut}
+use Rattle.rv_runs.proofs.{Exits.goes_on, Exits.pieces_out, Exits.reaches_such, Exits.same_but, FullChoices.AreAllowed, FullChoices.choice_comes, FullChoices.choice_range, FullChoices.chosen_fits, FullChoices.chosen_same, FullChoices.is_fair, FullChoices.order_of, FullChoices.ordered}
+use Rattle.std.{proofs.Math.Nat.mul-div_cancel, proofs.Math.Nat.mul-mod_left, proofs.Math.Nat.mul_assoc, proofs.Math.Nat.pow-suc, proofs.lemmas.Int.to_z-of_z, proofs.lemmas.Nat.and_mask, proofs.lemmas.Nat.div-mul-add, proofs.lemmas.Nat.mod-pow-add, proofs.lemmas.Nat.pow-add, specs.Int.Signed.shr_z}
 use mir.Syntax.{w64}
-use Rattle.rv_inst.specs.Bits.{extended}
 
 -- One of two values is chosen.
 
@@ -20,11 +18,7 @@ AreOfInt rs = AreAllowed (λ c. c ≡ Int) rs
 
 are_of_int : (rs : List Reg) → list_any is_other_class rs ≡ false → AreOfInt rs
 are_of_int [] e = tt
-are_of_int (r ∷ rs) e = let parts = or_parts (is_other_class r) (list_any is_other_class rs) e in (by (class_of r) parts.0, are_of_int rs parts.1)
-  where
-    by : (c : RegClass) → not (is_int_class c) ≡ false → c ≡ Int
-    by Float e = absurd (cc)
-    by c e = cc
+are_of_int (r ∷ rs) e = let parts = or_parts (is_other_class r) (list_any is_other_class rs) e in ((elim (class_of r) as (λ c. not (is_int_class c) ≡ false → c ≡ Int) [ Int ↦ λ e. refl | _ ↦ λ e. absurd (cc) ]) parts.0, are_of_int rs parts.1)
 
 ints_put : (v : FullValues) (rds : List Reg) (xs : List ℕ) → AreOfInt rds → (put_all v rds xs).ints ≡ set_regs v.ints (map number_of rds) xs
 ints_put v (rd ∷ rds) (x ∷ xs) ints = subst (λ c. (put_all (put_in c v (number_of rd) x) rds xs).ints ≡ set_regs (set_reg v.ints (number_of rd) x) (map number_of rds) xs) (sym ints.0) (ints_put (put_in Int v (number_of rd) x) rds xs ints.1)
@@ -42,40 +36,22 @@ ints_chosen v false rds xs ys ints first second = ints_put v rds (map (value_of 
 
 pub select_runs : (site : Site) (setting : EmitVState) (start after : ℕ) (s : State) (v : Values) (info : SelectInfo) → list_any is_other_class (inst_registers (Select info)) ≡ false → Keeps (Select info) → RunsHere site setting (Select info) start after s v
 select_runs site setting start after s v info placed k e clear =
-    subst (λ u. ComesOut site start after Next [] u s) (ints_chosen (with_none v) (compares info.condition v) rds (all_of info.x) (all_of info.y) ints (are_of_int (info.condition.rs1 ∷ info.condition.rs2 ∷ all_of info.x) parts.1).1.1 (are_of_int (all_of info.y) both.1))
-    (pieces_out whole [] (chosen info (with_none v)).ints (choice_range rds o.first o.second o.how _ _) (subst (λ ps. Enters site start after (slots_alone (slots_of site.context.flags ps)) s v) o.pieces e)
-    (comes (with_none v) (with_none s.values) e.are_values e.is_state.values (record { ints = e.same; units = refl })) (λ all. chosen_fits info h (with_none v) e.are_values))
-  where
-    rds : List Reg
-    rds = written_in info.dst
-
-    both : (list_any is_other_class (rds ++ info.condition.rs1 ∷ info.condition.rs2 ∷ all_of info.x) ≡ false) × (list_any is_other_class (all_of info.y) ≡ false)
-    both = none_of_both is_other_class (rds ++ info.condition.rs1 ∷ info.condition.rs2 ∷ all_of info.x) (all_of info.y) placed
-
-    parts : (list_any is_other_class rds ≡ false) × (list_any is_other_class (info.condition.rs1 ∷ info.condition.rs2 ∷ all_of info.x) ≡ false)
-    parts = none_of_both is_other_class rds (info.condition.rs1 ∷ info.condition.rs2 ∷ all_of info.x) both.0
-
-    ints : AreOfInt rds
-    ints = are_of_int rds parts.0
-
-    h : IsFairChoice info
-    h = is_fair info.dst info.condition info.x info.y k
-
-    o : HasOrder info
-    o = order_of info h
-
-    whole : List Piece
-    whole = choice_pieces rds o.first o.second o.how (number_of info.condition.rs1) (number_of info.condition.rs2)
-
-    with_none : Values → FullValues
-    with_none v = record { ints = v; units = zero_units }
-
-    comes : (v w : FullValues) → AreValues v.ints → AreValues w.ints → SameFull v w → Reaches whole (point whole w.ints) [] (SameBut [] (chosen info v).ints)
-    comes v w hv hw same =
-        reaches_such (λ t is. subst (SameBut [] (chosen info v).ints) (sym is) (same_but [] (chosen_same info h v w hv hw same).ints))
-        (choice_comes info h (λ c. c ≡ Int) (λ ps u. Reaches whole (point ps u.ints) [] (λ t. t ≡ (chosen info w).ints))
-        (λ ps qs u z step on. goes_on {Such = λ t. t ≡ z} (record { count = 1; values = z; ran = ap (λ q. and_then q (evaluate 0 whole)) step; such = refl }) (λ t is. subst (λ t. Reaches whole (point qs t) [] (λ t. t ≡ (chosen info w).ints)) (sym is) on))
-        (λ rd rs ps u none on. absurd (cc)) w ints hw (record { count = 0; values = (chosen info w).ints; ran = refl; such = refl }))
+    let rds = written_in info.dst in
+    let inputs = info.condition.rs1 ∷ info.condition.rs2 ∷ all_of info.x in
+    let both = none_of_both is_other_class (rds ++ inputs) (all_of info.y) placed in
+    let parts = none_of_both is_other_class rds inputs both.0 in
+    let ints = are_of_int rds parts.0 in
+    let h = is_fair info.dst info.condition info.x info.y k in
+    let o = order_of info h in
+    let whole = ordered info h in
+    let u : FullValues = record { ints = v; units = zero_units } in
+    let w : FullValues = record { ints = s.values; units = zero_units } in
+    let comes : Reaches whole (point whole s.values) [] (λ t. t ≡ (chosen info w).ints) = choice_comes info h (λ c. c ≡ Int) (λ ps r. Reaches whole (point ps r.ints) [] (λ t. t ≡ (chosen info w).ints))
+    (λ ps qs r z step on. goes_on {Such = λ t. t ≡ z} (record { count = 1; values = z; ran = ap (λ q. and_then q (evaluate 0 whole)) step; such = refl }) (λ t is. subst (λ t. Reaches whole (point qs t) [] (λ t. t ≡ (chosen info w).ints)) (sym is) on))
+    (λ rd rs ps r none on. absurd (cc)) w ints e.is_state.values (record { count = 0; values = (chosen info w).ints; ran = refl; such = refl }) in
+    subst (λ r. ComesOut site start after Next [] r s) (ints_chosen u (compares info.condition v) rds (all_of info.x) (all_of info.y) ints (are_of_int inputs parts.1).1.1 (are_of_int (all_of info.y) both.1))
+    (pieces_out whole [] (chosen info u).ints (choice_range rds o.first o.second o.how _ _) (subst (λ ps. Enters site start after (slots_alone (slots_of site.context.flags ps)) s v) o.pieces e)
+    (reaches_such (λ t is. subst (SameBut [] (chosen info u).ints) (sym is) (same_but [] (chosen_same info h u w e.are_values e.is_state.values (record { ints = e.same; units = refl })).ints)) comes) (λ all. chosen_fits info h u e.are_values))
 
 -- The low bits of a register are extended.
 
@@ -83,8 +59,7 @@ select_runs site setting start after s v info placed k e clear =
 
 -- a shift to the left drops the high bits
 shifted : (x bits k : ℕ) → bits + k ≡ 64 → wrap (x * 2 ^ k) ≡ x % 2 ^ bits * 2 ^ k
-shifted x bits k all =
-    ap (λ n. x * 2 ^ k % 2 ^ n) (sym all) ∙ (mod-pow-add (x * 2 ^ k) bits k) ∙ (λ i. (mul-div_cancel x (pow_pos k)) i % 2 ^ bits * 2 ^ k + (mul-mod_left x (2 ^ k)) i) ∙ omega arith
+shifted x bits k all = ap (λ n. x * 2 ^ k % 2 ^ n) (sym all) ∙ (mod-pow-add (x * 2 ^ k) bits k) ∙ (λ i. (mul-div_cancel x (pow_pos k)) i % 2 ^ bits * 2 ^ k + (mul-mod_left x (2 ^ k)) i) ∙ omega arith
 
 -- numbers of 64 bits, read as signed ones
 negative : (n m : ℕ) → 2 ^ 63 ≤ n → n + suc m ≡ 2 ^ 64 → signed64 n ≡ negsuc m
@@ -94,21 +69,20 @@ negative n m high all =
 
 -- and one back copies the highest bit
 signed_back : (half power n : ℕ) → half * power ≡ 2 ^ 63 → 0 < power → n < 2 * half → shr_z (signed64 (n * power)) power ≡ signed half n
-signed_back half power n whole some lt = by (nat_lt n half) refl
-  where
-    by : (c : Bool) → nat_lt n half ≡ c → shr_z (signed64 (n * power)) power ≡ (if c then pos n else negsuc (2 * half - suc n))
-    by true test =
-        let below : n < half = grind (arith, nat_tests) in
-        let more : (n + 1) * power ≤ half * power = mul-le-mul (omega arith) (omega arith) in
-        let fits : n * power < 2 ^ 63 = omega arith in
-        let e : signed64 (n * power) ≡ pos (n * power) = omega (arith, ints) in
-        ap (λ z. shr_z z power) e ∙ ap pos (mul-div_cancel n some)
-    by false test =
-        let above : half ≤ n = grind (arith, nat_tests) in
-        let m = 2 * half - suc n in
-        let all : (n + m + 1) * power ≡ 2 * (half * power) = (let e : n + m + 1 ≡ 2 * half = omega arith in ap (λ j. j * power) e ∙ mul_assoc 2 half power) in
-        let high : half * power ≤ n * power = mul-le-mul above (omega arith) in
-        ap (λ z. shr_z z power) (negative (n * power) (m * power + (power - 1)) (omega arith) (omega arith)) ∙ ap negsuc (div-mul-add m power (power - 1) (omega arith))
+signed_back half power n whole some lt =
+    (elim (nat_lt n half) as (λ c. nat_lt n half ≡ c → shr_z (signed64 (n * power)) power ≡ (if c then pos n else negsuc (2 * half - suc n))) [
+      | true ↦ λ test.
+          let below : n < half = grind (arith, nat_tests) in
+          let more : (n + 1) * power ≤ half * power = mul-le-mul (omega arith) (omega arith) in
+          let e : signed64 (n * power) ≡ pos (n * power) = omega (arith, ints) in
+          ap (λ z. shr_z z power) e ∙ ap pos (mul-div_cancel n some)
+      | false ↦ λ test.
+          let above : half ≤ n = grind (arith, nat_tests) in
+          let m = 2 * half - suc n in
+          let all : (n + m + 1) * power ≡ 2 * (half * power) = (let e : n + m + 1 ≡ 2 * half = omega arith in ap (λ j. j * power) e ∙ mul_assoc 2 half power) in
+          let high : half * power ≤ n * power = mul-le-mul above (omega arith) in
+          ap (λ z. shr_z z power) (negative (n * power) (m * power + (power - 1)) (omega arith) (omega arith)) ∙ ap negsuc (div-mul-add m power (power - 1) (omega arith))
+    ]) refl
 
 -- the shifts of an extension
 extended_back : (x bits k : ℕ) (sign : Bool) → 1 ≤ bits → bits + k ≡ 64 → alu_rri (right_shift sign) (x % 2 ^ bits * 2 ^ k) (pos k) ≡ extended sign bits x
@@ -117,8 +91,7 @@ extended_back x bits k true some all =
     let one : suc (bits - 1) ≡ bits = omega arith in
     let double : 2 ^ bits ≡ 2 * 2 ^ (bits - 1) = ap (λ n. 2 ^ n) (sym one) ∙ pow-suc 2 (bits - 1) ∙ omega arith in
     let rest : bits - 1 + k ≡ 63 = omega arith in
-    let lt = mod-lt x (pow_pos bits) in
-    ap (λ n. low64 (shr_z (signed64 (x % 2 ^ bits * 2 ^ k)) (2 ^ n))) amount ∙ ap low64 (signed_back (2 ^ (bits - 1)) (2 ^ k) (x % 2 ^ bits) (sym (pow-add 2 (bits - 1) k) ∙ ap (λ n. 2 ^ n) rest) (pow_pos k) (omega arith))
+    ap (λ n. low64 (shr_z (signed64 (x % 2 ^ bits * 2 ^ k)) (2 ^ n))) amount ∙ ap low64 (signed_back (2 ^ (bits - 1)) (2 ^ k) (x % 2 ^ bits) (sym (pow-add 2 (bits - 1) k) ∙ ap (λ n. 2 ^ n) rest) (pow_pos k) (omega (arith, mod-lt x (pow_pos bits))))
 extended_back x bits k false some all = (let amount : low64 (pos k) % 64 ≡ k = omega (arith, ints) in ap (λ n. x % 2 ^ bits * 2 ^ k / 2 ^ n) amount) ∙ mul-div_cancel (x % 2 ^ bits) (pow_pos k)
 
 extended_by : (x bits : ℕ) (sign : Bool) → 1 ≤ bits → bits ≤ 64 → alu_rri (right_shift sign) (alu_rri Slli x (pos (64 - bits))) (pos (64 - bits)) ≡ extended sign bits x
@@ -128,23 +101,13 @@ extended_by x bits sign some few =
     let amount : low64 (pos k) % 64 ≡ k = omega (arith, ints) in
     ap (λ y. alu_rri (right_shift sign) y (pos k)) (ap (λ n. wrap (x * 2 ^ n)) amount ∙ shifted x bits k all) ∙ extended_back x bits k sign some all
 
--- the low byte
-low_byte : (x bits : ℕ) (sign : Bool) → is_byte sign bits ≡ true → alu_rri Andi x (pos 255) ≡ extended sign bits x
-low_byte x bits true e = absurd (cc)
-low_byte x bits false e = and_mask x 8 ∙ ap (λ n. x % 2 ^ n) (sym (eqb-true bits 8 e))
-
 -- ---- the sequence
 
 -- a register is computed in two steps, the second from the first
 twice_same : (v w : Values) (n x : ℕ) (back : ℕ → ℕ) → AreValues v → AreValues w → n < 32 → Same v w → Same (set_reg v n (back x)) (set_reg (set_reg w n x) n (back (reg (set_reg w n x) n)))
 twice_same v w zero x back hv hw lt same = same
 twice_same v w (suc n) x back hv hw lt same =
-    let read = reads_back w (suc n) x hw (omega arith) lt in
-    subst (Same (set_reg v (suc n) (back x))) (sym (set_twice w (suc n) x (back (reg (set_reg w (suc n) x) (suc n))) ∙ ap (λ y. set_reg w (suc n) (back y)) read)) (same_set v w (suc n) (back x) hv hw lt same)
-
-not_beyond : (sign : Bool) (k : ℕ) → k < 64 → is_beyond (shift_limit (immediate_of (right_shift sign))) (pos k) ≡ false
-not_beyond true k lt = small_shift k lt
-not_beyond false k lt = small_shift k lt
+    subst (Same (set_reg v (suc n) (back x))) (sym (set_twice w (suc n) x (back (reg (set_reg w (suc n) x) (suc n))) ∙ ap (λ y. set_reg w (suc n) (back y)) (reads_back w (suc n) x hw (omega arith) lt))) (same_set v w (suc n) (back x) hv hw lt same)
 
 -- pieces that give the register such a number
 gives : {site : Site} {start after : ℕ} {s : State} {v : Values} (whole : List Piece) (rd x y : ℕ) → AreInRange whole → rd < 32 → x < 2 ^ 64 → x ≡ y → Enters site start after (slots_alone (slots_of site.context.flags whole)) s v → Reaches whole (point whole s.values) [] (Same (set_reg v rd x)) → ComesOut site start after Next [] (set_reg v rd y) s
@@ -153,26 +116,24 @@ gives {site} {start} {after} {s} {v} whole rd x y ranges lt fits is e r =
     (pieces_out whole [] (set_reg v rd x) ranges e (reaches_such (λ w same. same_but [] same) r) (λ all. are_values_set v rd x e.are_values lt fits))
 
 pub extend_out : {site : Site} {start after : ℕ} {s : State} {v : Values} (rd rn bits : ℕ) (sign : Bool) → rd < 30 → rn < 30 → 1 ≤ bits → bits ≤ 64 → SlotsOut site start after (slots_of site.context.flags (extend_pieces rd rn sign bits)) s v [] (set_reg v rd (extended sign bits (reg v rn)))
-extend_out {site} {start} {after} {s} {v} rd rn bits sign below read some few e = by (is_byte sign bits) refl e
-  where
-    w : Values
-    w = s.values
-
-    by : (c : Bool) → is_byte sign bits ≡ c →
-        SlotsOut site start after (slots_of site.context.flags (if c then Do (Rri Andi rd rn (pos 255)) ∷ [] else Do (Rri Slli rd rn (pos (64 - bits))) ∷ Do (Rri (right_shift sign) rd rd (pos (64 - bits))) ∷ [])) s v [] (set_reg v rd (extended sign bits (reg v rn)))
-    by true test e =
-        let y = alu_rri Andi (reg v rn) (pos 255) in
-        let lt : rd < 32 = omega arith in
-        gives (Do (Rri Andi rd rn (pos 255)) ∷ []) rd y _ ((lt, refl, lit< tt), tt) lt (alu_result_fits (rri_op Andi) (reg v rn) 0 255 (e.are_values.fits rn) (lit< tt) (lit< tt)) (low_byte (reg v rn) bits sign test) e
-        (record { count = 1; values = _; ran = refl; such = subst (λ z. Same (set_reg v rd y) (set_reg w rd (alu_rri Andi z (pos 255)))) (e.same.regs rn read) (same_set v w rd y e.are_values e.is_state.values lt e.same) })
-    -- from what the register holds, which is the same in both
-    by false test e =
-        let k = 64 - bits in
-        let small : k < 64 = omega arith in
-        let low : low64 (pos k) < 2 ^ 64 = omega (arith, ints) in
-        let lt : rd < 32 = omega arith in
-        let x = alu_rri Slli (reg v rn) (pos k) in
-        let back = λ (y : ℕ). alu_rri (right_shift sign) y (pos k) in
-        let fits : x < 2 ^ 64 = alu_result_fits (rri_op Slli) (reg v rn) 0 (low64 (pos k)) (e.are_values.fits rn) (lit< tt) low in
-        gives (Do (Rri Slli rd rn (pos k)) ∷ Do (Rri (right_shift sign) rd rd (pos k)) ∷ []) rd (back x) _ ((lt, small_shift k small, low), ((lt, not_beyond sign k small, low), tt)) lt (alu_result_fits (rri_op (right_shift sign)) x 0 (low64 (pos k)) fits (lit< tt) low) (extended_by (reg v rn) bits sign some few) e
-        (record { count = 2; values = _; ran = refl; such = subst (λ z. let w1 = set_reg w rd (alu_rri Slli z (pos k)) in Same (set_reg v rd (back x)) (set_reg w1 rd (back (reg w1 rd)))) (e.same.regs rn read) (twice_same v w rd x back e.are_values e.is_state.values lt e.same) })
+extend_out {site} {start} {after} {s} {v} rd rn bits sign below read some few e =
+    let w = s.values in
+    let k = 64 - bits in
+    let lt : rd < 32 = omega arith in
+    (elim (is_byte sign bits) as (λ c. is_byte sign bits ≡ c → SlotsOut site start after (slots_of site.context.flags (if c then Do (Rri Andi rd rn (pos 255)) ∷ [] else Do (Rri Slli rd rn (pos k)) ∷ Do (Rri (right_shift sign) rd rd (pos k)) ∷ [])) s v [] (set_reg v rd (extended sign bits (reg v rn)))) [
+      | true ↦ λ test e.
+          let y = alu_rri Andi (reg v rn) (pos 255) in
+          gives (Do (Rri Andi rd rn (pos 255)) ∷ []) rd y _ ((lt, refl, lit< tt), tt) lt (alu_result_fits (rri_op Andi) (reg v rn) 0 255 (e.are_values.fits rn) (lit< tt) (lit< tt))
+          ((elim sign as (λ c. is_byte c bits ≡ true → alu_rri Andi (reg v rn) (pos 255) ≡ extended c bits (reg v rn)) [ true ↦ λ test. absurd (cc) | false ↦ λ test. and_mask (reg v rn) 8 ∙ ap (λ n. reg v rn % 2 ^ n) (sym (eqb-true bits 8 test)) ]) test) e
+          (record { count = 1; values = _; ran = refl; such = subst (λ z. Same (set_reg v rd y) (set_reg w rd (alu_rri Andi z (pos 255)))) (e.same.regs rn read) (same_set v w rd y e.are_values e.is_state.values lt e.same) })
+      -- from what the register holds, which is the same in both
+      | false ↦ λ test e.
+          let small : k < 64 = omega arith in
+          let low : low64 (pos k) < 2 ^ 64 = omega (arith, ints) in
+          let x = alu_rri Slli (reg v rn) (pos k) in
+          let back = λ (y : ℕ). alu_rri (right_shift sign) y (pos k) in
+          let fits : x < 2 ^ 64 = alu_result_fits (rri_op Slli) (reg v rn) 0 (low64 (pos k)) (e.are_values.fits rn) (lit< tt) low in
+          gives (Do (Rri Slli rd rn (pos k)) ∷ Do (Rri (right_shift sign) rd rd (pos k)) ∷ []) rd (back x) _ ((lt, small_shift k small, low), ((lt, elim sign as (λ c. is_beyond (shift_limit (immediate_of (right_shift c))) (pos k) ≡ false) [ true ↦ small_shift k small | false ↦ small_shift k small ], low), tt)) lt
+          (alu_result_fits (rri_op (right_shift sign)) x 0 (low64 (pos k)) fits (lit< tt) low) (extended_by (reg v rn) bits sign some few) e
+          (record { count = 2; values = _; ran = refl; such = subst (λ z. let w1 = set_reg w rd (alu_rri Slli z (pos k)) in Same (set_reg v rd (back x)) (set_reg w1 rd (back (reg w1 rd)))) (e.same.regs rn read) (twice_same v w rd x back e.are_values e.is_state.values lt e.same) })
+    ]) refl e

@@ -1,42 +1,22 @@
 -- What the machine with all units does at an operation of a unit, and which instructions are one.
-use Rattle.std.proofs.Common.{rules, ◌≡◌, ◌≢◌, ◌⊎◌, inl, inr, ℕ, ◌+◌, ◌%◌, ◌^◌, ◌<◌, Bool, true, false, List, [], ◌∷◌, length, Some, None, arith, refl, sym, ap, subst, ◌∙◌, ⊎_elim, FitsSigned, T, leb, w16, w32, w64, lt_of_le_of_lt, ◌-◌, nat_eq, if◌then◌else◌, slice_index, slice_set, unwrap_or}
-use Rattle.std.proofs.Common.{Option}
-use Rattle.rv_runs.proofs.Words.{fiter_after, fiter_none, Absent, Agree, AllByRecursion, Answer, AnswerFits, Answered, AreUnits, AreUsableIn, AreValues, Asks, CodeHas, Context, CsrImm, CsrReg, Decoded, EmitVState, Fli, FloatFormat, FpuRR, FpuRRR, FpuRRRR, FullState, FullValues, H, Halts, Inst, IsAt}
-use Rattle.rv_runs.proofs.Words.{IsUsableCsr, IsUsableIn, IsUsableShape, IsUsableSource, IsUsableTarget, IsaFlags, Nop0, OneNumber, Row, RowAsks, RowGoes, RowsAgree, S, SameFull, Sign, Site, State, Takes, ToFloat, ToInteger, UnitWord, Units, Width, act, and_le_l, are_values_set, bits_of, boxed}
-use Rattle.rv_runs.proofs.Words.{cases_eq, cast_signed, decoded_csr_imm, decoded_csr_reg, decodes_at, entry_of, fits, float_shape, format_of, freg, full_at, inputs_of, ints, is_move, low64, low_part, next_by, noted, number_of, number_row, or_lt, parts_of, put_f, put_number, put_units, row_next}
-use Rattle.rv_runs.proofs.Words.{same_set, same_step, set_freg, set_frm, shape_row, step_on, stepped, unit_on, unit_parts, unit_row, unit_word, values_of, wrap, x_of}
-use mir.Val.{hbits}
-use Rattle.std.proofs.Math.Facts.{sfits_widen, Fits-of_z, Fits-lt-pow}
-use Rattle.std.proofs.Math.Seq.{get_or-set_other}
-use Rattle.std.proofs.Math.ListN.{length-set}
-use Rattle.std.proofs.lemmas.Grind.{get_or-set_at}
-use Rattle.rv_machine.specs.declared.ops.FloatFormat.TheVariants.{D}
-use Rattle.rv_machine.specs.declared.ops.CsrOp.{CsrOp}
-use Rattle.rv_machine.specs.declared.ops.CsrOp.TheVariants.{Csrrw, Csrrs, Csrrc, Csrrwi, Csrrsi, Csrrci}
-use Rattle.rv_full.specs.declared.answer.Answer.TheVariants.{Bits}
-use Rattle.rv_full.specs.declared.shapes.Sources.{Sources}
-use Rattle.rv_full.specs.declared.shapes.Target.{Target}
-use Rattle.rv_full.specs.declared.shapes.FloatShape.{FloatShape}
-use Rattle.rv_full.specs.Atomics.{csr_result, csr_row}
-use Rattle.rv_full.specs.Floats.{extended}
-use Rattle.rv_full.specs.Rows.{Does}
-use Rattle.rv_full.specs.Steps.{Goes, fiter, fnext}
-use Rattle.rv_ops.specs.declared.csr.CsrImmOP.{CsrImmOP}
-use Rattle.rv_ops.specs.declared.csr.CsrImmOP.TheVariants.{CsrRWI}
-use Rattle.rv_ops.specs.declared.csr.CsrRegOP.{CsrRegOP}
-use Rattle.rv_ops.specs.declared.csr.CsrRegOP.TheVariants.{CsrRW}
-use Rattle.rv_ops.specs.declared.fpu.FpuOPRRR.{FpuOPRRR}
-use Rattle.rv_ops.specs.declared.fpu.FpuOPRRRR.{FpuOPRRRR}
-use Rattle.rv_ops.specs.declared.fpu_rr.FpuOPRR.{FpuOPRR}
-use Rattle.rv_ops.specs.Csr.{csr_imm_op, csr_reg_op}
-use Rattle.rv_ops.specs.Fpu.{fpu_rr_files, fpu_rr_op, fpu_rrr_op, fpu_rrr_result, fpu_rrrr_op}
-use Rattle.rv_inst.specs.declared.units.PlacedReg.{PlacedReg}
+use Rattle.std.proofs.Common.{Bool, FitsSigned, List, None, Option, Some, T, [], ap, arith, false, if◌then◌else◌, inl, inr, leb, length, lt_of_le_of_lt, nat_eq, refl, rules, slice_index, slice_set, subst, sym, true, unwrap_or, w16, w32, w64, ℕ, ◌%◌, ◌+◌, ◌-◌, ◌<◌, ◌^◌, ◌∙◌, ◌∷◌, ◌≡◌, ◌≢◌, ◌⊎◌}
+use Rattle.rv_runs.proofs.Words.{AllByRecursion}
+use Rattle.rv_runs.proofs.Words.{Answer, AnswerFits, AreUnits, AreUsableIn, AreValues, CodeHas, Context, D, Decoded, Does, EmitVState, FloatFormat, FullState, FullValues, H, Inst, IsAt, IsUsableIn, IsaFlags, Nop0, Row, RowAsks, RowGoes, RowsAgree, S, SameFull, Sign, Site, State, Units}
+use Rattle.rv_runs.proofs.Words.{act, are_values_set, boxed, cast_signed, decodes_at, extended, fiter_after, fiter_none, format_of, freg, full_at, inputs_of, ints, low64, low_part, number_of, number_row, or_lt, parts_of, put_f, put_units, row_next, same_set, set_freg, unit_row, values_of, wrap}
+use Rattle.rv_code.specs.{InstParts.unit_parts, UnitRuns.Agree, UnitRuns.IsUsableCsr, UnitRuns.IsUsableShape, UnitRuns.IsUsableSource, UnitRuns.IsUsableTarget}
+use Rattle.{rv_encode.specs.Operations.decoded_csr_imm, rv_encode.specs.Operations.decoded_csr_reg, rv_full.specs.Atomics.csr_result, rv_full.specs.Atomics.csr_row, rv_full.specs.Floats.float_shape, rv_full.specs.Floats.is_move}
+use Rattle.rv_full.specs.{Floats.put_number, Floats.shape_row, Rows.Absent, Rows.OneNumber, Rows.Takes, Rows.bits_of, Rows.entry_of, Rows.fits, Rows.noted, Rows.x_of, Steps.Asks, Steps.Goes, Steps.Halts, Steps.fiter, Steps.fnext, Steps.next_by, Steps.stepped, Steps.unit_on, Units.set_frm}
+use Rattle.rv_full.specs.declared.{answer.Answer.TheVariants.Bits, shapes.FloatShape.FloatShape, shapes.FloatShape.TheVariants.Answered, shapes.FloatShape.TheVariants.ToFloat, shapes.FloatShape.TheVariants.ToInteger, shapes.Sources.Sources, shapes.Target.Target}
+use Rattle.rv_inst.specs.{UnitWords.UnitWord, UnitWords.unit_word, declared.inst.Inst.TheVariants.CsrImm, declared.inst.Inst.TheVariants.CsrReg, declared.inst.Inst.TheVariants.Fli, declared.inst.Inst.TheVariants.FpuRR, declared.inst.Inst.TheVariants.FpuRRR, declared.inst.Inst.TheVariants.FpuRRRR}
+use Rattle.{rv_inst.specs.declared.units.PlacedReg.PlacedReg, rv_machine.proofs.UnitOperations.same_step, rv_machine.specs.Steps.step_on}
+use Rattle.rv_machine.specs.declared.ops.{CsrOp.CsrOp, CsrOp.TheVariants.Csrrc, CsrOp.TheVariants.Csrrci, CsrOp.TheVariants.Csrrs, CsrOp.TheVariants.Csrrsi, CsrOp.TheVariants.Csrrw, CsrOp.TheVariants.Csrrwi, FloatOp.TheVariants.Fli as FloatFli}
+use Rattle.rv_ops.specs.{Csr.csr_imm_op, Csr.csr_reg_op, Fpu.fpu_rr_files, Fpu.fpu_rr_op, Fpu.fpu_rrr_op, Fpu.fpu_rrr_result, Fpu.fpu_rrrr_op}
+use Rattle.rv_ops.specs.declared.{csr.CsrImmOP.TheVariants.CsrRWI, csr.CsrRegOP.TheVariants.CsrRW, fpu.FpuOPRRR.FpuOPRRR, fpu.FpuOPRRR.TheVariants.Fsgnj, fpu.FpuOPRRRR.FpuOPRRRR, fpu.FpuOPRRRR.TheVariants.Fmadd, fpu_rr.FpuOPRR.FpuOPRR}
+use Rattle.rv_ops.specs.declared.fpu_rr.FpuOPRR.TheVariants.{FcvtFmtL, FcvtFmtLu, FcvtFmtW, FcvtFmtWu, FmvFmtX, FmvXFmt}
+use Rattle.std.proofs.{Math.Facts.Fits-lt-pow, Math.Facts.Fits-of_z, Math.Facts.sfits_widen, Math.ListN.length-set, Math.Seq.get_or-set_other, lemmas.Bool.cases_eq, lemmas.Grind.get_or-set_at, lemmas.Nat.and_le_l}
+use mir.{Syntax.Width, Val.hbits}
 use Rattle.rv_full.specs.declared.shapes.Sources.TheVariants as sources
 use Rattle.rv_full.specs.declared.shapes.Target.TheVariants as target
-use Rattle.rv_ops.specs.declared.fpu.FpuOPRRR.TheVariants as rrr
-use Rattle.rv_ops.specs.declared.fpu.FpuOPRRRR.TheVariants as rrrr
-use Rattle.rv_ops.specs.declared.fpu_rr.FpuOPRR.TheVariants as rr
-use Rattle.rv_machine.specs.declared.ops.FloatOp.TheVariants as float
 
 -- At a unit's operation the machine with all units does its row; and float operations, and those on frm, do the same with values that
 -- are the same. That is proved by what an operation reads and writes, and not for each.
@@ -77,33 +57,22 @@ more_steps {site} {b = b} x on =
 pub row_comes : (pc : ℕ) (w : FullValues) (x y : Row) (answers : List Answer) → RowsAgree w x y → AllByRecursion AnswerFits answers → RowGoes pc w x y answers ⊎ RowAsks pc x y answers
 row_comes pc w (Does x) (Does y) answers r fit = inl (record { took = []; left = answers; made = x; after = y; parted = refl; takes = refl; next = refl; agree = r; fit = fit })
 row_comes pc w (Takes k f) (Takes l g) [] r fit = inr (record { kind = k; gives = f; takes = refl; lacks = refl; asks = refl })
-row_comes pc w (Takes k f) (Takes l g) (a ∷ more) r fit = on (fits k a) refl
-  where
-    next : (c : Bool) → fits k a ≡ c → row_next pc (Takes l g) (a ∷ more) ≡ (if c then Goes (full_at pc (g a) more) else Asks)
-    next c e = (λ i. if fits (sym r.0 i) a then Goes (full_at pc (g a) more) else Asks) ∙ ap (λ t. if t then Goes (full_at pc (g a) more) else Asks) e
-
-    on : (c : Bool) → fits k a ≡ c → RowGoes pc w (Takes k f) (Takes l g) (a ∷ more) ⊎ RowAsks pc (Takes k f) (Takes l g) (a ∷ more)
-    on true e = inl (record { took = a ∷ []; left = more; made = f a; after = g a; parted = refl; takes = ap (λ t. if t then Some (f a, []) else None) e; next = next true e; agree = r.1 a e fit.0; fit = fit.1 })
-    on false e = inr (record { kind = k; gives = f; takes = refl; lacks = ap (λ t. if t then Some (f a, more) else None) e; asks = next false e })
+row_comes pc w (Takes k f) (Takes l g) (a ∷ more) r fit =
+    let next : (c : Bool) → fits k a ≡ c → row_next pc (Takes l g) (a ∷ more) ≡ (if c then Goes (full_at pc (g a) more) else Asks) = λ c e. (λ i. if fits (sym r.0 i) a then Goes (full_at pc (g a) more) else Asks) ∙ ap (λ t. if t then Goes (full_at pc (g a) more) else Asks) e in
+    (elim (fits k a) as (λ c. fits k a ≡ c → RowGoes pc w (Takes k f) (Takes l g) (a ∷ more) ⊎ RowAsks pc (Takes k f) (Takes l g) (a ∷ more)) [
+      | true ↦ λ e. inl (record { took = a ∷ []; left = more; made = f a; after = g a; parted = refl; takes = ap (λ t. if t then Some (f a, []) else None) e; next = next true e; agree = r.1 a e fit.0; fit = fit.1 })
+      | false ↦ λ e. inr (record { kind = k; gives = f; takes = refl; lacks = ap (λ t. if t then Some (f a, more) else None) e; asks = next false e })
+    ]) refl
 row_comes pc w Absent Absent answers r fit = absurd r
 row_comes pc w x y answers r fit = absurd r
 
 -- ---- registers
 
 float_set_fits : (xs : List ℕ) (n m x : ℕ) → length xs ≡ 32 → n < 32 → x < 2 ^ 64 → slice_index xs m < 2 ^ 64 → slice_index (slice_set xs n x) m < 2 ^ 64
-float_set_fits xs n m x long lt small h =
-    ⊎_elim
-    (λ (here : m ≡ n). let e = get_or-set_at xs n m x 0 here (omega arith) in omega arith)
-    (λ (other : m ≢ n). let e = get_or-set_other xs n m x 0 other in omega arith)
-    (cases_eq m n)
+float_set_fits xs n m x long lt small h = grind (arith, get_or-set_at xs n m x 0, get_or-set_other xs n m x 0, cases_eq m n)
 
 pub float_set : (u : Units) (n x : ℕ) → AreUnits u → n < 32 → x < 2 ^ 64 → AreUnits (set_freg u n x)
 float_set u n x h lt small = record { float_count = length-set u.floats n x ∙ h.float_count; float_fits = λ m. float_set_fits u.floats n m x h.float_count lt small (h.float_fits m); vector_count = h.vector_count; vector_fits = h.vector_fits; frm_fits = h.frm_fits; reserved_fits = h.reserved_fits; avl_fits = h.avl_fits; vtype_fits = h.vtype_fits }
-
--- an answer of its kind has 64 bits
-number_fits : (a : Answer) → fits OneNumber a ≡ true → AnswerFits a → unwrap_or (bits_of a) 0 < 2 ^ 64
-number_fits (Bits x) fit h = h
-number_fits _ fit h = absurd (cc)
 
 -- bits that are moved between the two files
 pub extended_fits : (width : Width) (n : ℕ) → T (leb (hbits width) (hbits w64)) → low64 (cast_signed width n) < 2 ^ 64
@@ -113,10 +82,6 @@ pub extended_small : (format : FloatFormat) (n : ℕ) → n < 2 ^ 64 → extende
 extended_small H n lt = extended_fits w16 (n % 2 ^ 16) tt
 extended_small S n lt = extended_fits w32 (n % 2 ^ 32) tt
 extended_small D n lt = lt
-
-boxed_small : (format : FloatFormat) (n : ℕ) → n < 2 ^ 64 → boxed format (low_part format n) < 2 ^ 64
-boxed_small D n lt = lt
-boxed_small format n lt = omega arith
 
 -- what goes to frm has three bits
 csr_small : (op : CsrOp) (old x imm : ℕ) → old < 8 → csr_result op old x imm < 8
@@ -150,18 +115,18 @@ module _ (d : Decoded) (v w : FullValues) (same : SameFull v w) (are_values : Ar
   number_agrees to from source low = (
     refl,
     λ a fit answer.
-        put_same to (unwrap_or (bits_of a) 0) (noted (entry_of d v.units (inputs_of from d v) [] a) v.units) (noted (entry_of d w.units (inputs_of from d w) [] a) w.units) low (number_fits a fit answer)
+        put_same to (unwrap_or (bits_of a) 0) (noted (entry_of d v.units (inputs_of from d v) [] a) v.units) (noted (entry_of d w.units (inputs_of from d w) [] a) w.units) low ((elim a as (λ a. fits OneNumber a ≡ true → AnswerFits a → unwrap_or (bits_of a) 0 < 2 ^ 64) [ Bits x ↦ λ fit small. small | _ ↦ λ fit small. absurd (cc) ]) fit answer)
         (λ i. noted (entry_of d (same.units i) (inputs_same from source i) [] a) (same.units i))
         (search (rules, are_units)) refl,
   )
 
   -- a sign's operation is a copy where both sources are one register
   pub sign_agrees : (format : FloatFormat) → d.rd < 32 → RowsAgree w (shape_row Sign format d v) (shape_row Sign format d w)
-  sign_agrees format low = on (is_move format d)
-    where
-      on : (c : Bool) → RowsAgree w (if c then Does (put_f d (freg v.units d.rs1) v) else number_row target.Float (inputs_of sources.Two d v) d v) (if c then Does (put_f d (freg w.units d.rs1) w) else number_row target.Float (inputs_of sources.Two d w) d w)
-      on true = put_agree target.Float (freg v.units d.rs1) (freg w.units d.rs1) v.units w.units low (ap (λ u. freg u d.rs1) same.units) (are_units.float_fits d.rs1) same.units are_units refl
-      on false = number_agrees target.Float sources.Two tt low
+  sign_agrees format low =
+      elim (is_move format d) as (λ c. RowsAgree w (if c then Does (put_f d (freg v.units d.rs1) v) else number_row target.Float (inputs_of sources.Two d v) d v) (if c then Does (put_f d (freg w.units d.rs1) w) else number_row target.Float (inputs_of sources.Two d w) d w)) [
+        | true ↦ put_agree target.Float (freg v.units d.rs1) (freg w.units d.rs1) v.units w.units low (ap (λ u. freg u d.rs1) same.units) (are_units.float_fits d.rs1) same.units are_units refl
+        | false ↦ number_agrees target.Float sources.Two tt low
+      ]
 
   -- frm gets the same of what is the same, and its old value goes to an integer register
   frm_agrees : (op : CsrOp) → d.rd < 30 → csr_result op v.units.frm (x_of d v) d.rs1 ≡ csr_result op w.units.frm (x_of d w) d.rs1 → RowsAgree w (csr_row op d v) (csr_row op d w)
@@ -177,7 +142,8 @@ module _ (d : Decoded) (v w : FullValues) (same : SameFull v w) (are_values : Ar
   pub shape_agrees : (shape : FloatShape) (format : FloatFormat) → IsUsableShape shape d → RowsAgree w (shape_row shape format d v) (shape_row shape format d w)
   shape_agrees (Answered from to) format usable = number_agrees to from usable.0 usable.1
   shape_agrees ToInteger format usable = put_agree target.Integer _ (extended format (freg w.units d.rs1)) v.units w.units usable (ap (λ u. extended format (freg u d.rs1)) same.units) (extended_small format (freg w.units d.rs1) (are_units.float_fits d.rs1)) same.units are_units refl
-  shape_agrees ToFloat format usable = put_agree target.Float _ (boxed format (low_part format (x_of d w))) v.units w.units usable.1 (λ i. boxed format (low_part format (same.ints.regs d.rs1 usable.0 i))) (boxed_small format (x_of d w) (is_values.fits d.rs1)) same.units are_units refl
+  shape_agrees ToFloat format usable = put_agree target.Float _ (boxed format (low_part format (x_of d w))) v.units w.units usable.1 (λ i. boxed format (low_part format (same.ints.regs d.rs1 usable.0 i)))
+      (let fits = is_values.fits d.rs1 in elim format as (λ x. boxed x (low_part x (x_of d w)) < 2 ^ 64) [ D ↦ fits | _ ↦ omega arith ]) same.units are_units refl
   shape_agrees Sign format usable = sign_agrees format usable
 
 -- Each kind of instruction that is a word of a unit: its operation is none of integers, and does the same with values that are the same,
@@ -191,29 +157,21 @@ pub record IsUnitOperation (places : List PlacedReg) (d : Decoded) : Type 0 wher
   pub agrees : (v w : FullValues) → SameFull v w → AreValues v.ints → AreValues w.ints → AreUnits w.units → AreUsableIn places → RowsAgree w (unit_row d v) (unit_row d w)
 
 rr_usable : (op : FpuOPRR) (d : Decoded) → IsUsableIn (fpu_rr_files op).result d.rd → IsUsableIn (fpu_rr_files op).source d.rs1 → IsUsableShape (float_shape (fpu_rr_op op)) d
-rr_usable rr.FcvtFmtW d to from = (from, to)
-rr_usable rr.FcvtFmtWu d to from = (from, to)
-rr_usable rr.FcvtFmtL d to from = (from, to)
-rr_usable rr.FcvtFmtLu d to from = (from, to)
-rr_usable rr.FmvXFmt d to from = to
-rr_usable rr.FmvFmtX d to from = (from, to)
+rr_usable FcvtFmtW d to from = (from, to)
+rr_usable FcvtFmtWu d to from = (from, to)
+rr_usable FcvtFmtL d to from = (from, to)
+rr_usable FcvtFmtLu d to from = (from, to)
+rr_usable FmvXFmt d to from = to
+rr_usable FmvFmtX d to from = (from, to)
 rr_usable op d to from = (tt, to)
 
 rrr_usable : (op : FpuOPRRR) (d : Decoded) → IsUsableIn (fpu_rrr_result op) d.rd → IsUsableShape (float_shape (fpu_rrr_op op)) d
-rrr_usable rrr.Fsgnj d usable = usable
+rrr_usable Fsgnj d usable = usable
 rrr_usable op d usable = (tt, usable)
 
 rrrr_usable : (op : FpuOPRRRR) (d : Decoded) → d.rd < 32 → IsUsableShape (float_shape (fpu_rrrr_op op)) d
-rrrr_usable rrrr.Fmadd d usable = (tt, usable)
+rrrr_usable Fmadd d usable = (tt, usable)
 rrrr_usable op d usable = (tt, usable)
-
-reg_usable : (op : CsrRegOP) (d : Decoded) → d.rd < 30 → d.rs1 < 30 → IsUsableCsr (csr_reg_op op) d
-reg_usable CsrRW d to from = (to, from)
-reg_usable op d to from = (to, from)
-
-imm_usable : (op : CsrImmOP) (d : Decoded) → d.rd < 30 → IsUsableCsr (csr_imm_op op) d
-imm_usable CsrRWI d to = (to, tt)
-imm_usable op d to = (to, tt)
 
 -- where an instruction is a word of a unit, that word is one of these
 abbrev pub IsOneOf : Option UnitWord → Type 0
@@ -229,16 +187,16 @@ of_shape places d shape format long none row usable = record {
 }
 
 kinds : (inst : Inst) → IsOneOf (unit_word inst)
-kinds (Fli width imm rd) = of_shape _ _ (float_shape float.Fli) (format_of width) refl (λ s. refl) (λ v. refl) (λ usable. (tt, usable.0))
+kinds (Fli width imm rd) = of_shape _ _ (float_shape FloatFli) (format_of width) refl (λ s. refl) (λ v. refl) (λ usable. (tt, usable.0))
 kinds (FpuRR op width frm rd rs) = of_shape _ _ (float_shape (fpu_rr_op op)) (format_of width) refl (λ s. refl) (λ v. refl) (λ usable. rr_usable op _ usable.0 usable.1.0)
 kinds (FpuRRR op width frm rd rs1 rs2) = of_shape _ _ (float_shape (fpu_rrr_op op)) (format_of width) refl (λ s. refl) (λ v. refl) (λ usable. rrr_usable op _ usable.0)
 kinds (FpuRRRR op width frm rd rs1 rs2 rs3) = of_shape _ _ (float_shape (fpu_rrrr_op op)) (format_of width) refl (λ s. refl) (λ v. refl) (λ usable. rrrr_usable op _ usable.0)
 kinds (CsrReg op rd rs csr) =
     let d = decoded_csr_reg op (number_of rd.reg) (number_of rs) in
-    record { long = refl; none = λ s. refl; agrees = λ v w same are_values is_values are_units usable. csr_agrees d v w same are_values is_values are_units (csr_reg_op op) (reg_usable op d usable.0 usable.1.0) }
+    record { long = refl; none = λ s. refl; agrees = λ v w same are_values is_values are_units usable. csr_agrees d v w same are_values is_values are_units (csr_reg_op op) (elim op as (λ o. IsUsableCsr (csr_reg_op o) d) [ CsrRW ↦ (usable.0, usable.1.0) | _ ↦ (usable.0, usable.1.0) ]) }
 kinds (CsrImm op rd csr imm) =
     let d = decoded_csr_imm op (number_of rd.reg) imm.value in
-    record { long = refl; none = λ s. refl; agrees = λ v w same are_values is_values are_units usable. csr_agrees d v w same are_values is_values are_units (csr_imm_op op) (imm_usable op d usable.0) }
+    record { long = refl; none = λ s. refl; agrees = λ v w same are_values is_values are_units usable. csr_agrees d v w same are_values is_values are_units (csr_imm_op op) (elim op as (λ o. IsUsableCsr (csr_imm_op o) d) [ CsrRWI ↦ (usable.0, tt) | _ ↦ (usable.0, tt) ]) }
 kinds _ = tt
 
 pub unit_operation : (inst : Inst) (w : UnitWord) → unit_word inst ≡ Some w → IsUnitOperation w.places w.operation

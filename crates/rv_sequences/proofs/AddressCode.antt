@@ -1,13 +1,10 @@
 -- What loads, stores, addresses and numbers put.
-use Rattle.rv_sequences.proofs.Terms.{◌≡◌, ◌≢◌, zero, suc, refl, ◌-◌, ◌^◌, ◌<◌, ◌==◌, true, false, ℤ, pos, negsuc, ◌≤ℤ◌, ap, arith, ℕ, ◌+◌, ◌≤◌, List, [], ◌∷◌, ◌++◌, length, Option, Some, sym, subst, append_assoc, ◌∙◌, Bool, cast_unsigned, w16, to_le_bytes, w64, w32, nat_tests, ints, IsSigned}
-use Rattle.rv_sequences.proofs.Terms.{low64, is_near, Location, Based, AtLabel, AtConstant, if◌then◌else◌, ◌&&◌, IsaFlags, VCodeConstant, MachLabel, TrapCode, value_of, IsSplittable, Decoded, Addi, LabelUse, word_bytes, use_at, shape_of, bytes_of, allocated_of, with_bytes, with_use, with_record}
-use Rattle.rv_sequences.proofs.Terms.{with_named, Shape, constant_label, Buffer, IsSoundBuffer, PutsAlone, upper_of, lower_of, short_rri, Slot, Op, Aim, Names, Label, IsPatchable, Puts, access_slots, immediate_slots, inline_slots, labelled, lower_slots, naming_slots, offset_slots, number_slots}
-use Rattle.rv_sequences.proofs.Terms.{half_load_slots, half_store_slots, load_line_slots, load_slots, moved_to_integer, store_line_slots, store_slots, IsPlain, IsShort, is_low, slots_by, LoadOP, StoreOP, Sh, has_load, has_store, loaded, IsFinePlace, Place, load_short}
 pub use Rattle.rv_inst.proofs.Immediates.{upper_is, lower_is, splits, splits_not}
-use Rattle.rv_sequences.proofs.SlotsPut.{alone, none_put, both_alone, alone_long, alone_usable}
-use Rattle.rv_ops.specs.declared.memory.LoadOP.TheVariants as loads
-use Rattle.mach_records.specs.declared.records.Event.TheVariants as event
-use Rattle.rv_sequences.specs.declared.memory.Place.TheVariants as place
+use Rattle.rv_sequences.proofs.{SlotsPut.{alone, aim_put_at, none_put, both_alone, alone_long, alone_usable}, Terms.{Ld, Trap, PlaceLabel, ◌≡◌, ◌≢◌, zero, suc, refl, ◌-◌, ◌^◌, ◌<◌, ◌==◌, true, false, ℤ, pos, negsuc, ◌≤ℤ◌, ap, arith, ℕ, ◌+◌, ◌≤◌, List, [], ◌∷◌, ◌++◌, length, Option, Some, sym}}
+use Rattle.rv_sequences.proofs.Terms.{subst, append_assoc, ◌∙◌, cast_unsigned, w16, to_le_bytes, w64, w32, nat_tests, ints, IsSigned, low64, is_near, Location, AtLabel, AtConstant, if◌then◌else◌, ◌&&◌, IsaFlags, VCodeConstant, MachLabel, TrapCode, value_of, IsSplittable, Decoded, Addi, LabelUse}
+use Rattle.rv_sequences.proofs.Terms.{word_bytes, use_at, shape_of, bytes_of, allocated_of, with_bytes, with_use, with_record, with_named, Shape, constant_label, Buffer, IsSoundBuffer, PutsAlone, upper_of, lower_of, short_rri, Slot, Op, Aim, Names, Label, IsPatchable, Puts, access_slots}
+use Rattle.rv_sequences.proofs.Terms.{immediate_slots, inline_slots, labelled, lower_slots, naming_slots, offset_slots, number_slots, half_load_slots, half_store_slots, load_line_slots, load_slots, moved_to_integer, store_line_slots, store_slots, IsPlain, IsShort, is_low, slots_by, LoadOP, StoreOP}
+use Rattle.rv_sequences.proofs.Terms.{Sh, has_load, has_store, loaded, IsFinePlace, Place, load_most}
 
 -- ---- tests of offsets and of their immediates; the immediates that make an offset are its own
 
@@ -17,13 +14,10 @@ near o low high = grind (arith, ints)
 pub far : (o : ℤ) → ¬ (IsSigned 12 o) → is_near o ≡ false
 far o h = grind (arith, ints)
 
-pub low64_zero : (z : ℤ) → z ≡ pos 0 → (low64 z == 0) ≡ true
-low64_zero z e = ap (λ y. low64 y == 0) e
-
-pub low64_other : (z : ℤ) → negsuc 2047 ≤ℤ z → z ≤ℤ pos 2047 → z ≢ pos 0 → (low64 z == 0) ≡ false
+pub low64_other : (z : ℤ) → negsuc 524287 ≤ℤ z → z ≤ℤ pos 524287 → z ≢ pos 0 → (low64 z == 0) ≡ false
 low64_other (pos zero) a b n = absurd (n refl)
 low64_other (pos (suc k)) a b n = grind (arith, nat_tests)
-low64_other (negsuc k) a b n = let l : low64 (negsuc k) ≡ 2 ^ 64 - suc k = refl in let h : k < 2048 = omega (arith, ints) in let m : 0 < 2 ^ 64 - suc k = omega arith in grind (arith, nat_tests)
+low64_other (negsuc k) a b n = let l : low64 (negsuc k) ≡ 2 ^ 64 - suc k = refl in let h : k < 524288 = omega (arith, ints) in let m : 0 < 2 ^ 64 - suc k = omega arith in grind (arith, nat_tests)
 
 -- the code tests the bits of an immediate
 pub bits_zero : (z : ℤ) → negsuc 2047 ≤ℤ z → cast_unsigned w16 z ≡ 0 → z ≡ pos 0
@@ -34,9 +28,9 @@ bits_zero (negsuc n) low e = let h : n < 2048 = omega (arith, ints) in let l : c
 
 -- a use of a label whose window is a word
 pub aim_put : (flags : IsaFlags) (kind : LabelUse) (ops : ℤ → List Decoded) (old new : Buffer) (w : ℕ) (label : MachLabel) → IsPatchable flags kind (word_bytes w) ops → shape_of new ≡ with_bytes (word_bytes w) (with_use (use_at (length (bytes_of old)) label kind) (shape_of old)) → IsSoundBuffer new → PutsAlone flags (Aim kind (Label label) ops ∷ []) old new
-aim_put flags kind ops old new w label is put sound = alone (record { puts = (shape_of new, (word_bytes w, is, put), refl); sound = sound })
+aim_put flags kind ops old new w label is put sound = alone (aim_put_at flags kind ops old new w label is put sound)
 
-pub access_put : (flags : IsaFlags) (old new : Buffer) (trap : Option TrapCode) (code : TrapCode) → trap ≡ Some code → shape_of new ≡ with_record (event.Trap code) (shape_of old) → IsSoundBuffer new → PutsAlone flags (access_slots trap) old new
+pub access_put : (flags : IsaFlags) (old new : Buffer) (trap : Option TrapCode) (code : TrapCode) → trap ≡ Some code → shape_of new ≡ with_record (Trap code) (shape_of old) → IsSoundBuffer new → PutsAlone flags (access_slots trap) old new
 access_put flags old new trap code is put sound = subst (λ t. PutsAlone flags (access_slots t) old new) (sym is) (alone (record { puts = (shape_of new, (tt, put), refl); sound = sound }))
 
 -- ---- none of these slots allocates a label, and how long they are
@@ -52,9 +46,8 @@ before_both {flags} slots more last old mid new plain p q = subst (λ s. PutsAlo
 
 -- the code of an address is put once its constant is named
 pub named_put : {flags : IsaFlags} (slots : Location → List Slot) → ((k : VCodeConstant) → Names k ∷ slots (AtLabel (constant_label k)) ≡ slots (AtConstant k)) → (location : Location) (old mid new : Buffer) → PutsAlone flags (naming_slots location) old mid → PutsAlone flags (slots (labelled location)) mid new → PutsAlone flags (slots location) old new
-named_put {flags} slots same (Based r o) old mid new p q = both_alone [] (slots (Based r o)) old mid new tt p q
-named_put {flags} slots same (AtLabel l) old mid new p q = both_alone [] (slots (AtLabel l)) old mid new tt p q
 named_put {flags} slots same (AtConstant k) old mid new p q = subst (λ s. PutsAlone flags s old new) (same k) (both_alone (Names k ∷ []) (slots (AtLabel (constant_label k))) old mid new tt p q)
+named_put slots same at old mid new p q = both_alone [] (slots at) old mid new tt p q
 
 -- the constant is named
 pub name_put : (flags : IsaFlags) (k : VCodeConstant) (old new : Buffer) → shape_of new ≡ with_named k (shape_of old) → IsSoundBuffer new → PutsAlone flags (Names k ∷ []) old new
@@ -69,19 +62,19 @@ pub far_put : {flags : IsaFlags} (slots others : List Slot) (o : ℤ) (old new :
 far_put {flags} slots others o old new h p = subst (λ c. PutsAlone flags (if c then slots else others) old new) (sym (far o h)) p
 
 pub lower_zero_put : (flags : IsaFlags) (rd : ℕ) (lower : ℤ) (b : Buffer) → lower ≡ pos 0 → IsSoundBuffer b → PutsAlone flags (lower_slots flags rd lower) b b
-lower_zero_put flags rd lower b e sound = subst (λ c. PutsAlone flags (if c then [] else Op (short_rri flags Addi rd rd lower) ∷ []) b b) (sym (low64_zero lower e)) (none_put flags b sound)
+lower_zero_put flags rd lower b e sound = subst (λ c. PutsAlone flags (if c then [] else Op (short_rri flags Addi rd rd lower) ∷ []) b b) (sym (ap (λ y. low64 y == 0) e)) (none_put flags b sound)
 
 pub lower_put : {flags : IsaFlags} (rd : ℕ) (lower : ℤ) (old new : Buffer) → negsuc 2047 ≤ℤ lower → lower ≤ℤ pos 2047 → lower ≢ pos 0 → PutsAlone flags (Op (short_rri flags Addi rd rd lower) ∷ []) old new → PutsAlone flags (lower_slots flags rd lower) old new
-lower_put {flags} rd lower old new low high other p = subst (λ c. PutsAlone flags (if c then [] else Op (short_rri flags Addi rd rd lower) ∷ []) old new) (sym (low64_other lower low high other)) p
+lower_put {flags} rd lower old new low high other p = subst (λ c. PutsAlone flags (if c then [] else Op (short_rri flags Addi rd rd lower) ∷ []) old new) (sym (low64_other lower (omega (arith, ints)) (omega (arith, ints)) other)) p
 
 pub immediates_put : {flags : IsaFlags} (rd : ℕ) (o upper lower : ℤ) (old new : Buffer) → negsuc 524287 ≤ℤ upper → upper ≤ℤ pos 524287 → negsuc 2047 ≤ℤ lower → lower ≤ℤ pos 2047 → value_of upper lower ≡ o → PutsAlone flags (immediate_slots flags rd upper lower) old new → PutsAlone flags (offset_slots flags rd o) old new
 immediates_put {flags} rd o upper lower old new a b c d e p =
-    subst (λ t. PutsAlone flags (if t then immediate_slots flags rd (upper_of o) (lower_of o) else inline_slots flags rd loads.Ld 8 (to_le_bytes w64 (low64 o))) old new) (sym (splits o upper lower a b c d e))
+    subst (λ t. PutsAlone flags (if t then immediate_slots flags rd (upper_of o) (lower_of o) else inline_slots flags rd Ld 8 (to_le_bytes w64 (low64 o))) old new) (sym (splits o upper lower a b c d e))
     (subst (λ u. PutsAlone flags (immediate_slots flags rd u (lower_of o)) old new) (sym (upper_is o upper lower a b c d e))
     (subst (λ l. PutsAlone flags (immediate_slots flags rd upper l) old new) (sym (lower_is o upper lower a b c d e)) p))
 
-pub constant_put : {flags : IsaFlags} (rd : ℕ) (o : ℤ) (old new : Buffer) → ¬ (IsSplittable o) → PutsAlone flags (inline_slots flags rd loads.Ld 8 (to_le_bytes w64 (low64 o))) old new → PutsAlone flags (offset_slots flags rd o) old new
-constant_put {flags} rd o old new h p = subst (λ t. PutsAlone flags (if t then immediate_slots flags rd (upper_of o) (lower_of o) else inline_slots flags rd loads.Ld 8 (to_le_bytes w64 (low64 o))) old new) (sym (splits_not o h)) p
+pub constant_put : {flags : IsaFlags} (rd : ℕ) (o : ℤ) (old new : Buffer) → ¬ (IsSplittable o) → PutsAlone flags (inline_slots flags rd Ld 8 (to_le_bytes w64 (low64 o))) old new → PutsAlone flags (offset_slots flags rd o) old new
+constant_put {flags} rd o old new h p = subst (λ t. PutsAlone flags (if t then immediate_slots flags rd (upper_of o) (lower_of o) else inline_slots flags rd Ld 8 (to_le_bytes w64 (low64 o))) old new) (sym (splits_not o h)) p
 
 -- ---- an upper immediate
 
@@ -89,11 +82,6 @@ constant_put {flags} rd o old new h p = subst (λ t. PutsAlone flags (if t then 
 upper_zero : (z : ℤ) → negsuc 524287 ≤ℤ z → cast_unsigned w32 z ≡ 0 → z ≡ pos 0
 upper_zero (pos n) low e = ap pos e
 upper_zero (negsuc n) low e = let h : n < 524288 = omega (arith, ints) in let l : cast_unsigned w32 (negsuc n) ≡ 2 ^ 32 - suc n = refl in absurd (omega arith)
-
-upper_other : (z : ℤ) → negsuc 524287 ≤ℤ z → z ≤ℤ pos 524287 → z ≢ pos 0 → (low64 z == 0) ≡ false
-upper_other (pos zero) a b n = absurd (n refl)
-upper_other (pos (suc k)) a b n = grind (arith, nat_tests)
-upper_other (negsuc k) a b n = let l : low64 (negsuc k) ≡ 2 ^ 64 - suc k = refl in let h : k < 524288 = omega (arith, ints) in let m : 0 < 2 ^ 64 - suc k = omega arith in grind (arith, nat_tests)
 
 -- ---- by which way
 
@@ -103,7 +91,7 @@ PutsNumber flags rd z old new = PutsAlone flags (number_slots flags rd z) old ne
 pub lower_alone_put : {flags : IsaFlags} (rd : ℕ) (upper lower : ℤ) (old new : Buffer) → negsuc 524287 ≤ℤ upper → upper ≤ℤ pos 524287 → negsuc 2047 ≤ℤ lower → lower ≤ℤ pos 2047 → cast_unsigned w32 upper ≡ 0 → PutsAlone flags (Op (short_rri flags Addi rd 0 lower) ∷ []) old new → PutsNumber flags rd (value_of upper lower) old new
 lower_alone_put {flags} rd upper lower old new a b c d zeroed p =
     let z = value_of upper lower in
-    let none : (low64 (upper_of z) == 0) ≡ true = ap (λ u. low64 u == 0) (upper_is z upper lower a b c d refl) ∙ low64_zero upper (upper_zero upper a zeroed) in
+    let none : (low64 (upper_of z) == 0) ≡ true = ap (λ u. low64 u == 0) (upper_is z upper lower a b c d refl ∙ upper_zero upper a zeroed) in
     let low : is_low z ≡ true = (λ i. splits z upper lower a b c d refl i && none i) in
     subst (λ t. PutsAlone flags (slots_by flags rd z t) old new) (sym low)
     (subst (λ l. PutsAlone flags (Op (short_rri flags Addi rd 0 l) ∷ []) old new) (sym (lower_is z upper lower a b c d refl)) p)
@@ -115,7 +103,7 @@ as_offset {flags} rd z old new high p = subst (λ t. PutsAlone flags (slots_by f
 pub both_immediates_put : {flags : IsaFlags} (rd : ℕ) (upper lower : ℤ) (old new : Buffer) → negsuc 524287 ≤ℤ upper → upper ≤ℤ pos 524287 → negsuc 2047 ≤ℤ lower → lower ≤ℤ pos 2047 → upper ≢ pos 0 → PutsAlone flags (immediate_slots flags rd upper lower) old new → PutsNumber flags rd (value_of upper lower) old new
 both_immediates_put {flags} rd upper lower old new a b c d other p =
     let z = value_of upper lower in
-    let some : (low64 (upper_of z) == 0) ≡ false = ap (λ u. low64 u == 0) (upper_is z upper lower a b c d refl) ∙ upper_other upper a b other in
+    let some : (low64 (upper_of z) == 0) ≡ false = ap (λ u. low64 u == 0) (upper_is z upper lower a b c d refl) ∙ low64_other upper a b other in
     as_offset rd z old new (λ i. splits z upper lower a b c d refl i && some i) (immediates_put rd z upper lower old new a b c d refl p)
 
 pub unsplit_put : {flags : IsaFlags} (rd : ℕ) (z : ℤ) (old new : Buffer) → ¬ (IsSplittable z) → PutsAlone flags (offset_slots flags rd z) old new → PutsNumber flags rd z old new
@@ -125,12 +113,12 @@ unsplit_put rd z old new h p = as_offset rd z old new (ap (λ s. s && low64 (upp
 
 -- one load has seven words at most
 pub load_is_short : (flags : IsaFlags) (rd : ℕ) (op : LoadOP) (trap : Option TrapCode) (at : Location) → IsShort 28 (load_slots flags rd op trap at)
-load_is_short flags rd op trap at = let c = loaded flags rd op trap at in record { plain = c.plain; short = subst (λ n. n ≤ 28) c.long (load_short flags op rd at) }
+load_is_short flags rd op trap at = record { plain = (loaded flags rd op trap at).plain; short = load_most flags op rd trap at }
 
 -- a place stays one after code that is put
 pub place_last : {flags : IsaFlags} (slots : List Slot) (old new : Buffer) (at : Place) → PutsAlone flags slots old new → IsFinePlace (shape_of old) at → IsFinePlace (shape_of new) at
-place_last slots old new (place.Based r o) p fine = fine
-place_last slots old new (place.AtLabel l) p fine = alone_usable slots old new l.number p fine
+place_last slots old new (PlaceLabel l) p fine = alone_usable slots old new l.number p fine
+place_last slots old new at p fine = fine
 
 -- ---- by a constant
 
@@ -142,23 +130,17 @@ named_after flags allocated k d slots s t p =
     (mid, (bytes, p.2.1.1, p.2.1.2, refl, p.2.1.4), (with_named k mid, refl, subst (λ u. Puts flags allocated slots u t) (p.2.1.3 ∙ ap (with_bytes bytes) p.1) p.2.2))
 
 half_store_named : {flags : IsaFlags} (src : ℕ) (trap : Option TrapCode) (at : Location) (old mid new : Buffer) → PutsAlone flags (naming_slots at) old mid → PutsAlone flags (half_store_slots flags src trap (labelled at)) mid new → PutsAlone flags (half_store_slots flags src trap at) old new
-half_store_named {flags} src trap (Based r o) old mid new p q = both_alone [] (half_store_slots flags src trap (Based r o)) old mid new tt p q
-half_store_named {flags} src trap (AtLabel l) old mid new p q = both_alone [] (half_store_slots flags src trap (AtLabel l)) old mid new tt p q
 half_store_named {flags} src trap (AtConstant k) old mid new p q =
     let named = both_alone (Names k ∷ []) (half_store_slots flags src trap (AtLabel (constant_label k))) old mid new tt p q in
     (named.0, record { puts = named_after flags (allocated_of old) k (moved_to_integer 30 src) (store_slots flags Sh 30 trap (AtLabel (constant_label k))) (shape_of old) (shape_of named.0) named.1.puts; sound = named.1.sound }, named.2)
+half_store_named {flags} src trap at old mid new p q = both_alone [] (half_store_slots flags src trap at) old mid new tt p q
 
 -- the code of a line is put once its constant is named
 pub load_line_named : (flags : IsaFlags) (rd : ℕ) (op : LoadOP) (trap : Option TrapCode) (k : VCodeConstant) → Names k ∷ load_line_slots flags rd op trap (AtLabel (constant_label k)) ≡ load_line_slots flags rd op trap (AtConstant k)
-load_line_named flags rd op trap k = by (has_load flags op)
-  where
-    by : (has : Bool) → Names k ∷ (if has then load_slots flags rd op trap (AtLabel (constant_label k)) else half_load_slots flags rd trap (AtLabel (constant_label k))) ≡ (if has then load_slots flags rd op trap (AtConstant k) else half_load_slots flags rd trap (AtConstant k))
-    by true = refl
-    by false = refl
+load_line_named flags rd op trap k = elim (has_load flags op) as (λ has. Names k ∷ (if has then load_slots flags rd op trap (AtLabel (constant_label k)) else half_load_slots flags rd trap (AtLabel (constant_label k))) ≡ (if has then load_slots flags rd op trap (AtConstant k) else half_load_slots flags rd trap (AtConstant k))) [ true ↦ refl | false ↦ refl ]
 
 pub store_line_named : {flags : IsaFlags} (op : StoreOP) (src : ℕ) (trap : Option TrapCode) (at : Location) (old mid new : Buffer) → PutsAlone flags (naming_slots at) old mid → PutsAlone flags (store_line_slots flags op src trap (labelled at)) mid new → PutsAlone flags (store_line_slots flags op src trap at) old new
-store_line_named {flags} op src trap at old mid new p = by (has_store flags op)
-  where
-    by : (has : Bool) → PutsAlone flags (if has then store_slots flags op src trap (labelled at) else half_store_slots flags src trap (labelled at)) mid new → PutsAlone flags (if has then store_slots flags op src trap at else half_store_slots flags src trap at) old new
-    by true q = named_put (store_slots flags op src trap) (λ k. refl) at old mid new p q
-    by false q = half_store_named src trap at old mid new p q
+store_line_named {flags} op src trap at old mid new p = elim (has_store flags op) as (λ has. PutsAlone flags (if has then store_slots flags op src trap (labelled at) else half_store_slots flags src trap (labelled at)) mid new → PutsAlone flags (if has then store_slots flags op src trap at else half_store_slots flags src trap at) old new) [
+  | true ↦ λ q. named_put (store_slots flags op src trap) (λ k. refl) at old mid new p q
+  | false ↦ λ q. half_store_named src trap at old mid new p q
+]

@@ -51,11 +51,8 @@ slot_uses flags allocated slot s t p = (λ i. (p i).uses) ∙ sym (append_none s
 
 -- the uses of a slot, and then those of others
 uses_both : (allocated at : ℕ) (slot : Slot) (slots : List Slot) → uses_of allocated at (slot ∷ []) ++ uses_of allocated (at + slot_size slot) slots ≡ uses_of allocated at (slot ∷ slots)
-uses_both allocated at (Notes event) slots = let same : at + 0 ≡ at = omega arith in ap (λ n. uses_of allocated n slots) same
-uses_both allocated at (Names k) slots = let same : at + 0 ≡ at = omega arith in ap (λ n. uses_of allocated n slots) same
-uses_both allocated at Allocate slots = let same : at + 0 ≡ at = omega arith in ap (λ n. uses_of allocated n slots) same
-uses_both allocated at (Here k) slots = let same : at + 0 ≡ at = omega arith in ap (λ n. uses_of allocated n slots) same
-uses_both allocated at slot slots = refl
+uses_both allocated at (Op d) slots = refl
+uses_both allocated at slot slots = grind arith
 
 slot_records : (flags : IsaFlags) (allocated : ℕ) (slot : Slot) (s t : Shape LabelUse) → PutsSlot flags allocated slot s t → t.records ≡ s.records ++ records_of (length s.bytes) (slot ∷ [])
 slot_records flags allocated (Op d) s t p = (λ i. (p.3 i).records) ∙ sym (append_none s.records)
@@ -72,11 +69,8 @@ slot_records flags allocated slot s t p = (λ i. (p i).records) ∙ sym (append_
 
 -- the records of a slot, and then those of others
 records_both : (at : ℕ) (slot : Slot) (slots : List Slot) → records_of at (slot ∷ []) ++ records_of (at + slot_size slot) slots ≡ records_of at (slot ∷ slots)
-records_both at (Notes event) slots = let same : at + 0 ≡ at = omega arith in ap (λ n. record { offset = at; event = event } ∷ records_of n slots) same
-records_both at (Names k) slots = let same : at + 0 ≡ at = omega arith in ap (λ n. records_of n slots) same
-records_both at Allocate slots = let same : at + 0 ≡ at = omega arith in ap (λ n. records_of n slots) same
-records_both at (Here k) slots = let same : at + 0 ≡ at = omega arith in ap (λ n. records_of n slots) same
-records_both at slot slots = refl
+records_both at (Op d) slots = refl
+records_both at slot slots = grind arith
 
 pub slot_ends : (flags : IsaFlags) (allocated : ℕ) (slot : Slot) (s t : Shape LabelUse) → PutsSlot flags allocated slot s t → AllEnd label_kinds s → AllEnd label_kinds t
 slot_ends flags allocated (Op d) s t p ends = subst (AllEnd label_kinds) (sym p.3) (λ j u h. let e = ends j u h in omega (arith, length-append s.bytes p.0))

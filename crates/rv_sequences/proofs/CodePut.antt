@@ -1,11 +1,9 @@
 -- A sequence's code is put, piece by piece.
-use Rattle.rv_sequences.proofs.Terms.{◌≡◌, true, refl, subst, ◌≢◌, ℕ, suc, ◌+◌, ◌^◌, ◌<◌, ◌≤◌, ℤ, Bool, false, nat_eq, [], ◌∷◌, ◌++◌, List, length, drop, None, Some, get_or, drop-cons, append_assoc, arith, sym, ap, ◌∙◌, unwrap_or, if◌then◌else◌, IrType, F16, F32, F64, Reg, Real, Virtual, Float}
-use Rattle.rv_sequences.proofs.Terms.{class_of, number_of, IsIntRegister, D, is_width, width_of, is_float_type, is_movable, IsMove, drop_of_length-le, or_parts, nat_tests, IsaFlags, MachLabel, branch_of, is_reversed, IntegerCompare, Decoded, Base, decoded, decoded_branch, branch_op, is_among}
-use Rattle.rv_sequences.proofs.Terms.{use_at, LabelUse, B12, first_inner, inner_count, shape_of, allocated_of, Shape, with_bytes, with_use, Buffer, IsSoundBuffer, PutsAlone, PutsSlots, branch_to, Puts, IsPatchable, Label, own_label, RegClass, move_action, move_pieces, Action, Rri, Piece, Do, Branch}
-use Rattle.rv_sequences.proofs.Terms.{branches, slots_for, slots_of, pieces_most, shown, pieces_of, AreSound, IsLabelled, IsBaseFor, IsNext, CodePiece, OwnLabels, pieces_few, pieces_long}
-use Rattle.rv_base.specs.declared.regs.RegClass.TheVariants.{Int}
-use Rattle.rv_sequences.proofs.BufferAfterSlots.{puts_bytes}
-use Rattle.rv_sequences.proofs.SlotsPut.{alone, puts_after}
+use Rattle.{rv_base.specs.declared.regs.RegClass.TheVariants.Int, rv_sequences.proofs.{BufferAfterSlots.puts_bytes, SlotsPut.{alone, puts_after}, Terms.{◌≡◌, true, refl, subst, ◌≢◌, ℕ, suc, ◌+◌, ◌^◌, ◌<◌, ◌≤◌, ℤ, Bool, false, nat_eq, [], ◌∷◌, ◌++◌, List, length, drop, None, Some, get_or}}}
+use Rattle.rv_sequences.proofs.Terms.{drop-cons, append_assoc, arith, sym, ap, ◌∙◌, unwrap_or, if◌then◌else◌, IrType, F16, F32, F64, Reg, Real, Virtual, Float, class_of, number_of, IsIntRegister, D, is_width, width_of, is_float_type, is_movable, IsMove, drop_of_length-le, or_parts, nat_tests}
+use Rattle.rv_sequences.proofs.Terms.{IsaFlags, MachLabel, branch_of, is_reversed, IntegerCompare, Decoded, Base, decoded, decoded_branch, branch_op, is_among, use_at, LabelUse, B12, first_inner, inner_count, shape_of, allocated_of, Shape, with_bytes, with_use, Buffer, IsSoundBuffer, PutsAlone}
+use Rattle.rv_sequences.proofs.Terms.{PutsSlots, branch_to, Puts, IsPatchable, Label, own_label, RegClass, move_action, move_pieces, Action, Rri, Piece, Do, Branch, branches, slots_for, slots_of, pieces_most, shown, pieces_of, AreSound, IsLabelled, IsBaseFor, IsNext, CodePiece, OwnLabels}
+use Rattle.rv_sequences.proofs.Terms.{pieces_few, pieces_long}
 use Rattle.rv_sequences.specs.declared.code.CodePiece.TheVariants as code
 
 -- ---- the class of an integer register, and the format of a floating-point register that is moved
@@ -50,14 +48,8 @@ move_kept flags allocated f kept s t false a put = ap f (put.2 ∙ put.1.3) ∙ 
 
 -- whatever labels were allocated before
 pub move_puts : {flags : IsaFlags} (allocated : ℕ) (class : RegClass) (type : IrType) (rd rs : ℕ) (old new : Buffer) → PutsAlone flags (slots_of flags (move_pieces class type rd rs)) old new → Puts flags allocated (slots_of flags (move_pieces class type rd rs)) (shape_of old) (shape_of new)
-move_puts {flags} allocated class type rd rs old new p = subst (λ (b : Buffer). Puts flags allocated (slots_of flags (move_pieces class type rd rs)) (shape_of old) (shape_of b)) (sym p.2) (by (nat_eq rd rs) p.1.puts)
-  where
-    a : Action
-    a = move_action class type rd rs
-
-    by : (own : Bool) → Puts flags (allocated_of old) (slots_of flags (if own then [] else Do a ∷ [])) (shape_of old) (shape_of p.0) → Puts flags allocated (slots_of flags (if own then [] else Do a ∷ [])) (shape_of old) (shape_of p.0)
-    by true put = put
-    by false put = put
+move_puts {flags} allocated class type rd rs old new p = subst (λ (b : Buffer). Puts flags allocated (slots_of flags (move_pieces class type rd rs)) (shape_of old) (shape_of b)) (sym p.2)
+    ((elim (nat_eq rd rs) as (λ own. Puts flags (allocated_of old) (slots_of flags (if own then [] else Do (move_action class type rd rs) ∷ [])) (shape_of old) (shape_of p.0) → Puts flags allocated (slots_of flags (if own then [] else Do (move_action class type rd rs) ∷ [])) (shape_of old) (shape_of p.0)) [ true ↦ λ put. put | false ↦ λ put. put ]) p.1.puts)
 
 -- ---- pieces, and others after them
 
@@ -123,18 +115,15 @@ goes_on (code.Branch kind label) few k same put = same_labels (code.Branch kind 
 goes_on (code.Jump label) few k same put = same_labels (code.Jump label) k k.labelled.1 (ap (λ s. s.allocated) (put.2 ∙ put.1.2)) (ap (λ s. s.place) (put.2 ∙ put.1.2)) same put
 goes_on (code.Trap trap) few k same put = same_labels (code.Trap trap) k k.labelled (ap (λ s. s.allocated) (put.2.2 ∙ put.2.1 ∙ ap (with_bytes _) put.1.1)) (ap (λ s. s.place) (put.2.2 ∙ put.2.1 ∙ ap (with_bytes _) put.1.1)) same put
 goes_on {flags} {all} {left} {start} {now} {next_shape} {own} {next} code.New few k n put =
-    let count = k.count in
-    let more = n.0 in
-    let at = n.1 in
-    let base : next.base ≡ first_inner + start.allocated = omega arith in
+    let base : next.base ≡ first_inner + start.allocated = omega (arith, k.count, n.1) in
     record {
       bound = k.bound;
-      count = let e = ap (λ s. s.allocated) (put.2 ∙ put.1) in omega arith;
+      count = omega (arith, k.count, n.0, ap (λ s. s.allocated) (put.2 ∙ put.1));
       base = λ some. base;
       low = omega arith;
       unbound = λ j lt other. by j lt other (nat_eq j own.count) refl;
       sound = k.sound.1;
-      labelled = subst (λ m. IsLabelled m k.bound left) (sym more) k.labelled;
+      labelled = subst (λ m. IsLabelled m k.bound left) (sym n.0) k.labelled;
       puts = λ t p. k.puts t (puts_more flags start.allocated now next_shape t code.New left put p);
       room = room_left next_shape code.New k put;
     }
@@ -156,16 +145,14 @@ goes_on {flags} {all} {left} {start} {now} {next_shape} {own} {next} (code.Bind 
   low = k.low;
   unbound = λ j lt other.
       let parts = or_parts (nat_eq label j) (is_among k.bound j) other in
-      let e : nat_eq (first_inner + (start.allocated + j)) (first_inner + (start.allocated + label)) ≡ false = apart j parts.0 in
+      let test = parts.0 in
+      let e : nat_eq (first_inner + (start.allocated + j)) (first_inner + (start.allocated + label)) ≡ false = grind (arith, nat_tests) in
       ap (λ s. s.place (first_inner + (start.allocated + j))) (put.2 ∙ put.1.1) ∙ ap (λ c. if c then Some (length now.bytes) else now.place (first_inner + (start.allocated + j))) e ∙ k.unbound j lt parts.1;
   sound = k.sound.1;
   labelled = k.labelled.2;
   puts = λ t p. k.puts t (puts_more flags start.allocated now next_shape t (code.Bind label) left put p);
   room = room_left next_shape (code.Bind label) k put;
 })
-  where
-    apart : (j : ℕ) → nat_eq label j ≡ false → nat_eq (first_inner + (start.allocated + j)) (first_inner + (start.allocated + label)) ≡ false
-    apart j test = grind (arith, nat_tests)
 
 -- one more piece was put
 pub puts_next : {flags : IsaFlags} {all : List CodePiece} {start now next_shape : Shape LabelUse} {own next : OwnLabels} (i : ℕ) (x : CodePiece) → x ≡ get_or all i x → i < length all → start.allocated < inner_count → Putting flags all start (drop i all) own now → IsNext own next x now next_shape → ((allocated : ℕ) → IsBaseFor own.base allocated x → Puts flags allocated (slots_of flags (shown x)) now next_shape) → Putting flags all start (drop (i + 1) all) next next_shape

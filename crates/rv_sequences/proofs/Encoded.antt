@@ -1,13 +1,9 @@
 -- Words, halfwords and windows that encode operations, wherever their bytes stand.
-use Rattle.rv_sequences.proofs.Terms.{◌≡◌, ◌≤◌, ℕ, ◌+◌, ◌*◌, ◌/◌, ◌%◌, ◌^◌, ◌<◌, [], ◌∷◌, pos, Some, refl, ap, ◌∙◌, arith, bit_and, lit<, true, false, nat_eq, List, length, slice_index, ℤ, to_le_bytes, w32, ints, and_mask, and_comm, and_high, IsaFlags, Reg, Real, Virtual, IsFresh, SameOutside}
-use Rattle.rv_sequences.proofs.Terms.{number_of, int_by_opcode, word_opcode, compressed, word_funct3, u_bits, i_layout, i_bits, IntegerCompare, BranchFunct3, branch_of, funct3_of, rs1_of, rs2_of, branch_word, BRANCH, JAL, AUIPC, OP_IMM, IsBType, IsUType, IsIType, decoded_branch, decoded}
-use Rattle.rv_sequences.proofs.Terms.{decoded_load, has_load, branch_decodes, opcode_decodes, B12, Jal20, RVCJump, PCRelHi20, PCRelLo12I, marks_of, Aims, word_bytes, word_at, half_at, AreBytes, decoded_jump, jump_word, decoded_addi, option_map, Decoded, Base, Alu, Jal, decode_half, half_funct3}
-use Rattle.rv_sequences.proofs.Terms.{decode_low, Memory, byte, wrap, signed, fetch, LabelUse, with_immediate, decode-patched_branch, decode-patched_jump, decode-patched_compressed_jump, same_low, same_byte, BytesAt, AllBytes, Encodes, IsPatchable, BaseOp, Int, LoadOP, load_funct3, load_opcode}
-use Rattle.rv_sequences.proofs.Terms.{load_decodes, upper_of_distance, lower_of_distance}
-use Rattle.rv_machine.specs.Decode.{int_decode, decode}
-use Rattle.rv_machine.specs.declared.ops.IntOp.TheVariants.{Addi}
-use Rattle.rv_ops.specs.declared.compare.BranchFunct3.TheVariants as branch
-use Rattle.rv_machine.specs.declared.ops.BaseOp.TheVariants as base
+use Rattle.{rv_machine.specs.{Decode.{int_decode, decode}, declared.ops.IntOp.TheVariants.Addi}, rv_sequences.proofs.Terms.{Eq, Auipc, subst, sym, ◌≡◌, ◌≤◌, ℕ, ◌+◌, ◌*◌, ◌/◌, ◌%◌, ◌^◌, ◌<◌, [], ◌∷◌, pos, Some, refl, ap, ◌∙◌, arith, bit_and, lit<, true, false, nat_eq, List, length, slice_index, ℤ}}
+use Rattle.rv_sequences.proofs.Terms.{to_le_bytes, w32, ints, and_mask, and_comm, and_high, IsaFlags, Reg, Real, Virtual, IsFresh, SameOutside, number_of, int_by_opcode, word_opcode, compressed, word_funct3, u_bits, i_layout, i_bits, IntegerCompare, BranchFunct3, branch_of, funct3_of, rs1_of}
+use Rattle.rv_sequences.proofs.Terms.{rs2_of, branch_word, BRANCH, JAL, AUIPC, OP_IMM, IsUType, IsIType, decoded_branch, decoded, decoded_load, has_load, branch_decodes, opcode_decodes, B12, Jal20, RVCJump, PCRelHi20, PCRelLo12I, marks_of, Aims, word_bytes, word_at, half_at, AreBytes, decoded_jump}
+use Rattle.rv_sequences.proofs.Terms.{jump_word, decoded_addi, option_map, Decoded, Base, Alu, Jal, decode_half, half_funct3, decode_low, Memory, byte, wrap, signed, fetch, LabelUse, with_immediate, decode-patched_branch, decode-patched_jump, decode-patched_compressed_jump, same_low, same_byte}
+use Rattle.rv_sequences.proofs.Terms.{BytesAt, AllBytes, Encodes, IsPatchable, Int, LoadOP, load_funct3, load_opcode, load_decodes, upper_of_distance, lower_of_distance}
 
 -- ---- the words that an instruction puts, with no distance in them yet
 
@@ -22,26 +18,13 @@ jump_decodes flags = refl
 
 -- ---- branches
 
--- a branch's word by its fields
-branch_is : (w f r1 r2 : ℕ) → f < 8 → r1 < 32 → r2 < 32 → w ≡ 0x63 + f * 2 ^ 12 + r1 * 2 ^ 15 + r2 * 2 ^ 20 → IsBType w BRANCH f r1 r2 0
-branch_is w f r1 r2 hf h1 h2 e = record { opcode_is = omega arith; funct3_is = omega arith; rs1_is = omega arith; rs2_is = omega arith; imm_is = omega arith }
-
 -- a word with nothing at 7, 11:8 and 31:25 is fresh
 branch_fresh : (w : ℕ) → w % 4096 ≡ 0x63 → w < 33554432 → IsFresh (marks_of B12) (word_bytes w)
-branch_fresh w low high = (top, (second, (and_comm _ 0, (fourth, tt))))
-  where
-    top : bit_and (w % 256) 0x80 ≡ 0
-    top = let f : bit_and (w % 256) 128 ≡ (w % 256 / 128 % 2) * 128 = and_high (w % 256) 1 7 in omega (arith, f)
-
-    second : bit_and (w / 256 % 256) 0x0f ≡ 0
-    second = let f : bit_and (w / 256 % 256) 15 ≡ w / 256 % 256 % 16 = and_mask (w / 256 % 256) 4 in omega (arith, f)
-
-    fourth : bit_and (w / 16777216) 0xfe ≡ 0
-    fourth = let f : bit_and (w / 16777216) 254 ≡ (w / 16777216 / 2 % 128) * 2 = and_high (w / 16777216) 7 1 in omega (arith, f)
+branch_fresh w low high = (omega (arith, and_high (w % 256) 1 7), (omega (arith, and_mask (w / 256 % 256) 4), (and_comm _ 0, (omega (arith, and_high (w / 16777216) 7 1), tt))))
 
 -- a branch's funct3 has three bits
 funct3_small : (b : BranchFunct3) → funct3_of b < 8
-funct3_small branch.Eq = lit< tt
+funct3_small Eq = lit< tt
 funct3_small b = lit< tt
 
 number_small : (r : Reg) → number_of r < 32
@@ -60,10 +43,10 @@ is_branch kind w f r1 r2 hf h1 h2 e ef e1 e2 = record {
   fits = omega arith;
   decodes = λ flags. branch_decodes flags w kind (pos 0) (omega (arith, ints)) (omega (arith, ints)) (record {
     opcode_is = omega arith;
-    funct3_is = (branch_is w f r1 r2 hf h1 h2 e).funct3_is ∙ ef;
-    rs1_is = (branch_is w f r1 r2 hf h1 h2 e).rs1_is ∙ e1;
-    rs2_is = (branch_is w f r1 r2 hf h1 h2 e).rs2_is ∙ e2;
-    imm_is = (branch_is w f r1 r2 hf h1 h2 e).imm_is;
+    funct3_is = omega arith;
+    rs1_is = omega arith;
+    rs2_is = omega arith;
+    imm_is = omega arith;
   });
   fresh = branch_fresh w (omega arith) (omega arith);
   opcode = omega arith;
@@ -75,19 +58,15 @@ branch_word_is kind w e =
 
 -- ---- words and windows
 
+-- one of the bytes that stand somewhere
+byte_there : (mem : Memory) (a k place : ℕ) (bytes : List ℕ) → place ≡ a + k → k < length bytes → BytesAt mem a bytes → byte mem place ≡ slice_index bytes k
+byte_there mem a k place bytes e lt at = ap (byte mem) e ∙ at.there k lt
+
 -- the word that bytes begin with
 pub word_there : (mem : Memory) (a : ℕ) (bytes : List ℕ) → 4 ≤ length bytes → BytesAt mem a bytes → fetch mem a ≡ word_at bytes
 word_there mem a bytes long at =
     let room = at.room in
-    let a0 : a ≡ a + 0 = omega arith in
-    let a1 : wrap (a + 1) ≡ a + 1 = omega arith in
-    let a2 : wrap (a + 2) ≡ a + 2 = omega arith in
-    let a3 : wrap (a + 3) ≡ a + 3 = omega arith in
-    let b0 : byte mem a ≡ slice_index bytes 0 = ap (byte mem) a0 ∙ at.there 0 (omega arith) in
-    let b1 : byte mem (wrap (a + 1)) ≡ slice_index bytes 1 = ap (byte mem) a1 ∙ at.there 1 (omega arith) in
-    let b2 : byte mem (wrap (a + 2)) ≡ slice_index bytes 2 = ap (byte mem) a2 ∙ at.there 2 (omega arith) in
-    let b3 : byte mem (wrap (a + 3)) ≡ slice_index bytes 3 = ap (byte mem) a3 ∙ at.there 3 (omega arith) in
-    omega arith
+    omega (arith, byte_there mem a 0 a bytes (omega arith) (omega arith) at, byte_there mem a 1 (wrap (a + 1)) bytes (omega arith) (omega arith) at, byte_there mem a 2 (wrap (a + 2)) bytes (omega arith) (omega arith) at, byte_there mem a 3 (wrap (a + 3)) bytes (omega arith) (omega arith) at)
 
 -- four bytes encode the operation that their word decodes to
 pub encodes : (flags : IsaFlags) (bytes : List ℕ) (d : Decoded) → length bytes ≡ 4 → decode flags (word_at bytes) ≡ Some d → Encodes flags bytes (d ∷ [])
@@ -119,12 +98,12 @@ one_word kind opcode bridge flags w decoded four fits is e new d long all kept a
     ∙ ap (λ x. option_map (with_immediate d) (decode flags x)) (word_back w) ∙ ap (option_map (with_immediate d)) e)
 
 -- the window of a jump
-pub jump_patchable : (flags : IsaFlags) → IsPatchable flags Jal20 (word_bytes jump_word) (λ d. decoded_jump d ∷ [])
-jump_patchable flags = record {
+pub jump_patchable : (flags : IsaFlags) (w : ℕ) → w ≡ jump_word → IsPatchable flags Jal20 (word_bytes w) (λ d. decoded_jump d ∷ [])
+jump_patchable flags w is = subst (λ x. IsPatchable flags Jal20 (word_bytes x) (λ d. decoded_jump d ∷ [])) (sym is) (record {
   long = refl;
   fresh = (refl, (refl, (refl, (refl, tt))));
   patched = one_word Jal20 JAL decode-patched_jump flags jump_word (decoded_jump (pos 0)) refl (lit< tt) refl (jump_decodes flags);
-}
+})
 
 -- the window of a branch
 pub branch_patchable : (flags : IsaFlags) (kind : IntegerCompare) (w : ℕ) → IsBranch w kind → IsPatchable flags B12 (word_bytes w) (λ d. decoded_branch kind d ∷ [])
@@ -144,11 +123,7 @@ high_at mem a = byte mem (wrap (a + 2)) + byte mem (wrap (a + 3)) * 2 ^ 8
 pub fetch_half : (mem : Memory) (a : ℕ) (bytes : List ℕ) → BytesAt mem a bytes → length bytes ≡ 2 → fetch mem a ≡ half_at bytes + high_at mem a * 2 ^ 16
 fetch_half mem a bytes at two =
     let room = at.room in
-    let a0 : a ≡ a + 0 = omega arith in
-    let a1 : wrap (a + 1) ≡ a + 1 = omega arith in
-    let b0 : byte mem a ≡ slice_index bytes 0 = ap (byte mem) a0 ∙ at.there 0 (omega arith) in
-    let b1 : byte mem (wrap (a + 1)) ≡ slice_index bytes 1 = ap (byte mem) a1 ∙ at.there 1 (omega arith) in
-    omega arith
+    omega (arith, byte_there mem a 0 a bytes (omega arith) (omega arith) at, byte_there mem a 1 (wrap (a + 1)) bytes (omega arith) (omega arith) at)
 
 pub low_funct3 : (mem : Memory) (a : ℕ) (bytes : List ℕ) → BytesAt mem a bytes → length bytes ≡ 2 → half_funct3 (fetch mem a) ≡ half_funct3 (half_at bytes)
 low_funct3 mem a bytes at two = let word = fetch_half mem a bytes at two in omega (arith, word)
@@ -187,18 +162,15 @@ upper_kept w rd a b c d ha hb hc hd ea eb h = let o = h.opcode_is in let r = h.r
 
 upper_in : (w rd : ℕ) (new : List ℕ) → IsUType w AUIPC rd 0 → length new ≡ 4 → AllBytes new → SameOutside (marks_of PCRelHi20) (word_bytes w) new → IsUType (word_at new) AUIPC rd (u_bits (word_at new))
 upper_in w rd new h four all same =
-    let b0 = all 0 (omega arith) in
-    let b1 = all 1 (omega arith) in
-    let b2 = all 2 (omega arith) in
-    let b3 = all 3 (omega arith) in
-    upper_kept w rd (slice_index new 0) (slice_index new 1) (slice_index new 2) (slice_index new 3) b0 b1 b2 b3 (same_byte (slice_index new 0) (w % 256) b0 (omega arith) same.0) (same_low (slice_index new 1) (w / 256 % 256) same.1.0) h
+    let b = are_bytes new four all in
+    upper_kept w rd (slice_index new 0) (slice_index new 1) (slice_index new 2) (slice_index new 3) b.first b.second b.third b.fourth (same_byte (slice_index new 0) (w % 256) b.first (omega arith) same.0) (same_low (slice_index new 1) (w / 256 % 256) same.1.0) h
 
-pub upper_patchable : (flags : IsaFlags) (w rd : ℕ) → w < 2 ^ 32 → IsUType w AUIPC rd 0 → IsPatchable flags PCRelHi20 (word_bytes w) (λ d. decoded (Base base.Auipc) rd 0 0 (upper_of_distance d) ∷ [])
+pub upper_patchable : (flags : IsaFlags) (w rd : ℕ) → w < 2 ^ 32 → IsUType w AUIPC rd 0 → IsPatchable flags PCRelHi20 (word_bytes w) (λ d. decoded (Base Auipc) rd 0 0 (upper_of_distance d) ∷ [])
 upper_patchable flags w rd fits h = record {
   long = refl;
   fresh = let e = h.imm_is in upper_fresh w (omega arith);
   patched = λ new d long all same aims. let k = upper_in w rd new h long all same in
-      encodes flags new _ long (opcode_decodes flags (word_at new) AUIPC k.opcode_is refl (λ i. Some (decoded (Base base.Auipc) (k.rd_is i) 0 0 (signed (2 ^ 19) (aims i)))));
+      encodes flags new _ long (opcode_decodes flags (word_at new) AUIPC k.opcode_is refl (λ i. Some (decoded (Base Auipc) (k.rd_is i) 0 0 (signed (2 ^ 19) (aims i)))));
 }
 
 -- ---- the lower part
@@ -215,11 +187,8 @@ lower_kept w opcode rd funct3 rs a b c d ha hb hc hd ea eb ec h =
 
 lower_in : (w opcode rd funct3 rs : ℕ) (new : List ℕ) → IsIType w opcode rd funct3 rs 0 → length new ≡ 4 → AllBytes new → SameOutside (marks_of PCRelLo12I) (word_bytes w) new → IsIType (word_at new) opcode rd funct3 rs (i_bits (word_at new))
 lower_in w opcode rd funct3 rs new h four all same =
-    let b0 = all 0 (omega arith) in
-    let b1 = all 1 (omega arith) in
-    let b2 = all 2 (omega arith) in
-    let b3 = all 3 (omega arith) in
-    lower_kept w opcode rd funct3 rs (slice_index new 0) (slice_index new 1) (slice_index new 2) (slice_index new 3) b0 b1 b2 b3 (same_byte (slice_index new 0) (w % 256) b0 (omega arith) same.0) (same_byte (slice_index new 1) (w / 256 % 256) b1 (omega arith) same.1.0) (same_low (slice_index new 2) (w / 65536 % 256) same.1.1.0) h
+    let b = are_bytes new four all in
+    lower_kept w opcode rd funct3 rs (slice_index new 0) (slice_index new 1) (slice_index new 2) (slice_index new 3) b.first b.second b.third b.fourth (same_byte (slice_index new 0) (w % 256) b.first (omega arith) same.0) (same_byte (slice_index new 1) (w / 256 % 256) b.second (omega arith) same.1.0) (same_low (slice_index new 2) (w / 65536 % 256) same.1.1.0) h
 
 addi_decodes : (w : ℕ) → word_funct3 w ≡ 0 → int_by_opcode OP_IMM w ≡ Some (i_layout w (Alu (Int Addi)))
 addi_decodes w z = rw z

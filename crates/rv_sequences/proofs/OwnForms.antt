@@ -1,8 +1,8 @@
 -- What was chosen to stand for an operation in sixteen bits is the operation's own form: c.addi16sp, where that holds the immediate.
-use Rattle.rv_sequences.proofs.Terms.{◌≡◌, ℕ, Bool, true, false, Option, Some, None, ℤ, pos, negsuc, refl, ap, sym, ◌∙◌, arith, eqb-true, ◌==◌, ◌&&◌, not, if◌then◌else◌, true≢false, and_parts, IsaFlags, Decoded, MOp, FloatFormat, LoadOp, StoreOp, Base, Alu, Lui, Jal, Jalr, Ebreak, AluOp, Int, Mul}
-use Rattle.rv_sequences.proofs.Terms.{Bit, IntOp, bare_form, compressed, AluOPRRR, AluOPRRI, LoadOP, StoreOP, load_format, store_format, decoded, load_op, load_of_format, store_op, store_of_format, decoded_rrr, decoded_rri, sp, shift_amount, is_short, is_equal, is_scaled, is_six_bits, form_where}
-use Rattle.rv_sequences.proofs.Terms.{chosen, either_form, zext_w_form, form_rrr, form_lui, form_jalr, form_ebreak, zca_rrr, zca_rri, addi_form, andi_form, move_form, is_move, is_addi16sp, is_addi4spn, is_li, is_addi, short_rrr, short_rri, short_lui, short_jalr, short_ebreak, short_load}
-use Rattle.rv_sequences.proofs.Terms.{short_store, IsAddi16spFirst, IsOwnForm, decoded_jump, short_jump, short_load_either, short_store_either, WhereHalf, Encoded, Half, Word}
+use Rattle.rv_sequences.proofs.Terms.{◌≡◌, ℕ, Bool, true, false, Option, Some, None, ℤ, pos, refl, ap, sym, ◌∙◌, arith, eqb-true, ◌==◌, ◌&&◌, not, if◌then◌else◌, true≢false, and_parts, IsaFlags, Decoded, MOp, Base, Alu, Lui, Jal, Jalr, Ebreak, AluOp, Int, Mul, Bit, IntOp, bare_form, compressed}
+use Rattle.rv_sequences.proofs.Terms.{AluOPRRR, AluOPRRI, LoadOP, StoreOP, load_format, store_format, decoded, load_op, load_of_format, store_op, store_of_format, decoded_rrr, decoded_rri, sp, is_short, is_equal, is_scaled, is_six_bits, form_where, chosen, either_form, zext_w_form, form_rrr}
+use Rattle.rv_sequences.proofs.Terms.{form_lui, form_jalr, form_ebreak, zca_rrr, zca_rri, addi_form, andi_form, move_form, is_move, is_addi16sp, is_addi4spn, is_li, is_addi, short_rrr, short_rri, short_lui, short_jalr, short_ebreak, short_load, short_store, IsAddi16spFirst, IsOwnForm, decoded_jump}
+use Rattle.rv_sequences.proofs.Terms.{short_jump, short_load_either, short_store_either, WhereHalf, Encoded, Half, Word}
 use Rattle.rv_machine.specs.declared.ops.IntOp.TheVariants as int
 use Rattle.rv_machine.specs.declared.ops.MulOp.TheVariants as mul
 use Rattle.rv_machine.specs.declared.ops.BitOp.TheVariants as bit
@@ -17,8 +17,7 @@ is_addi_int _ = false
 
 abbrev pub is_addi_alu : AluOp → Bool
 is_addi_alu (Int op) = is_addi_int op
-is_addi_alu (Mul op) = false
-is_addi_alu (Bit op) = false
+is_addi_alu _ = false
 
 abbrev pub is_addi_op : MOp → Bool
 is_addi_op (Alu op) = is_addi_alu op
@@ -44,16 +43,9 @@ chosen_other None whole h g = g
 chosen_other (Some form) whole h g = h
 
 zca_rrr_other : (flags : IsaFlags) (op : AluOPRRR) (rd rs1 rs2 : ℕ) → AllOther (zca_rrr flags op rd rs1 rs2)
-zca_rrr_other flags rrr.Add rd rs1 rs2 = where_other _ (Alu (Int int.Add)) _ _ _ _ refl
-zca_rrr_other flags rrr.Sub rd rs1 rs2 = where_other _ (Alu (Int int.Sub)) _ _ _ _ refl
-zca_rrr_other flags rrr.Xor rd rs1 rs2 = where_other _ (Alu (Int int.Xor)) _ _ _ _ refl
-zca_rrr_other flags rrr.Or rd rs1 rs2 = where_other _ (Alu (Int int.Or)) _ _ _ _ refl
-zca_rrr_other flags rrr.And rd rs1 rs2 = where_other _ (Alu (Int int.And)) _ _ _ _ refl
-zca_rrr_other flags rrr.Addw rd rs1 rs2 = where_other _ (Alu (Int int.Addw)) _ _ _ _ refl
-zca_rrr_other flags rrr.Subw rd rs1 rs2 = where_other _ (Alu (Int int.Subw)) _ _ _ _ refl
 zca_rrr_other flags rrr.Mul rd rs1 rs2 = if_other (flags.has_zcb && flags.has_m) (either_form (Mul mul.Mul) rd rs1 rs2) None (where_other _ (Alu (Mul mul.Mul)) _ _ _ _ refl) tt
 zca_rrr_other flags rrr.Adduw rd rs1 rs2 = if_other (flags.has_zcb && flags.has_zba) (zext_w_form rd rs1 rs2) None (where_other _ (Alu (Bit bit.AddUw)) _ _ _ _ refl) tt
-zca_rrr_other flags _ rd rs1 rs2 = tt
+zca_rrr_other flags _ rd rs1 rs2 = search where_other
 
 whole_rrr_other : (op : AluOPRRR) (rd rs1 rs2 : ℕ) → is_other (decoded_rrr op rd rs1 rs2)
 whole_rrr_other rrr.Add rd rs1 rs2 = refl
@@ -72,26 +64,14 @@ pub ebreak_other : (flags : IsaFlags) → is_other (short_ebreak flags)
 ebreak_other flags = chosen_other (form_ebreak flags) (bare_form (Base Ebreak)) (where_other flags.has_zca (Base Ebreak) 0 0 0 (pos 0) refl) refl
 
 -- a load or a store is none, of whichever file
-load_row_other : (format : Option FloatFormat) (op : LoadOp) → is_addi_op (load_of_format format op) ≡ false
-load_row_other None op = refl
-load_row_other (Some format) op = refl
-
 pub load_other : (flags : IsaFlags) (op : LoadOP) (rd base : ℕ) (offset : ℤ) → is_other (short_load flags op rd base offset)
-load_other flags op rd base offset = let other = load_row_other (load_format op) (load_op op) in short_load_either is_other flags op rd base offset other other
-
-store_row_other : (format : Option FloatFormat) (op : StoreOp) → is_addi_op (store_of_format format op) ≡ false
-store_row_other None op = refl
-store_row_other (Some format) op = refl
+load_other flags op rd base offset = let other : is_addi_op (load_of_format (load_format op) (load_op op)) ≡ false = elim (load_format op) as (λ f. is_addi_op (load_of_format f (load_op op)) ≡ false) [ None ↦ refl | Some f ↦ refl ] in short_load_either is_other flags op rd base offset other other
 
 pub store_other : (flags : IsaFlags) (op : StoreOP) (base src : ℕ) (offset : ℤ) → is_other (short_store flags op base src offset)
-store_other flags op base src offset = let other = store_row_other (store_format op) (store_op op) in short_store_either is_other flags op base src offset other other
+store_other flags op base src offset = let other : is_addi_op (store_of_format (store_format op) (store_op op)) ≡ false = elim (store_format op) as (λ f. is_addi_op (store_of_format f (store_op op)) ≡ false) [ None ↦ refl | Some f ↦ refl ] in short_store_either is_other flags op base src offset other other
 
 pub jump_other : (flags : IsaFlags) (distance : ℤ) → is_other (short_jump flags distance)
-jump_other flags distance = by flags.has_zca
-  where
-    by : (c : Bool) → is_addi_op (if c then compressed (Base Jal) 0 0 0 distance else decoded_jump distance).op ≡ false
-    by true = refl
-    by false = refl
+jump_other flags distance = elim flags.has_zca as (λ c. is_addi_op (if c then compressed (Base Jal) 0 0 0 distance else decoded_jump distance).op ≡ false) [ true ↦ refl | false ↦ refl ]
 
 -- no form of these is one of addi
 pub other_own : (e : Encoded) (d : Decoded) → is_other d → WhereHalf e (IsOwnForm d)
@@ -127,25 +107,20 @@ inverse false false true loads adds small rd rs imm whole r i four short same e 
 inverse false false false true adds true rd rs imm whole r i four short same e holds =
     let zero : 0 ≡ r = ap (λ (x : Decoded). x.rs1) e in
     absurd (true≢false (sym holds ∙ sym (ap (λ n. is_addi16sp n n i) zero)))
-inverse false false false true adds false rd rs imm whole r i four short same e holds = absurd (not_short whole (compressed (Alu (Int int.Addi)) r r 0 i) four refl e)
 inverse false false false false true true rd rs imm whole r i four short same e holds =
     let to : rd ≡ r = ap (λ (x : Decoded). x.rd) e in
     let by : imm ≡ i = ap (λ (x : Decoded). x.imm) e in
     absurd (true≢false (sym holds ∙ (λ k. is_addi16sp (sym to k) (sym to k) (sym by k)) ∙ same refl))
-inverse false false false false true false rd rs imm whole r i four short same e holds = absurd (not_short whole (compressed (Alu (Int int.Addi)) r r 0 i) four refl e)
-inverse false false false false false small rd rs imm whole r i four short same e holds = absurd (not_short whole (compressed (Alu (Int int.Addi)) r r 0 i) four refl e)
+inverse false false false loads adds small rd rs imm whole r i four short same e holds = absurd (not_short whole (compressed (Alu (Int int.Addi)) r r 0 i) four refl e)
 
-first_of_three : (a b c : Bool) → (a && b && c) ≡ true → a ≡ true
-first_of_three a b c h = (and_parts a b (and_parts (a && b) c h).0).0
-
-first_of_four : (a b c d : Bool) → (a && b && c && d) ≡ true → a ≡ true
-first_of_four a b c d h = first_of_three a b c (and_parts (a && b && c) d h).0
+first_of : (a b c : Bool) → (a && b && c) ≡ true → a ≡ true
+first_of a b c h = (and_parts a b (and_parts (a && b) c h).0).0
 
 same_registers : (rd rs : ℕ) (imm : ℤ) → is_addi rd rs imm ≡ true → is_addi16sp rd rd imm ≡ is_addi16sp rd rs imm
-same_registers rd rs imm e = ap (λ n. is_addi16sp rd n imm) (eqb-true rd rs (first_of_three (rd == rs) (not (rs == 0)) (not (is_equal imm (pos 0))) e))
+same_registers rd rs imm e = ap (λ n. is_addi16sp rd n imm) (eqb-true rd rs (first_of (rd == rs) (not (rs == 0)) (not (is_equal imm (pos 0))) e))
 
 form_inverse : (c : Bool) (rd rs : ℕ) (imm : ℤ) (r : ℕ) (i : ℤ) → chosen (if c then addi_form rd rs imm else None) (decoded_rri rri.Addi rd rs imm) ≡ compressed (Alu (Int int.Addi)) r r 0 i → is_addi16sp r r i ≡ true → is_addi16sp rd rs imm ≡ true
-form_inverse true rd rs imm r i e holds = inverse (is_move rd rs imm) (is_addi16sp rd rs imm) (is_addi4spn rd rs imm) (is_li rd rs) (is_addi rd rs imm) (is_six_bits imm) rd rs imm (decoded_rri rri.Addi rd rs imm) r i refl (first_of_four (is_short rd) (rs == sp) (not (is_equal imm (pos 0))) (is_scaled 4 255 imm)) (same_registers rd rs imm) e holds
+form_inverse true rd rs imm r i e holds = inverse (is_move rd rs imm) (is_addi16sp rd rs imm) (is_addi4spn rd rs imm) (is_li rd rs) (is_addi rd rs imm) (is_six_bits imm) rd rs imm (decoded_rri rri.Addi rd rs imm) r i refl (λ h. first_of (is_short rd) (rs == sp) (not (is_equal imm (pos 0))) (and_parts (is_short rd && (rs == sp) && not (is_equal imm (pos 0))) (is_scaled 4 255 imm) h).0) (same_registers rd rs imm) e holds
 form_inverse false rd rs imm r i e holds = absurd (not_short (decoded_rri rri.Addi rd rs imm) (compressed (Alu (Int int.Addi)) r r 0 i) refl refl e)
 
 addi_own : (flags : IsaFlags) (rd rs : ℕ) (imm : ℤ) (e : Encoded) → WhereHalf e (IsAddi16spFirst rd rs imm) → WhereHalf e (IsOwnForm (short_rri flags rri.Addi rd rs imm))
@@ -165,14 +140,6 @@ andi_other flags rd rs imm =
 
 pub rri_own : (flags : IsaFlags) (op : AluOPRRI) (rd rs : ℕ) (imm : ℤ) (e : Encoded) → (op ≡ rri.Addi → WhereHalf e (IsAddi16spFirst rd rs imm)) → WhereHalf e (IsOwnForm (short_rri flags op rd rs imm))
 rri_own flags rri.Addi rd rs imm e first = addi_own flags rd rs imm e (first refl)
-rri_own flags rri.Xori rd rs imm e first = others flags (zca_rri flags rri.Xori rd rs imm) (decoded_rri rri.Xori rd rs imm) e (where_other (flags.has_zcb && (rd == rs) && is_short rs && is_equal imm (negsuc 0)) (Alu (Int int.Xori)) rd rd 0 (negsuc 0) refl) refl
 rri_own flags rri.Ori rd rs imm e first = others flags (zca_rri flags rri.Ori rd rs imm) (decoded_rri rri.Ori rd rs imm) e (if_other (is_move rd rs imm) (move_form rd rs) None refl tt) refl
 rri_own flags rri.Andi rd rs imm e first = others flags (andi_form flags rd rs imm) (decoded_rri rri.Andi rd rs imm) e (andi_other flags rd rs imm) refl
-rri_own flags rri.Slli rd rs imm e first = others flags (zca_rri flags rri.Slli rd rs imm) (decoded_rri rri.Slli rd rs imm) e (where_other ((rd == rs) && not (rs == 0) && not (is_equal imm (pos 0))) (Alu (Int int.Slli)) rd rd 0 (shift_amount imm) refl) refl
-rri_own flags rri.Srli rd rs imm e first = others flags (zca_rri flags rri.Srli rd rs imm) (decoded_rri rri.Srli rd rs imm) e (where_other ((rd == rs) && is_short rs && not (is_equal imm (pos 0))) (Alu (Int int.Srli)) rd rd 0 (shift_amount imm) refl) refl
-rri_own flags rri.Srai rd rs imm e first = others flags (zca_rri flags rri.Srai rd rs imm) (decoded_rri rri.Srai rd rs imm) e (where_other ((rd == rs) && is_short rs && not (is_equal imm (pos 0))) (Alu (Int int.Srai)) rd rd 0 (shift_amount imm) refl) refl
-rri_own flags rri.Addiw rd rs imm e first = others flags (zca_rri flags rri.Addiw rd rs imm) (decoded_rri rri.Addiw rd rs imm) e (where_other ((rd == rs) && not (rs == 0) && is_six_bits imm) (Alu (Int int.Addiw)) rd rd 0 imm refl) refl
-rri_own flags rri.Sextb rd rs imm e first = others flags (zca_rri flags rri.Sextb rd rs imm) (decoded_rri rri.Sextb rd rs imm) e (where_other (flags.has_zcb && flags.has_zbb && (rd == rs) && is_short rs && is_equal imm (pos 0)) (Alu (Bit bit.SextB)) rd rd 0 (pos 0) refl) refl
-rri_own flags rri.Sexth rd rs imm e first = others flags (zca_rri flags rri.Sexth rd rs imm) (decoded_rri rri.Sexth rd rs imm) e (where_other (flags.has_zcb && flags.has_zbb && (rd == rs) && is_short rs && is_equal imm (pos 0)) (Alu (Bit bit.SextH)) rd rd 0 (pos 0) refl) refl
-rri_own flags rri.Zexth rd rs imm e first = others flags (zca_rri flags rri.Zexth rd rs imm) (decoded_rri rri.Zexth rd rs imm) e (where_other (flags.has_zcb && flags.has_zbb && (rd == rs) && is_short rs && is_equal imm (pos 0)) (Alu (Bit bit.ZextH)) rd rd 0 (pos 0) refl) refl
-rri_own flags op rd rs imm e first = others flags None (decoded_rri op rd rs imm) e tt refl
+rri_own flags op rd rs imm e first = others flags (zca_rri flags op rd rs imm) (decoded_rri op rd rs imm) e (search where_other) refl

@@ -1,6 +1,5 @@
 -- What bytes and uses that were put at the end leave as it was, with labels of their own or without.
-use Rattle.rv_sequences.proofs.Terms.{◌≡◌, ℕ, ◌<◌, ◌≤◌, List, Option, Some, None, ap, sym, ◌∙◌, arith, slice_get, first_inner, first_constant, LabelUse, label_kinds, Use, place_of, few_allocated, Buffer, AppendsCode, AppendsSequence}
-use Rattle.mach_buffer.specs.Buffer.{uses_of}
+use Rattle.{mach_buffer.specs.Buffer.uses_of, rv_sequences.proofs.Terms.{◌≡◌, ℕ, ◌<◌, ◌≤◌, List, Option, Some, ap, ◌∙◌, arith, slice_get, first_inner, first_constant, LabelUse, label_kinds, Use, place_of, few_allocated, Buffer, AppendsCode, AppendsSequence}}
 
 -- code that allocates no label
 pub no_own : (code : List ℕ) (own : List (Use LabelUse)) (old new : Buffer) → AppendsCode code own old new → AppendsSequence 0 code own old new
@@ -18,9 +17,6 @@ no_own code own old new p = record {
   sound = p.sound;
 }
 
-not_some : (at : ℕ) → None ≡ Some at → ⊥
-not_some at e = absurd (cc)
-
 module _ {count : ℕ} {code : List ℕ} {own : List (Use LabelUse)} {old new : Buffer} (p : AppendsSequence count code own old new) where
   -- a label that a listing may name stands where it stood
   pub low_kept : (label : ℕ) → label < first_inner → place_of new label ≡ place_of old label
@@ -32,7 +28,7 @@ module _ {count : ℕ} {code : List ℕ} {own : List (Use LabelUse)} {old new : 
 
   -- one that is bound
   pub bound_kept : (label at : ℕ) → place_of old label ≡ Some at → place_of new label ≡ Some at
-  bound_kept label at h = p.places label (λ k lt e. not_some at (sym (p.unbound k lt) ∙ ap (place_of old) (sym e) ∙ h)) ∙ h
+  bound_kept label at h = p.places label (λ k lt e. let unbound = p.unbound k lt in absurd (cc)) ∙ h
 
   -- and one that a use names
   pub named_kept : (j : ℕ) (u : Use LabelUse) → slice_get (uses_of old) j ≡ Some u → place_of new u.label.number ≡ place_of old u.label.number

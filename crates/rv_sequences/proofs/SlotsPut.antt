@@ -1,14 +1,8 @@
 -- The slots that calls put, one call after the other.
-use Rattle.rv_sequences.proofs.Terms.{◌≡◌, ◌≢◌, ℕ, ◌+◌, true, false, nat_eq, List, [], ◌∷◌, length, Some, refl, ap, sym, ◌∙◌, subst, arith, inl, inr, ◌++◌, ◌<◌, if◌then◌else◌, ◌%◌, ◌^◌, to_le_bytes, w16, w32, w64, length-append, nat_tests, IsaFlags, MachLabel, Decoded, decode, compressed, Base, Jal}
-use Rattle.rv_sequences.proofs.Terms.{decoded_jump, jump_word, IntegerCompare, LabelUse, Jal20, B12, RVCJump, word_bytes, half_at, use_at, shape_of, bytes_of, allocated_of, with_bytes, with_use, Shape, IsUsable, with_record, Buffer, IsSoundBuffer, PutsAlone, PutsSlots, Label, Slot, Op, Aim, Data}
-use Rattle.rv_sequences.proofs.Terms.{size_of, PutsSlot, Puts, jump_to, wide_jump_to, branch_to, trap_bytes, trap_slots, inline_slots, constant_slots, IrType, RegClass, move_op, move_action, move_pieces, move_by, Do, slots_of, bits_of, TrapCode, label_kinds, Lasts, IsPlain, decode_half, IsOwnForm}
-use Rattle.rv_sequences.proofs.Terms.{Encoded, Half, Word, Holds, IsHalf, IsSizeOf, IsWord, WhereHalf}
-use Rattle.rv_sequences.proofs.OwnForms.{own_word}
-use Rattle.rv_sequences.proofs.Encoded.{word_encodes, jump_patchable, half_jump_patchable, branch_patchable, IsBranch, half_encodes}
-use Rattle.rv_sequences.proofs.PlainSlots.{plain_adds}
-use Rattle.rv_sequences.proofs.BufferAfterSlots.{lasts_after_slots, puts_bytes}
-use Rattle.rv_ops.specs.declared.memory.LoadOP.TheVariants as loads
-use Rattle.mach_records.specs.declared.records.Event.TheVariants as event
+use Rattle.rv_sequences.proofs.{BufferAfterSlots.{lasts_after_slots, puts_bytes}, Encoded.{word_encodes, half_jump_patchable, half_encodes}, OwnForms.own_word, PlainSlots.plain_keeps, Terms.{Ld, Lw, Trap, ◌≡◌, ◌≢◌, ℕ, ◌+◌, true, false, nat_eq, List, [], ◌∷◌, length, ℤ, IsPatchable, Some, refl, ap}}
+use Rattle.rv_sequences.proofs.Terms.{sym, ◌∙◌, subst, arith, inl, inr, ◌++◌, ◌<◌, if◌then◌else◌, ◌%◌, ◌^◌, to_le_bytes, w16, w32, w64, length-append, nat_tests, IsaFlags, MachLabel, Decoded, decode, compressed, Base, Jal, decoded_jump, IntegerCompare, LabelUse, Jal20, RVCJump, word_bytes, half_at}
+use Rattle.rv_sequences.proofs.Terms.{use_at, shape_of, bytes_of, allocated_of, with_bytes, with_use, Shape, IsUsable, with_record, Buffer, IsSoundBuffer, PutsAlone, PutsSlots, Label, Slot, Op, Aim, Data, size_of, PutsSlot, Puts, jump_to, wide_jump_to, branch_to, trap_bytes, trap_slots}
+use Rattle.rv_sequences.proofs.Terms.{inline_slots, constant_slots, IrType, RegClass, move_op, move_pieces, move_by, slots_of, bits_of, TrapCode, label_kinds, Lasts, IsPlain, decode_half, IsOwnForm, Encoded, Half, Word, Holds, IsHalf, IsSizeOf}
 
 -- ---- one call
 
@@ -16,23 +10,21 @@ use Rattle.mach_records.specs.declared.records.Event.TheVariants as event
 pub alone : {flags : IsaFlags} {slots : List Slot} {old new : Buffer} → PutsSlots flags slots old new → PutsAlone flags slots old new
 alone {flags} {slots} {old} {new} p = (new, p, refl)
 
+-- one slot was put
+pub slot_put : {flags : IsaFlags} (slot : Slot) (old new : Buffer) → PutsSlot flags (allocated_of old) slot (shape_of old) (shape_of new) → IsSoundBuffer new → PutsSlots flags (slot ∷ []) old new
+slot_put slot old new put sound = record { puts = (shape_of new, put, refl); sound = sound }
+
 -- nothing was put
 pub none_put : (flags : IsaFlags) (b : Buffer) → IsSoundBuffer b → PutsAlone flags [] b b
 none_put flags b s = (b, record { puts = refl; sound = s }, refl)
 
 -- the word of an operation
 pub op_put : (flags : IsaFlags) (old new : Buffer) (w : ℕ) (bytes : List ℕ) (d : Decoded) → d.len ≡ 4 → decode flags w ≡ Some d → bytes ≡ word_bytes w → shape_of new ≡ with_bytes bytes (shape_of old) → IsSoundBuffer new → PutsAlone flags (Op d ∷ []) old new
-op_put flags old new w bytes d four e is put sound = alone (record {
-  puts = (shape_of new, (word_bytes w, sym four, word_encodes flags w d e, put ∙ ap (λ b. with_bytes b (shape_of old)) is, own_word d (half_at (word_bytes w)) four), refl);
-  sound = sound;
-})
+op_put flags old new w bytes d four e is put sound = alone (slot_put (Op d) old new (word_bytes w, sym four, word_encodes flags w d e, put ∙ ap (λ b. with_bytes b (shape_of old)) is, own_word d (half_at (word_bytes w)) four) sound)
 
--- a jump, in a word
-pub jump_put_at : (flags : IsaFlags) (old new : Buffer) (w : ℕ) (label : MachLabel) → w ≡ jump_word → shape_of new ≡ with_bytes (word_bytes w) (with_use (use_at (length (bytes_of old)) label Jal20) (shape_of old)) → IsSoundBuffer new → PutsSlots flags (wide_jump_to (Label label) ∷ []) old new
-jump_put_at flags old new w label is put sound = record {
-  puts = (shape_of new, (word_bytes jump_word, jump_patchable flags, put ∙ ap (λ x. with_bytes (word_bytes x) (with_use (use_at (length (bytes_of old)) label Jal20) (shape_of old))) is), refl);
-  sound = sound;
-}
+-- a use of a label whose window is a word, as a jump or a branch
+pub aim_put_at : (flags : IsaFlags) (kind : LabelUse) (ops : ℤ → List Decoded) (old new : Buffer) (w : ℕ) (label : MachLabel) → IsPatchable flags kind (word_bytes w) ops → shape_of new ≡ with_bytes (word_bytes w) (with_use (use_at (length (bytes_of old)) label kind) (shape_of old)) → IsSoundBuffer new → PutsSlots flags (Aim kind (Label label) ops ∷ []) old new
+aim_put_at flags kind ops old new w label is put sound = slot_put (Aim kind (Label label) ops) old new (word_bytes w, is, put) sound
 
 -- where there is no c.j, that is the jump
 pub whole_jump_put : (flags : IsaFlags) (old new : Buffer) (label : MachLabel) → flags.has_zca ≡ false → PutsSlots flags (wide_jump_to (Label label) ∷ []) old new → PutsSlots flags (jump_to flags (Label label) ∷ []) old new
@@ -40,17 +32,8 @@ whole_jump_put flags old new label off p = subst (λ c. PutsSlots flags (Aim (if
 
 -- and c.j, where there is one
 pub half_jump_put : (flags : IsaFlags) → flags.has_zca ≡ true → (old mid new : Buffer) (label : MachLabel) (half here : ℕ) → half ≡ 0xa001 → here ≡ length (bytes_of old) → shape_of mid ≡ with_use (use_at here label RVCJump) (shape_of old) → shape_of new ≡ with_bytes (to_le_bytes w16 half) (shape_of mid) → IsSoundBuffer new → PutsSlots flags (jump_to flags (Label label) ∷ []) old new
-half_jump_put flags on old mid new label half here is at used put sound = subst (λ c. PutsSlots flags (Aim (if c then RVCJump else Jal20) (Label label) (λ d. (if c then compressed (Base Jal) 0 0 0 d else decoded_jump d) ∷ []) ∷ []) old new) (sym on) (record {
-  puts = (shape_of new, (0x01 ∷ 0xa0 ∷ [], half_jump_patchable flags on, put ∙ (λ i. with_bytes (to_le_bytes w16 (is i)) (used i)) ∙ ap (λ n. with_bytes (0x01 ∷ 0xa0 ∷ []) (with_use (use_at n label RVCJump) (shape_of old))) at), refl);
-  sound = sound;
-})
-
--- a branch
-pub branch_put_at : (flags : IsaFlags) (old new : Buffer) (kind : IntegerCompare) (w : ℕ) (label : MachLabel) → IsBranch w kind → shape_of new ≡ with_bytes (word_bytes w) (with_use (use_at (length (bytes_of old)) label B12) (shape_of old)) → IsSoundBuffer new → PutsSlots flags (branch_to kind (Label label) ∷ []) old new
-branch_put_at flags old new kind w label b put sound = record {
-  puts = (shape_of new, (word_bytes w, branch_patchable flags kind w b, put), refl);
-  sound = sound;
-}
+half_jump_put flags on old mid new label half here is at used put sound = subst (λ c. PutsSlots flags (Aim (if c then RVCJump else Jal20) (Label label) (λ d. (if c then compressed (Base Jal) 0 0 0 d else decoded_jump d) ∷ []) ∷ []) old new) (sym on)
+    (slot_put (Aim RVCJump (Label label) (λ d. compressed (Base Jal) 0 0 0 d ∷ [])) old new (0x01 ∷ 0xa0 ∷ [], half_jump_patchable flags on, put ∙ (λ i. with_bytes (to_le_bytes w16 (is i)) (used i)) ∙ ap (λ n. with_bytes (0x01 ∷ 0xa0 ∷ []) (with_use (use_at n label RVCJump) (shape_of old))) at) sound)
 
 -- four bytes longer
 pub word_longer : (old new : Buffer) (w : ℕ) (label : MachLabel) (kind : LabelUse) → shape_of new ≡ with_bytes (word_bytes w) (with_use (use_at (length (bytes_of old)) label kind) (shape_of old)) → length (bytes_of new) ≡ length (bytes_of old) + 4
@@ -66,13 +49,12 @@ branch_and_jump {flags} kind t f old mid new x y =
 pub move_same : (flags : IsaFlags) (class : RegClass) (type : IrType) (rd rs : ℕ) (b : Buffer) → IsSoundBuffer b → rd ≡ rs → PutsAlone flags (slots_of flags (move_pieces class type rd rs)) b b
 move_same flags class type rd rs b sound same =
     let e : nat_eq rd rs ≡ true = grind (arith, nat_tests) in
-    subst (λ c. PutsAlone flags (slots_of flags (if c then [] else Do (move_action class type rd rs) ∷ [])) b b) (sym e) (none_put flags b sound)
+    rw e (none_put flags b sound)
 
 pub move_other : {flags : IsaFlags} (class : RegClass) (type : IrType) (rd rs : ℕ) (old new : Buffer) → rd ≢ rs → PutsAlone flags (Op (move_op flags class type rd rs) ∷ []) old new → PutsAlone flags (slots_of flags (move_pieces class type rd rs)) old new
 move_other {flags} class type rd rs old new other p =
     let e : nat_eq rd rs ≡ false = grind (arith, nat_tests) in
-    subst (λ c. PutsAlone flags (slots_of flags (if c then [] else Do (move_action class type rd rs) ∷ [])) old new) (sym e)
-    (subst (λ d. PutsAlone flags (Op d ∷ []) old new) (move_by flags class type rd rs) p)
+    rw e (subst (λ d. PutsAlone flags (Op d ∷ []) old new) (move_by flags class type rd rs) p)
 
 -- ---- one after the other
 
@@ -84,7 +66,7 @@ puts_after flags allocated (slot ∷ slots) more s t u p q = (p.0, p.1, puts_aft
 pub both_alone : {flags : IsaFlags} (slots more : List Slot) (old mid new : Buffer) → IsPlain slots → PutsAlone flags slots old mid → PutsAlone flags more mid new → PutsAlone flags (slots ++ more) old new
 both_alone {flags} slots more old mid new plain a b =
     let first : Puts flags (allocated_of old) slots (shape_of old) (shape_of mid) = subst (λ (x : Buffer). Puts flags (allocated_of old) slots (shape_of old) (shape_of x)) (sym a.2) a.1.puts in
-    let same : allocated_of mid ≡ allocated_of old = (plain_adds flags (allocated_of old) slots (shape_of old) (shape_of mid) plain first).allocated in
+    let same : allocated_of mid ≡ allocated_of old = (plain_keeps flags (allocated_of old) slots (shape_of old) (shape_of mid) plain first).2 in
     let second : Puts flags (allocated_of old) more (shape_of mid) (shape_of b.0) = subst (λ n. Puts flags n more (shape_of mid) (shape_of b.0)) same b.1.puts in
     (b.0, record { puts = puts_after flags (allocated_of old) slots more (shape_of old) (shape_of mid) (shape_of b.0) first second; sound = b.1.sound }, b.2)
 
@@ -105,32 +87,22 @@ alone_usable {flags} slots old new label q usable = subst (λ (b : Buffer). IsUs
 -- ---- data and traps
 
 pub bytes_put : (flags : IsaFlags) (old new : Buffer) (bytes : List ℕ) → shape_of new ≡ with_bytes bytes (shape_of old) → IsSoundBuffer new → PutsAlone flags (Data bytes ∷ []) old new
-bytes_put flags old new bytes put sound = alone (record { puts = (shape_of new, put, refl); sound = sound })
+bytes_put flags old new bytes put sound = alone (slot_put (Data bytes) old new put sound)
 
-pub trap_put : (flags : IsaFlags) (old mid new : Buffer) (code : TrapCode) (bytes : List ℕ) → bytes ≡ trap_bytes flags → shape_of mid ≡ with_record (event.Trap code) (shape_of old) → shape_of new ≡ with_bytes bytes (shape_of mid) → IsSoundBuffer new → PutsAlone flags (trap_slots flags code) old new
+pub trap_put : (flags : IsaFlags) (old mid new : Buffer) (code : TrapCode) (bytes : List ℕ) → bytes ≡ trap_bytes flags → shape_of mid ≡ with_record (Trap code) (shape_of old) → shape_of new ≡ with_bytes bytes (shape_of mid) → IsSoundBuffer new → PutsAlone flags (trap_slots flags code) old new
 trap_put flags old mid new code bytes are recorded put sound = alone (record { puts = (shape_of mid, (tt, recorded), (shape_of new, put ∙ ap (λ b. with_bytes b (shape_of mid)) are, refl)); sound = sound })
 
-pub constant_word : {flags : IsaFlags} (rd : ℕ) (type : IrType) (imm : ℕ) (old new : Buffer) → bits_of type ≡ 32 → PutsAlone flags (inline_slots flags rd loads.Lw 4 (to_le_bytes w32 (imm % 2 ^ 32))) old new → PutsAlone flags (constant_slots flags rd type imm) old new
+pub constant_word : {flags : IsaFlags} (rd : ℕ) (type : IrType) (imm : ℕ) (old new : Buffer) → bits_of type ≡ 32 → PutsAlone flags (inline_slots flags rd Lw 4 (to_le_bytes w32 (imm % 2 ^ 32))) old new → PutsAlone flags (constant_slots flags rd type imm) old new
 constant_word {flags} rd type imm old new is p =
     let e : nat_eq (bits_of type) 32 ≡ true = grind (arith, nat_tests) in
-    subst (λ c. PutsAlone flags (if c then inline_slots flags rd loads.Lw 4 (to_le_bytes w32 (imm % 2 ^ 32)) else inline_slots flags rd loads.Ld 8 (to_le_bytes w64 imm)) old new) (sym e) p
+    rw e p
 
-pub constant_double : {flags : IsaFlags} (rd : ℕ) (type : IrType) (imm : ℕ) (old new : Buffer) → bits_of type ≢ 32 → PutsAlone flags (inline_slots flags rd loads.Ld 8 (to_le_bytes w64 imm)) old new → PutsAlone flags (constant_slots flags rd type imm) old new
+pub constant_double : {flags : IsaFlags} (rd : ℕ) (type : IrType) (imm : ℕ) (old new : Buffer) → bits_of type ≢ 32 → PutsAlone flags (inline_slots flags rd Ld 8 (to_le_bytes w64 imm)) old new → PutsAlone flags (constant_slots flags rd type imm) old new
 constant_double {flags} rd type imm old new other p =
     let e : nat_eq (bits_of type) 32 ≡ false = grind (arith, nat_tests) in
-    subst (λ c. PutsAlone flags (if c then inline_slots flags rd loads.Lw 4 (to_le_bytes w32 (imm % 2 ^ 32)) else inline_slots flags rd loads.Ld 8 (to_le_bytes w64 imm)) old new) (sym e) p
+    rw e p
 
 -- ---- instructions of sixteen bits, and how long an instruction is
-
--- what an instruction holds, by which it is
-pub held_half : (flags : IsaFlags) (e : Encoded) (half : ℕ) (d : Decoded) → e ≡ Half half → Holds flags e d → IsHalf flags half d
-held_half flags e half d is h = subst (λ (x : Encoded). Holds flags x d) is h
-
-pub held_word : (flags : IsaFlags) (e : Encoded) (word : ℕ) (d : Decoded) → e ≡ Word word → Holds flags e d → IsWord flags word d
-held_word flags e word d is h = subst (λ (x : Encoded). Holds flags x d) is h
-
-pub where_half : (P : ℕ → Type 0) (e : Encoded) (half : ℕ) → e ≡ Half half → WhereHalf e P → P half
-where_half P e half is h = subst (λ (x : Encoded). WhereHalf x P) is h
 
 -- its bytes
 half_back : (half : ℕ) → half < 2 ^ 16 → half_at (to_le_bytes w16 half) ≡ half
@@ -139,20 +111,11 @@ half_back half fits = omega arith
 pub half_put : (flags : IsaFlags) (old new : Buffer) (half : ℕ) (d : Decoded) → IsHalf flags half d → IsOwnForm d half → half < 2 ^ 16 → shape_of new ≡ with_bytes (to_le_bytes w16 half) (shape_of old) → IsSoundBuffer new → PutsAlone flags (Op d ∷ []) old new
 half_put flags old new half d is own fits put sound =
     let back = half_back half fits in
-    alone (record {
-      puts = (shape_of new, (to_le_bytes w16 half, sym is.long, half_encodes flags (to_le_bytes w16 half) d refl (subst (λ n. n < 2 ^ 16) (sym back) fits) (ap (λ n. nat_eq (n % 4) 3) back ∙ is.narrow) (ap (decode_half flags) back ∙ is.decodes), put, subst (IsOwnForm d) (sym back) own), refl);
-      sound = sound;
-    })
+    alone (slot_put (Op d) old new (to_le_bytes w16 half, sym is.long, half_encodes flags (to_le_bytes w16 half) d refl (subst (λ n. n < 2 ^ 16) (sym back) fits) (ap (λ n. nat_eq (n % 4) 3) back ∙ is.narrow) (ap (decode_half flags) back ∙ is.decodes), put, subst (IsOwnForm d) (sym back) own) sound)
 
 -- how long it is
-two : (flags : IsaFlags) (half : ℕ) (d : Decoded) → IsHalf flags half d → IsSizeOf d 2
-two flags half d h = record { is = sym h.long; even = refl; few = omega arith }
-
-four : (flags : IsaFlags) (word : ℕ) (d : Decoded) → IsWord flags word d → IsSizeOf d 4
-four flags word d h = record { is = sym h.long; even = refl; few = omega arith }
-
 pub half_sized : {half : ℕ} (e : Encoded) → e ≡ Half half → (flags : IsaFlags) (d : Decoded) → Holds flags e d → IsSizeOf d 2
-half_sized {half} e is flags d h = two flags half d (held_half flags e half d is h)
+half_sized e is flags d h = let held = rw is at h in record { is = sym held.long; even = refl; few = omega arith }
 
 pub word_sized : {word : ℕ} (e : Encoded) → e ≡ Word word → (flags : IsaFlags) (d : Decoded) → Holds flags e d → IsSizeOf d 4
-word_sized {word} e is flags d h = four flags word d (held_word flags e word d is h)
+word_sized e is flags d h = let held = rw is at h in record { is = sym held.long; even = refl; few = omega arith }

@@ -1,22 +1,24 @@
 -- What an instruction puts into a buffer: links of the proof.
 use Rattle.std.specs.Prelude.{◌≡◌, ℕ, ◌+◌, ◌*◌, ◌%◌, ◌^◌, ◌<◌, ◌≤◌, ◌⊎◌, ◌≢◌, Bool, true, false, List, [], ◌∷◌, ◌++◌, length, take, Option, Some, None, is_some, slice_get}
+use Rattle.rv_base.specs.declared.call.TryCallInfo.{TryCallInfo}
 use Rattle.rv_base.specs.declared.flags.IsaFlags.{IsaFlags}
 use Rattle.rv_base.specs.declared.label.MachLabel.{MachLabel}
 use Rattle.rv_base.specs.Frame.{sp_to_args_end}
 use Rattle.rv_base.specs.LabelUse.{code_limit}
 use Rattle.mach_labels.specs.Table.{first_inner, first_constant}
 use Rattle.rv_inst.specs.declared.inst.Inst.{Inst}
+use Rattle.rv_inst.specs.declared.inst.Inst.TheVariants.{ReturnCall}
 use Rattle.rv_inst.specs.declared.inst.Line.TheVariants.{Inst as Put}
 use Rattle.rv_inst.specs.declared.label_use.LabelUse.{LabelUse}
 use Rattle.rv_inst.specs.declared.label_use.LabelUse.TheVariants.{Jal20}
 use Rattle.rv_inst.specs.LabelUse.{label_kinds, has_veneer_of, forward_of}
 use Rattle.rv_inst.specs.LabelUseWords.{word_bytes}
 use Rattle.rv_inst.specs.Context.{Context}
-use Rattle.rv_inst.specs.Operands.{table_of, inst_ways, inst_constant, tail_call_of, named_by}
+use Rattle.rv_inst.specs.Forms.{jump_size}
+use Rattle.rv_inst.specs.Operands.{Return, return_of, table_of, inst_ways, inst_constant, tail_call_of, try_call_of, named_by}
 use Rattle.rv_inst.specs.Frames.{is_bad_frame_for}
 use Rattle.rv_inst.specs.Rules.{inst_rule}
-use Rattle.rv_inst.specs.Sizes.{Extent, Words, Island, After, Around, words_in, extent_of, line_space, island_space, inst_sum, inst_records}
-use Rattle.rv_inst.specs.MostBytes.{most_bytes}
+use Rattle.rv_inst.specs.Sizes.{IsOfSize, first_in, space_in, inst_size, most_bytes, request_of, line_space, inst_sum, inst_records}
 use Rattle.rv_inst.specs.Uses.{use_at, uses_in, least_reach}
 use Rattle.mach_buffer.specs.declared.buffer.MachBuffer.{MachBuffer}
 use Rattle.mach_records.specs.declared.records.MachRecord.{MachRecord}
@@ -28,6 +30,7 @@ use Rattle.mach_buffer.specs.Shape.{Shape, with_allocated}
 use Rattle.mach_buffer.specs.Constants.{end_after, reserve_of, AllStand}
 use Rattle.mach_buffer.specs.Growth.{Lasts}
 use Rattle.mach_buffer.specs.Windows.{AreWindows}
+use Rattle.rv_sequences.specs.Images.{FieldsStand}
 use Rattle.rv_sequences.specs.NewConstants.{AddsConstants}
 use Rattle.rv_code.specs.Slots.{Label, own_label}
 use Rattle.rv_sequences.specs.Puts.{Puts}
@@ -95,20 +98,6 @@ pub record IsOwnUse (count allocated : ℕ) (place : ℕ → Option ℕ) (u : Us
   pub bare : u.veneer ≡ None
   pub reached : is_reached label_kinds (place u.label.number) u ≡ true
 
--- an instruction's bytes, as many as it is long, its uses, those of its table's labels or of its own labels, which it allocates and
--- binds, at most five and none where it asks for an island, and its records were put at the end, and its constant was named
-pub record AppendsInst (context : Context) (inst : Inst) (old new : Buffer) : Type 0 where
-  pub code : List ℕ
-  pub own : ℕ
-  pub few : own ≤ 5
-  pub alone : is_some (island_space context inst) ≡ true → own ≡ 0
-  pub direct : List (Use LabelUse)
-  pub adds : AppendsSequence own code (uses_in context (length (bytes_of old)) (length (bytes_of new)) inst ++ direct) old new
-  pub each : (j : ℕ) (u : Use LabelUse) → slice_get direct j ≡ Some u → IsFarUse (table_of inst) u ⊎ IsOwnUse own (allocated_of old) (place_of new) u
-  pub records : records_of new ≡ records_of old ++ inst_records context (length (bytes_of old)) (length (bytes_of new)) inst
-  pub named : named_of new ≡ named_by (inst_constant inst) (named_of old)
-  pub long : words_in (extent_of context inst) ≡ length code
-
 -- ---- an island
 
 -- an island was put: a jump to a new label that is bound at the end, the veneers of all that was pending, and the constants that
@@ -144,36 +133,55 @@ pub record IslandIfNeeded (distance : ℕ) (old new : Buffer) (made : Bool) : Ty
   pub asked : made ≡ is_needed (length (bytes_of old)) distance (pending old)
   pub put : ((made ≡ false) × (new ≡ old)) ⊎ ((made ≡ true) × AppendsIsland old new)
 
--- ---- by an instruction's extent
+-- ---- an instruction's bytes
 
--- words, uses and records were put at the end, and no constant was named
-pub record AppendsWords (size : ℕ) (own : List (Use LabelUse)) (recorded : List MachRecord) (old new : Buffer) : Type 0 where
-  pub code : List ℕ
-  pub adds : AppendsCode code own old new
-  pub records : records_of new ≡ records_of old ++ recorded
-  pub named : named_of new ≡ named_of old
-  pub long : length code ≡ size
+-- an island stands between two buffers exactly where one is needed before so many bytes, if so many are asked for
+abbrev pub IslandAsked : Option ℕ → Buffer → Buffer → Type 0
+IslandAsked None old new = new ≡ old
+IslandAsked (Some space) old new = (made : Bool) × IslandIfNeeded space old new made
 
--- so many bytes of an instruction and its records were put at the end; an island exactly where one is needed before so many bytes; and
--- then so many bytes and its uses
-pub record AppendsAround (context : Context) (inst : Inst) (before space after : ℕ) (old new : Buffer) : Type 0 where
+-- where a call returns is among the bytes between two offsets, and so is the jump with which it goes on
+pub record HasReturn (context : Context) (inst : Inst) (start end : ℕ) : Type 0 where
+  pub returns : (r : Return) → return_of context.flags inst ≡ Some r → start + r.offset ≤ end
+  pub goes_on : (t : TryCallInfo) → try_call_of inst ≡ Some t → start + jump_size context.flags ≤ end
+
+-- the last bytes of a tail call to a symbol, which a linker fills
+abbrev pub filled_last : Inst → ℕ
+filled_last (ReturnCall info) = 8
+filled_last inst = 0
+
+-- of one that asks for an island: a call returns before it, and what a linker fills of a tail call stands after it
+pub record HasLeast (context : Context) (inst : Inst) (first rest : ℕ) : Type 0 where
+  pub returns : (r : Return) → return_of context.flags inst ≡ Some r → r.offset ≤ first
+  pub filled : filled_last inst ≤ rest
+
+-- The bytes of an instruction were put at the end, those before the island that it asks for and those after it, with the island between
+-- them where one is needed. Together they are as many as it may have. Its uses were put, those of its table's labels and of its own
+-- labels besides, which it allocates and binds, at most five and none where it asks for an island; and its records; and its constant was
+-- named. What stands before an island keeps windows and fields, and what stands after it lasts.
+pub record Appends (context : Context) (inst : Inst) (old new : Buffer) : Type 0 where
   pub mid : Buffer
   pub last : Buffer
-  pub made : Bool
-  pub first : AppendsWords before [] (inst_records context (length (bytes_of old)) (length (bytes_of new)) inst) old mid
-  pub room : IslandIfNeeded space mid last made
-  pub second : AppendsWords after (uses_in context (length (bytes_of old)) (length (bytes_of new)) inst) [] last new
-
--- an instruction's words were put at the end; an island, where the instruction asks for one and one is needed; both, one after the
--- other; or an island among its words
-abbrev pub AppendsBy : Context → Extent → Inst → Buffer → Buffer → Type 0
-AppendsBy context (Words size) inst old new = AppendsInst context inst old new
-AppendsBy context (Island space) inst old new = (made : Bool) × IslandIfNeeded space old new made
-AppendsBy context (After space size more) inst old new = (mid : Buffer) × (made : Bool) × IslandIfNeeded space old mid made × AppendsInst context inst mid new
-AppendsBy context (Around before space after) inst old new = AppendsAround context inst before space after old new
-
-abbrev pub Appends : Context → Inst → Buffer → Buffer → Type 0
-Appends context inst old new = AppendsBy context (extent_of context inst) inst old new
+  pub front : List ℕ
+  pub code : List ℕ
+  pub own : ℕ
+  pub direct : List (Use LabelUse)
+  pub first : AppendsCode front [] old mid
+  pub unnamed : named_of mid ≡ named_of old
+  pub island : IslandAsked (space_in (request_of context inst) (length code)) mid last
+  pub adds : AppendsSequence own code (uses_in context (length (bytes_of old)) (length (bytes_of new)) inst ++ direct) last new
+  pub few : own ≤ 5
+  pub alone : is_some (request_of context inst) ≡ true → own ≡ 0
+  pub each : (j : ℕ) (u : Use LabelUse) → slice_get direct j ≡ Some u → IsFarUse (table_of inst) u ⊎ IsOwnUse own (allocated_of last) (place_of new) u
+  pub records : records_of new ≡ records_of old ++ inst_records context (length (bytes_of old)) (length (bytes_of new)) inst
+  pub named : named_of new ≡ named_by (inst_constant inst) (named_of old)
+  pub begins : IsOfSize (first_in (request_of context inst)) (length front)
+  pub within : (space : ℕ) → space_in (request_of context inst) (length code) ≡ Some space → length code ≤ space
+  pub fits : IsOfSize (inst_size context inst) (length front + length code)
+  pub stands : HasWindows old → FieldsStand (shape_of old) → HasWindows mid × FieldsStand (shape_of mid)
+  pub lasts : Lasts label_kinds (shape_of last) (shape_of new)
+  pub least : is_some (request_of context inst) ≡ true → HasLeast context inst (length front) (length code)
+  pub back : HasReturn context inst (length (bytes_of old)) (length (bytes_of new))
 
 -- ---- an instruction
 
@@ -189,11 +197,6 @@ pub record CanEmit (context : Context) (inst : Inst) (b : Buffer) : Type 0 where
 
 -- ---- bounds
 
--- an island stands between two buffers exactly where one is needed before so many bytes, if so many are asked for
-abbrev pub IslandAsked : Option ℕ → Buffer → Buffer → Type 0
-IslandAsked None old new = new ≡ old
-IslandAsked (Some space) old new = (made : Bool) × IslandIfNeeded space old new made
-
 -- How much longer a buffer is, an island apart, and what more is pending: bytes before the island that an instruction asks for, where
 -- it asks for one, and bytes after it, both together at most as many as the instruction's kind may have; and at most as many uses as
 -- there are labels to which it goes, maybe by a veneer, each of which reaches as far as the least of its kind.
@@ -203,7 +206,7 @@ pub record IsBounded (context : Context) (inst : Inst) (old new : Buffer) : Type
   pub first : ℕ
   pub rest : ℕ
   pub starts : length (bytes_of before) ≡ length (bytes_of old) + first
-  pub island : IslandAsked (island_space context inst) before after
+  pub island : IslandAsked (space_in (request_of context inst) rest) before after
   pub ends : length (bytes_of new) ≡ length (bytes_of after) + rest
   pub most : first + rest ≤ most_bytes context inst
   pub added : List ℕ

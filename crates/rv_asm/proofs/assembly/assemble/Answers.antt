@@ -1,6 +1,4 @@
-use Rattle.rv_asm.proofs.Words.{job_of}
-use Rattle.rv_asm.proofs.FinishedCode.{finished_full_operations, finished_full_runs, finished_in_reach, finished_jumps, finished_operations, finished_reported, finished_runs, finished_saves}
-use Rattle.rv_asm.proofs.RefusalOrder.{accepted_frame, accepted_lines}
+use Rattle.{rv_asm.proofs.FinishedCode.{finished_full_operations, finished_full_runs, finished_operations, finished_reported, finished_runs, finished_saves}, rv_asm.proofs.RefusalOrder.{accepted_frame, accepted_lines}, rv_asm.proofs.Words.job_of}
 use Rattle.rv_asm.proofs.assembly.assemble.Goals as goal
 
 pub build-requires-clause-frame : goal.build-requires-clause-frame
@@ -25,8 +23,6 @@ returns-in-Ok c =
       full_runs = finished_full_runs job code accepted f fits;
       operations = finished_operations job code accepted f fits;
       full_operations = finished_full_operations job code accepted f fits;
-      jumps = finished_jumps job code accepted f fits;
-      reach = finished_in_reach job code accepted f fits;
       ranges = fits;
       refused = accepted;
     }

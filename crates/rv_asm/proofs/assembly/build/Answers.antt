@@ -1,8 +1,5 @@
-use Rattle.std.proofs.Common.{ap, arith, List, subst, sym, ◌∙◌, ◌≡◌}
-use Rattle.std.proofs.lemmas.Grind.{common_steps}
-use Rattle.rv_asm.proofs.Words.{CanPut, Constant, context_by, FrameLayout, IsaFlags, LinePut}
-use Rattle.rv_asm.proofs.AssemblyLoop.{can_put, code_short, finished, line_read, ready, returns_so_far, so_far_next, so_far_none, within_line}
-use Rattle.rv_asm.proofs.RefusalOrder.{constants_few}
+use Rattle.{rv_asm.proofs.AssemblyLoop.{can_put, code_short, finished, line_read, ready, returns_so_far, so_far_next, so_far_none, within_line}, rv_asm.proofs.RefusalOrder.constants_few}
+use Rattle.rv_asm.proofs.Words.{ap, arith, CanPut, common_steps, Constant, context_by, FrameLayout, IsaFlags, LinePut, List, subst, sym, ◌∙◌, ◌≡◌}
 use Rattle.rv_asm.proofs.assembly.build.Goals as goal
 
 -- the context by what the state and the buffer know is that of the call
@@ -50,7 +47,7 @@ loop-index-preserved c =
     }
 
 pub finish-requires-clause-ready : goal.finish-requires-clause-ready
-finish-requires-clause-ready c = grind (arith, common_steps, ready)
+finish-requires-clause-ready c = λ sound. ready _ c.args.lines.now c.loop-index.index _ c.loop-index.sink c.requires.accepted c.loop-index-test.false c.loop-index.invariant.so_far
 
 pub invariant_of-result : goal.invariant_of-result
 invariant_of-result c = record { small = code_short _ c.args.lines.now _ _ _ _ c.requires.accepted c.loop-index-test.false c.loop-index.invariant.so_far c.in_ok-finished.ensures.code.0 }

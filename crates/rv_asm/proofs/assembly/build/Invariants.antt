@@ -1,6 +1,4 @@
-use Rattle.std.proofs.Common.{take, ◌≡◌}
-use Rattle.rv_asm.proofs.Words.{context_by, returns_from}
-use Rattle.rv_asm.proofs.AssemblyLoop.{SoFar}
+use Rattle.{rv_asm.proofs.AssemblyLoop.SoFar, rv_asm.proofs.Words.{context_by, returns_from, take, ◌≡◌}}
 use Rattle.rv_asm.proofs.assembly.build.Given as goal
 
 abbrev pub invariant-loop-index : goal.invariant-loop-index

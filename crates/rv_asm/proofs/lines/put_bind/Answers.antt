@@ -1,5 +1,4 @@
-use Rattle.std.proofs.Common.{ap, length, ◌∙◌}
-use Rattle.rv_asm.proofs.Words.{bytes_of, place_of, placed_other, placed_same}
+use Rattle.rv_asm.proofs.Words.{ap, bytes_of, length, place_of, placed_other, placed_same, ◌∙◌}
 use Rattle.rv_asm.proofs.lines.put_bind.Goals as goal
 
 pub returns-clause-put : goal.returns-clause-put

@@ -1,5 +1,4 @@
-use Rattle.std.proofs.Common.{arith}
-use Rattle.std.proofs.lemmas.Grind.{common_steps}
+use Rattle.rv_asm.proofs.Words.{arith, common_steps}
 use Rattle.rv_asm.proofs.lines.put_inst.Goals as goal
 
 pub returns-clause-put : goal.returns-clause-put

@@ -1,6 +1,4 @@
-use Rattle.std.proofs.Common.{drop, false, ℕ, ◌≡◌}
-use Rattle.std.specs.Prelude.{◌||◌}
-use Rattle.rv_asm.proofs.Words.{is_bound, is_in, twice_from}
+use Rattle.rv_asm.proofs.Words.{drop, false, is_bound, is_in, twice_from, ℕ, ◌||◌, ◌≡◌}
 use Rattle.rv_asm.proofs.refusal.bind_labels.Given as goal
 
 abbrev pub invariant-loop-line : goal.invariant-loop-line

@@ -1,5 +1,4 @@
-use Rattle.std.proofs.Common.{drop, ◌≡◌}
-use Rattle.rv_asm.proofs.Words.{broken_from, context_by}
+use Rattle.rv_asm.proofs.Words.{broken_from, context_by, drop, ◌≡◌}
 use Rattle.rv_asm.proofs.refusal.check_rules.Given as goal
 
 abbrev pub invariant-loop-index : goal.invariant-loop-index

@@ -1,5 +1,4 @@
-use Rattle.std.proofs.Common.{drop, List, ◌+◌, ◌≡◌}
-use Rattle.rv_asm.proofs.Words.{Constant, context_by, IsaFlags, lines_sum}
+use Rattle.rv_asm.proofs.Words.{Constant, context_by, drop, IsaFlags, lines_sum, List, ◌+◌, ◌≡◌}
 use Rattle.rv_asm.proofs.refusal.count_for_more.Given as goal
 
 abbrev pub invariant-loop-line : goal.invariant-loop-line

@@ -1,5 +1,4 @@
-use Rattle.std.proofs.Common.{drop, ◌≡◌}
-use Rattle.rv_asm.proofs.Words.{is_in, unbound_among}
+use Rattle.rv_asm.proofs.Words.{drop, is_in, unbound_among, ◌≡◌}
 use Rattle.rv_asm.proofs.refusal.find_all_of.Given as goal
 
 abbrev pub invariant-loop-label : goal.invariant-loop-label

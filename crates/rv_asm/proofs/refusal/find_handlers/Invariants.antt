@@ -1,5 +1,4 @@
-use Rattle.std.proofs.Common.{drop, map, ◌≡◌}
-use Rattle.rv_asm.proofs.Words.{handler_label, is_in, unbound_among}
+use Rattle.rv_asm.proofs.Words.{drop, handler_label, is_in, map, unbound_among, ◌≡◌}
 use Rattle.rv_asm.proofs.refusal.find_handlers.Given as goal
 
 abbrev pub invariant-loop-handler : goal.invariant-loop-handler

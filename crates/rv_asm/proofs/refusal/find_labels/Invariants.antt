@@ -1,5 +1,4 @@
-use Rattle.std.proofs.Common.{drop, ◌≡◌}
-use Rattle.rv_asm.proofs.Words.{is_in, unbound_in}
+use Rattle.rv_asm.proofs.Words.{drop, is_in, unbound_in, ◌≡◌}
 use Rattle.rv_asm.proofs.refusal.find_labels.Given as goal
 
 abbrev pub invariant-loop-line : goal.invariant-loop-line

@@ -1,5 +1,4 @@
-use Rattle.std.proofs.Common.{drop, ◌+◌, ◌≡◌}
-use Rattle.rv_asm.proofs.Words.{constants_sum, size_limit}
+use Rattle.rv_asm.proofs.Words.{constants_sum, drop, size_limit, ◌+◌, ◌≡◌}
 use Rattle.rv_asm.proofs.refusal.left_by_constants.Given as goal
 
 abbrev pub invariant-loop-constant : goal.invariant-loop-constant

@@ -1,5 +1,4 @@
-use Rattle.rv_asm.proofs.Words.{job_of}
-use Rattle.rv_asm.proofs.RefusalOrder.{finds_unbound}
+use Rattle.{rv_asm.proofs.RefusalOrder.finds_unbound, rv_asm.proofs.Words.job_of}
 use Rattle.rv_asm.proofs.refusal.refuse.Goals as goal
 
 pub returns-in-Some : goal.returns-in-Some

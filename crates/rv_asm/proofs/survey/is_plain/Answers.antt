@@ -1,5 +1,4 @@
-use Rattle.rv_asm.proofs.Words.{IsPlainLine, subst, sym}
-use Rattle.rv_asm.proofs.RefusalOrder.{plain_line}
+use Rattle.{rv_asm.proofs.RefusalOrder.plain_line, rv_asm.proofs.Words.{IsPlainLine, subst, sym}}
 use Rattle.rv_asm.proofs.survey.is_plain.Goals as goal
 
 pub returns-in-Inst : goal.returns-in-Inst

@@ -1,5 +1,4 @@
-use Rattle.std.proofs.Common.{arith}
-use Rattle.std.proofs.lemmas.Grind.{common_steps}
+use Rattle.rv_asm.proofs.Words.{arith, common_steps}
 use Rattle.rv_asm.proofs.survey.survey.Goals as goal
 
 pub loop-line-preserved : goal.loop-line-preserved

@@ -1,6 +1,4 @@
-use Rattle.std.proofs.Common.{drop, false, ℕ, ◌+◌, ◌≡◌}
-use Rattle.std.specs.Prelude.{◌||◌}
-use Rattle.rv_asm.proofs.Words.{broken_from, context_by, is_bound, is_in, is_unfit, lines_sum, list_any, size_limit, size_sum, twice_from}
+use Rattle.rv_asm.proofs.Words.{broken_from, context_by, drop, false, is_bound, is_in, is_unfit, lines_sum, list_any, size_limit, size_sum, twice_from, ℕ, ◌+◌, ◌||◌, ◌≡◌}
 use Rattle.rv_asm.proofs.survey.survey.Given as goal
 
 abbrev pub invariant-loop-line : goal.invariant-loop-line

@@ -16,7 +16,7 @@ returns-in-Ok c =
     let code = c.in-Ok.code in
     let facts = c.in-Ok.ensures in
     let given : IsCodeOf (job_of c.as_slice.result.now job.flags job.frame c.as_slice-2.result.now) code =
-    (facts.refused, facts.reported, facts.runs, facts.full_runs, facts.operations, facts.full_operations, facts.jumps, facts.reach, facts.ranges) in
+    (facts.refused, facts.reported, facts.runs, facts.full_runs, facts.operations, facts.full_operations, facts.ranges) in
     let lines : IsCodeOf (job_of job.lines job.flags job.frame c.as_slice-2.result.now) code =
     subst (λ (ls : List Line). IsCodeOf (job_of ls job.flags job.frame c.as_slice-2.result.now) code) c.as_slice.ensures given in
     let own : IsCodeOf job code = subst (λ (cs : List Constant). IsCodeOf (job_of job.lines job.flags job.frame cs) code) c.as_slice-2.ensures lines in

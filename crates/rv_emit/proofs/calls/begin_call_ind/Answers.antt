@@ -1,5 +1,4 @@
-use Rattle.rv_emit.proofs.Terms.{[], ◌∷◌, pos, FitsSigned, rules, arith, to_z-of_z, w64, no_flags, number_of, short_jalr, Op, real_number, jalr_sized, alone_long, alone_sound, call_given}
-use Rattle.rv_emit.proofs.TailCallCode.{real_int, returned_long, call_ind_begun}
+use Rattle.{rv_emit.proofs.TailCallCode.{real_int, returned_long, call_ind_begun}, rv_emit.proofs.Terms.{[], ◌∷◌, pos, FitsSigned, rules, arith, to_z-of_z, w64, no_flags, number_of, short_jalr, Op, real_number, jalr_sized, alone_long, alone_sound, call_given}}
 use Rattle.rv_emit.proofs.calls.begin_call_ind.Goals as goal
 
 pub put_jalr-requires-clause-rd : goal.put_jalr-requires-clause-rd
@@ -10,12 +9,10 @@ put_return-requires-clause-sound c = alone_sound _ _ _ c.in_ok-put_jalr.ensures.
 
 pub put_stack_step-requires-clause-room : goal.put_stack_step-requires-clause-room
 put_stack_step-requires-clause-room c =
-    let room = c.requires.room in
     let info = call_given c.args.stack_map.now c.args.info.now in
     let link = number_of c.writable_link_reg.result.reg in
     let few = (jalr_sized c.args.flags link (number_of info.dest) (pos 0)).few in
-    let jump = alone_long (Op (short_jalr c.args.flags link (number_of info.dest) (pos 0)) ∷ []) c.args.sink.now c.put_jalr.new.sink c.in_ok-put_jalr.ensures.slots in
-    omega (arith, returned_long c.args.frame.now info.stack_map info.try_call_info c.put_jalr.new.sink c.put_return.new.sink (c.in_ok-put_return.ensures.slots no_flags))
+    omega (arith, alone_long (Op (short_jalr c.args.flags link (number_of info.dest) (pos 0)) ∷ []) c.args.sink.now c.put_jalr.new.sink c.in_ok-put_jalr.ensures.slots, returned_long c.args.frame.now info.stack_map info.try_call_info c.put_jalr.new.sink c.put_return.new.sink (c.in_ok-put_return.ensures.slots no_flags))
 
 pub put_stack_step-requires-clause-sound : goal.put_stack_step-requires-clause-sound
 put_stack_step-requires-clause-sound c = alone_sound {flags = no_flags} _ _ _ (c.in_ok-put_return.ensures.slots no_flags)

@@ -1,6 +1,4 @@
-use Rattle.rv_emit.proofs.Terms.{arith, alone_sound, call_given, context_by, []}
-use Rattle.rv_emit.proofs.CallSlots.{call_is}
-use Rattle.rv_emit.proofs.CallsPut.{call_put, call_few_after}
+use Rattle.rv_emit.proofs.{CallSlots.call_is, CallsPut.call_put, CallsPut.call_few_after, Terms.arith, Terms.alone_sound, Terms.call_given, Terms.context_by, Terms.[]}
 use Rattle.rv_emit.proofs.calls.put_call.Goals as goal
 
 pub put_continuation-requires-clause-room : goal.put_continuation-requires-clause-room

@@ -1,6 +1,4 @@
-use Rattle.rv_emit.proofs.Terms.{ap, arith, rules, on_ok_weaker, count_by, is_stacked, call_slots, call_given, context_by, []}
-use Rattle.rv_emit.proofs.CallSlots.{call_is}
-use Rattle.rv_emit.proofs.CallsPut.{call_begins, loading_put}
+use Rattle.rv_emit.proofs.{CallSlots.call_is, CallsPut.call_begins, CallsPut.loading_put, Terms.ap, Terms.arith, Terms.rules, Terms.on_ok_weaker, Terms.count_by, Terms.is_stacked, Terms.call_slots, Terms.call_given, Terms.context_by, Terms.[]}
 use Rattle.rv_emit.proofs.calls.put_loading_call.Goals as goal
 
 pub put_results-requires : goal.put_results-requires
@@ -9,14 +7,7 @@ put_results-requires c =
     let few = c.requires.few in
     let room = c.requires.room in
     let same = ap (count_by is_stacked) c.as_slice.ensures in
-    record {
-      results = search rules;
-      fine = search rules;
-      reach = b.reach;
-      few = omega arith;
-      room = omega arith;
-      sound = b.sound;
-    }
+    record { results = search rules; fine = search rules; reach = b.reach; few = omega arith; room = omega arith; sound = b.sound }
 
 pub returns-clause-parts : goal.returns-clause-parts
 returns-clause-parts c =

@@ -1,5 +1,4 @@
-use Rattle.rv_emit.proofs.Terms.{no_flags, alone_sound}
-use Rattle.rv_emit.proofs.TailCallCode.{returned_put}
+use Rattle.rv_emit.proofs.{TailCallCode.returned_put, Terms.no_flags, Terms.alone_sound}
 use Rattle.rv_emit.proofs.calls.put_return.Goals as goal
 
 pub put_site-requires-clause-sound : goal.put_site-requires-clause-sound

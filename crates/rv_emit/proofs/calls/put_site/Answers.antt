@@ -1,5 +1,4 @@
-use Rattle.rv_emit.proofs.Terms.{Some, ◌∙◌, shape_of, with_record, TryCallSite}
-use Rattle.rv_emit.proofs.TableCode.{note_put}
+use Rattle.rv_emit.proofs.{TableCode.note_put, Terms.Some, Terms.◌∙◌, Terms.shape_of, Terms.with_record, Terms.TryCallSite}
 use Rattle.rv_emit.proofs.calls.put_site.Goals as goal
 
 pub returns-in_ok-add_try_call_site-in-Some-clause-slots : goal.returns-in_ok-add_try_call_site-in-Some-clause-slots

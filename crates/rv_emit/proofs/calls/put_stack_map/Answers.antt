@@ -1,5 +1,4 @@
-use Rattle.rv_emit.proofs.Terms.{◌∙◌, shape_of, with_record, StackMap, none_put}
-use Rattle.rv_emit.proofs.TableCode.{note_put}
+use Rattle.rv_emit.proofs.{TableCode.note_put, Terms.◌∙◌, Terms.shape_of, Terms.with_record, Terms.StackMap, Terms.none_put}
 use Rattle.rv_emit.proofs.calls.put_stack_map.Goals as goal
 
 pub returns-in_ok-push_user_stack_map-in-Some-clause-slots : goal.returns-in_ok-push_user_stack_map-in-Some-clause-slots

@@ -1,8 +1,5 @@
-use Rattle.rv_emit.proofs.Terms.{rules, ◌*◌, length, ap, sym, ◌∙◌, subst, refl, arith, context_by, tail_call_of, table_space, registered_of, AreListed, call_asks, call_ind_asks, tail_kept, tail_sum, jump_sum, target_kept, is_some, with_map}
-use Rattle.rv_emit.proofs.ReachAfterInst.{reach_calm}
-use Rattle.rv_emit.proofs.TableCode.{table_kept, table_sum, island_room, island_few, island_sound, table_emits}
-use Rattle.rv_emit.proofs.CallSlots.{loading_emits, loading_ind_emits, call_sum, call_ind_sum}
-use Rattle.rv_emit.proofs.StackMaps.{space_given}
+use Rattle.rv_emit.proofs.{ReachAfterInst.reach_calm, TableCode.table_kept, TableCode.island_few, TableCode.table_emits, Islands.room_left, Islands.room_sound, CallSlots.loading_emits, CallSlots.loading_ind_emits, StackMaps.space_given}
+use Rattle.rv_emit.proofs.Terms.{inst_sum, no_extra, loads_unless, result_loads, ◌+◌, ◌≡◌, rules, ◌*◌, length, ap, sym, ◌∙◌, subst, refl, arith, context_by, tail_call_of, table_space, registered_of, AreListed, call_asks, call_ind_asks, tail_kept, tail_sum, jump_sum, target_kept, is_some, with_map}
 use Rattle.rv_emit.proofs.emit.put_asking.Goals as goal
 
 pub emit_island_if_needed-requires-clause-reach : goal.emit_island_if_needed-requires-clause-reach
@@ -18,13 +15,12 @@ pub put_table-requires : goal.put_table-requires
 put_table-requires c =
     let context = context_by c.args.flags c.args.frame.now (registered_of c.args.sink.now) in
     let kept = table_kept context c.args.inst.now _ _ _ _ c.in-BrTable.is c.requires.rule in
-    let sum = table_sum context c.args.inst.now _ _ _ _ c.in-BrTable.is in
+    let sum : inst_sum context c.args.inst.now ≡ 128 + 8 * length c.in-BrTable.targets = ap (inst_sum context) c.in-BrTable.is ∙ omega arith in
     let room = c.requires.room in
-    let few = c.requires.few in
     let same = c.as_slice.ensures ∙ c.as_ref-targets.ensures in
     let long = ap length same in
     let made = c.in_ok-emit_island_if_needed-in-BrTable.ensures.made in
-    let left = island_room _ (8 * length c.in-BrTable.targets) c.args.sink.now _ _ (omega arith) made in
+    let left = room_left _ (8 * length c.in-BrTable.targets) c.args.sink.now _ _ (omega arith) made in
     let more = island_few _ c.args.sink.now _ _ made in
     record {
       index = kept.0;
@@ -34,7 +30,7 @@ put_table-requires c =
       some = let some = kept.4 in omega arith;
       allocated = omega arith;
       room = omega arith;
-      sound = island_sound _ c.args.sink.now _ _ c.requires.sound made;
+      sound = room_sound _ c.args.sink.now _ _ made c.requires.sound;
     }
 
 pub returns-in_ok-made-in-EmitIsland-clause-emitted : goal.returns-in_ok-made-in-EmitIsland-clause-emitted
@@ -91,7 +87,7 @@ pub put_loading_call-requires-clause-results : goal.put_loading_call-requires-cl
 put_loading_call-requires-clause-results c = rw c.as_ref.ensures (call_asks (context_by c.args.flags c.args.frame.now (registered_of c.args.sink.now)) _ _ c.in-Call.is c.requires.rule).results
 
 pub put_loading_call-requires-clause-room : goal.put_loading_call-requires-clause-room
-put_loading_call-requires-clause-room c = rw c.as_ref.ensures (let sum = call_sum (context_by c.args.flags c.args.frame.now (registered_of c.args.sink.now)) c.args.inst.now _ c.in-Call.is in let room = c.requires.room in omega arith)
+put_loading_call-requires-clause-room c = rw c.as_ref.ensures (omega (arith, ap (inst_sum (context_by c.args.flags c.args.frame.now (registered_of c.args.sink.now))) c.in-Call.is, no_extra 8 (loads_unless c.in-Call.info.patchable c.in-Call.info.defs), c.requires.room))
 
 pub returns-in_ok-put_loading_call-in-Call-clause-emitted : goal.returns-in_ok-put_loading_call-in-Call-clause-emitted
 returns-in_ok-put_loading_call-in-Call-clause-emitted c =
@@ -108,7 +104,7 @@ pub put_loading_call_ind-requires-clause-results : goal.put_loading_call_ind-req
 put_loading_call_ind-requires-clause-results c = rw c.as_ref-in-CallInd.ensures (call_ind_asks (context_by c.args.flags c.args.frame.now (registered_of c.args.sink.now)) _ _ c.in-CallInd.is c.requires.rule).results
 
 pub put_loading_call_ind-requires-clause-room : goal.put_loading_call_ind-requires-clause-room
-put_loading_call_ind-requires-clause-room c = rw c.as_ref-in-CallInd.ensures (let sum = call_ind_sum (context_by c.args.flags c.args.frame.now (registered_of c.args.sink.now)) c.args.inst.now _ c.in-CallInd.is in let room = c.requires.room in omega arith)
+put_loading_call_ind-requires-clause-room c = rw c.as_ref-in-CallInd.ensures (omega (arith, ap (inst_sum (context_by c.args.flags c.args.frame.now (registered_of c.args.sink.now))) c.in-CallInd.is, no_extra 4 (result_loads c.in-CallInd.info.defs), c.requires.room))
 
 pub returns-in_ok-put_loading_call_ind-in-CallInd-clause-emitted : goal.returns-in_ok-put_loading_call_ind-in-CallInd-clause-emitted
 returns-in_ok-put_loading_call_ind-in-CallInd-clause-emitted c =

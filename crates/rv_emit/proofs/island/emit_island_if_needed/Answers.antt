@@ -1,5 +1,4 @@
-use Rattle.rv_emit.proofs.Terms.{false, true, refl, sym, ap, ◌∙◌, inl, inr, length, ◌||◌, or_parts, bytes_of, is_needed, pending}
-use Rattle.rv_emit.proofs.EmitRuns.{gap_leads}
+use Rattle.rv_emit.proofs.{EmitRuns.gap_leads, Terms.false, Terms.true, Terms.refl, Terms.sym, Terms.ap, Terms.◌∙◌, Terms.inl, Terms.inr, Terms.length, Terms.◌||◌, Terms.or_parts, Terms.bytes_of, Terms.is_needed, Terms.pending}
 use Rattle.rv_emit.proofs.island.emit_island_if_needed.Goals as goal
 
 pub returns-then-not-island_needed-clause-made : goal.returns-then-not-island_needed-clause-made

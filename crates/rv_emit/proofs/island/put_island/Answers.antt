@@ -1,5 +1,4 @@
-use Rattle.rv_emit.proofs.Terms.{[], ◌∷◌, ap, subst, ◌∙◌, shape_of, Shape, LabelUse, Label, Puts, wide_jump_to}
-use Rattle.rv_emit.proofs.Islands.{can_island, jump_put, puts_island, same_windows, appends}
+use Rattle.{rv_emit.proofs.Islands.{can_island, jump_put, puts_island, same_windows, appends}, rv_emit.proofs.Terms.{[], ◌∷◌, ap, subst, ◌∙◌, shape_of, Shape, LabelUse, Label, Puts, wide_jump_to}}
 use Rattle.rv_emit.proofs.island.put_island.Goals as goal
 
 pub emit_island-requires-clause-ready : goal.emit_island-requires-clause-ready

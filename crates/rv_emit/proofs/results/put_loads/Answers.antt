@@ -1,5 +1,4 @@
-use Rattle.rv_emit.proofs.Terms.{arith, alone_sound, none_put, take_all}
-use Rattle.rv_emit.proofs.CallsPut.{result_put, results_long, each_fine}
+use Rattle.rv_emit.proofs.{CallsPut.result_put, CallsPut.results_long, CallsPut.each_fine, Terms.arith, Terms.alone_sound, Terms.none_put, Terms.take_all}
 use Rattle.rv_emit.proofs.results.put_loads.Goals as goal
 
 pub loop-def-init : goal.loop-def-init

@@ -1,13 +1,11 @@
-use Rattle.rv_emit.proofs.Terms.{rules, arith, alone_sound}
-use Rattle.rv_emit.proofs.CallsPut.{all_long, results_room, asked_put}
-use Rattle.rv_emit.proofs.TableCode.{island_sound}
+use Rattle.rv_emit.proofs.{CallsPut.all_long, CallsPut.asked_put, Islands.room_left, Islands.room_sound, Terms.rules, Terms.arith, Terms.alone_sound}
 use Rattle.rv_emit.proofs.results.put_results.Goals as goal
 
 pub put_loads-requires : goal.put_loads-requires
-put_loads-requires c = record { results = search rules; room = omega (arith, results_room _ _ _ _ _ c.requires.room c.in_ok-emit_island_if_needed.ensures.made); sound = island_sound _ _ _ _ c.requires.sound c.in_ok-emit_island_if_needed.ensures.made }
+put_loads-requires c = record { results = search rules; room = omega (arith, room_left _ _ _ _ _ c.requires.room c.in_ok-emit_island_if_needed.ensures.made); sound = room_sound _ _ _ _ c.in_ok-emit_island_if_needed.ensures.made c.requires.sound }
 
 pub put_continuation-requires-clause-room : goal.put_continuation-requires-clause-room
-put_continuation-requires-clause-room c = omega (arith, results_room _ _ _ _ _ c.requires.room c.in_ok-emit_island_if_needed.ensures.made, all_long _ _ _ c.requires.results c.in_ok-put_loads.ensures.slots)
+put_continuation-requires-clause-room c = omega (arith, room_left _ _ _ _ _ c.requires.room c.in_ok-emit_island_if_needed.ensures.made, all_long _ _ _ c.requires.results c.in_ok-put_loads.ensures.slots)
 
 pub put_continuation-requires-clause-sound : goal.put_continuation-requires-clause-sound
 put_continuation-requires-clause-sound c = alone_sound _ _ _ c.in_ok-put_loads.ensures.slots

@@ -1,5 +1,4 @@
-use Rattle.rv_emit.proofs.Terms.{FitsSigned, rules, ◌∙◌, w64, to_z-of_z, on_ok_weaker}
-use Rattle.rv_emit.proofs.CallsPut.{typed_is, typed_put}
+use Rattle.rv_emit.proofs.{CallsPut.typed_is, CallsPut.typed_put, Terms.FitsSigned, Terms.rules, Terms.◌∙◌, Terms.w64, Terms.to_z-of_z, Terms.on_ok_weaker}
 use Rattle.rv_emit.proofs.results.put_typed.Goals as goal
 
 pub returns-clause-slots : goal.returns-clause-slots

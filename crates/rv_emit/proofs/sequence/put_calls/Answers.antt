@@ -1,6 +1,4 @@
-use Rattle.rv_emit.proofs.Terms.{ap, ◌∙◌, on_ok_weaker, context_by, fine_try, fine_ind, with_map}
-use Rattle.rv_emit.proofs.StackMaps.{space_given}
-use Rattle.rv_emit.proofs.CallSlots.{call_is, call_ind_is, call_emits}
+use Rattle.rv_emit.proofs.{StackMaps.space_given, CallSlots.call_is, CallSlots.call_ind_is, CallSlots.call_emits, Terms.ap, Terms.◌∙◌, Terms.on_ok_weaker, Terms.context_by, Terms.fine_try, Terms.fine_ind, Terms.with_map}
 use Rattle.rv_emit.proofs.sequence.put_calls.Goals as goal
 
 pub returns-in-Call-clause-parts : goal.returns-in-Call-clause-parts

@@ -1,5 +1,4 @@
-use Rattle.rv_emit.proofs.Terms.{context_by, Emits, alone, real_number}
-use Rattle.rv_emit.proofs.StackMaps.{put_as}
+use Rattle.rv_emit.proofs.{StackMaps.put_as, Terms.context_by, Terms.Emits, Terms.alone, Terms.real_number}
 use Rattle.rv_emit.proofs.sequence.put_control.Goals as goal
 
 pub returns-in-Jal-clause-parts : goal.returns-in-Jal-clause-parts

@@ -1,5 +1,4 @@
-use Rattle.rv_emit.proofs.Terms.{sym, subst, ap, ◌∙◌, Select, registered_of, IsFine, EmitsAnyhow, int_class}
-use Rattle.rv_emit.proofs.StackMaps.{put_as}
+use Rattle.rv_emit.proofs.{StackMaps.put_as, Terms.sym, Terms.subst, Terms.ap, Terms.◌∙◌, Terms.Select, Terms.registered_of, Terms.IsFine, Terms.EmitsAnyhow, Terms.int_class}
 use Rattle.rv_emit.proofs.sequence.put_integer.Goals as goal
 
 pub returns-in-AluRRR-clause-parts : goal.returns-in-AluRRR-clause-parts
@@ -10,7 +9,6 @@ returns-in-Mov-clause-parts c = λ family. put_as _ (λ i. EmitsAnyhow c.args.fl
 
 pub returns-in-MovFromPReg-clause-parts : goal.returns-in-MovFromPReg-clause-parts
 returns-in-MovFromPReg-clause-parts c =
-    let to = c.in-MovFromPReg.rd.reg in
     let int = int_class _ (subst (IsFine (registered_of c.args.sink.now)) c.in-MovFromPReg.is c.requires.fine).0 in
     λ family. put_as _ (λ i. EmitsAnyhow c.args.flags i c.args.sink.now c.put_move-in-MovFromPReg.new.sink) c.in-MovFromPReg.is (λ p frame constants setting. rw int at p) c.put_move-in-MovFromPReg.ensures.slots
 

@@ -1,5 +1,4 @@
-use Rattle.rv_emit.proofs.Terms.{sym, ap, ◌∙◌, Popcnt, Cltz, Brev8, EmitsAnyhow}
-use Rattle.rv_emit.proofs.StackMaps.{put_as}
+use Rattle.rv_emit.proofs.{StackMaps.put_as, Terms.sym, Terms.ap, Terms.◌∙◌, Terms.Popcnt, Terms.Cltz, Terms.Brev8, Terms.EmitsAnyhow}
 use Rattle.rv_emit.proofs.sequence.put_loop.Goals as goal
 
 pub returns-in-Popcnt-clause-parts : goal.returns-in-Popcnt-clause-parts

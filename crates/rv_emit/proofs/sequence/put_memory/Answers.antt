@@ -1,5 +1,4 @@
-use Rattle.rv_emit.proofs.Terms.{refl, number_of, context_by, registered_of, Emits, address_slots, load_line_slots, named_put, load_line_named, store_line_named}
-use Rattle.rv_emit.proofs.StackMaps.{put_as}
+use Rattle.rv_emit.proofs.{StackMaps.put_as, Terms.refl, Terms.number_of, Terms.context_by, Terms.registered_of, Terms.Emits, Terms.address_slots, Terms.load_line_slots, Terms.named_put, Terms.load_line_named, Terms.store_line_named}
 use Rattle.rv_emit.proofs.sequence.put_memory.Goals as goal
 
 pub returns-in_ok-place-in-Load-clause-parts : goal.returns-in_ok-place-in-Load-clause-parts

@@ -1,5 +1,4 @@
-use Rattle.rv_emit.proofs.Terms.{Emits, context_by}
-use Rattle.rv_emit.proofs.StackMaps.{put_as}
+use Rattle.rv_emit.proofs.{StackMaps.put_as, Terms.Emits, Terms.context_by}
 use Rattle.rv_emit.proofs.sequence.put_pseudo.Goals as goal
 
 pub returns-in-RawData-clause-parts : goal.returns-in-RawData-clause-parts

@@ -1,5 +1,4 @@
-use Rattle.rv_emit.proofs.Terms.{sym, ◌∙◌, on_ok_weaker, context_by, registered_of, fine}
-use Rattle.rv_emit.proofs.StackMaps.{emits_given}
+use Rattle.rv_emit.proofs.{StackMaps.emits_given, Terms.sym, Terms.◌∙◌, Terms.on_ok_weaker, Terms.context_by, Terms.registered_of, Terms.fine}
 use Rattle.rv_emit.proofs.sequence.put_sequence.Goals as goal
 
 pub put_pseudo-requires-clause-fine : goal.put_pseudo-requires-clause-fine

@@ -1,5 +1,4 @@
-use Rattle.rv_emit.proofs.Terms.{rules, FitsSigned, to_z-of_z, w64, EmitsAnyhow}
-use Rattle.rv_emit.proofs.StackMaps.{put_as}
+use Rattle.rv_emit.proofs.{StackMaps.put_as, Terms.rules, Terms.FitsSigned, Terms.to_z-of_z, Terms.w64, Terms.EmitsAnyhow}
 use Rattle.rv_emit.proofs.sequence.put_symbol.Goals as goal
 
 pub returns-in-LoadExtNameGot-clause-parts : goal.returns-in-LoadExtNameGot-clause-parts

@@ -1,5 +1,4 @@
-use Rattle.rv_emit.proofs.Terms.{FitsSigned, ◌∙◌, ap, pos, rules, arith, to_z-of_z, w64, ◌-ℤ◌, sp_to_fp_of}
-use Rattle.rv_emit.proofs.TailCallCode.{saves_room, setup_room, return_put}
+use Rattle.rv_emit.proofs.{TailCallCode.saves_room, TailCallCode.setup_room, TailCallCode.return_put, Terms.FitsSigned, Terms.◌∙◌, Terms.ap, Terms.pos, Terms.rules, Terms.arith, Terms.to_z-of_z, Terms.w64, Terms.◌-ℤ◌, Terms.sp_to_fp_of}
 use Rattle.rv_emit.proofs.stack.put_return.Goals as goal
 
 pub put_setup-requires-clause-room : goal.put_setup-requires-clause-room

@@ -1,5 +1,4 @@
-use Rattle.rv_emit.proofs.Terms.{pos, arith, ◌-ℤ◌, alone_sound, none_put, take_all}
-use Rattle.rv_emit.proofs.TailCallCode.{saved_more, saved_long}
+use Rattle.rv_emit.proofs.{TailCallCode.saved_more, TailCallCode.saved_long, Terms.pos, Terms.arith, Terms.◌-ℤ◌, Terms.alone_sound, Terms.none_put, Terms.take_all}
 use Rattle.rv_emit.proofs.stack.put_saves.Goals as goal
 
 pub loop-index-init : goal.loop-index-init
@@ -14,7 +13,6 @@ put_save-requires-clause-sound c = alone_sound _ _ _ c.loop-index.invariant
 pub loop-index-preserved : goal.loop-index-preserved
 loop-index-preserved c =
     let lt = c.loop-index-test.true in
-    let room = c.requires.room in
     saved_more _ _ _ _ _ _ _ _ lt c.index-saves-index.is (omega arith) c.loop-index.invariant c.in_ok-put_save.ensures.slots
 
 pub returns-clause-slots : goal.returns-clause-slots

@@ -1,5 +1,4 @@
-use Rattle.rv_emit.proofs.Terms.{◌+◌, pos, ap, arith, number_of, real_number, none_put}
-use Rattle.rv_emit.proofs.TailCallCode.{no_setup, setup_put, load_long, real_any}
+use Rattle.rv_emit.proofs.{TailCallCode.no_setup, TailCallCode.setup_put, TailCallCode.load_long, TailCallCode.real_any, Terms.◌+◌, Terms.pos, Terms.ap, Terms.arith, Terms.number_of, Terms.real_number, Terms.none_put}
 use Rattle.rv_emit.proofs.stack.put_setup.Goals as goal
 
 pub returns-then-frame-eq0-clause-slots : goal.returns-then-frame-eq0-clause-slots

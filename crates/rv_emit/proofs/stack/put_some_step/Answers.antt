@@ -1,5 +1,4 @@
-use Rattle.rv_emit.proofs.Terms.{◌∙◌, w64, to_z-of_z, on_ok_weaker, real_number, near, far}
-use Rattle.rv_emit.proofs.TailCallCode.{near_step, far_step}
+use Rattle.rv_emit.proofs.{TailCallCode.near_step, TailCallCode.far_step, Terms.◌∙◌, Terms.w64, Terms.to_z-of_z, Terms.on_ok_weaker, Terms.real_number, Terms.near, Terms.far}
 use Rattle.rv_emit.proofs.stack.put_some_step.Goals as goal
 
 pub returns-in-Some-clause-slots : goal.returns-in-Some-clause-slots

@@ -1,5 +1,4 @@
-use Rattle.rv_emit.proofs.Terms.{arith}
-use Rattle.rv_emit.proofs.TableCode.{call_put, pair_patchable}
+use Rattle.rv_emit.proofs.{TableCode.call_put, TableCode.pair_patchable, Terms.arith}
 use Rattle.rv_emit.proofs.symbols.put_call_to.Goals as goal
 
 pub returns-clause-slots : goal.returns-clause-slots

@@ -1,5 +1,4 @@
-use Rattle.rv_emit.proofs.Terms.{◌∙◌, arith, to_z-of_z, w64, Ld, shape_of, with_bytes, with_record, eight_zeros, address_event, longer, load_over_short, both_alone, alone_sound}
-use Rattle.rv_emit.proofs.TableCode.{address_put}
+use Rattle.{rv_emit.proofs.TableCode.address_put, rv_emit.proofs.Terms.{◌∙◌, arith, to_z-of_z, w64, Ld, shape_of, with_bytes, with_record, eight_zeros, address_event, longer, load_over_short, both_alone, alone_sound}}
 use Rattle.rv_emit.proofs.symbols.put_far_symbol.Goals as goal
 
 pub put_symbol_bytes-requires : goal.put_symbol_bytes-requires

@@ -1,5 +1,4 @@
-use Rattle.rv_emit.proofs.Terms.{arith, to_z-of_z, w64, upper_patchable, addi_patchable}
-use Rattle.rv_emit.proofs.TableCode.{fill_put}
+use Rattle.rv_emit.proofs.{TableCode.fill_put, Terms.arith, Terms.to_z-of_z, Terms.w64, Terms.upper_patchable, Terms.addi_patchable}
 use Rattle.rv_emit.proofs.symbols.put_near_symbol.Goals as goal
 
 pub returns-clause-slots : goal.returns-clause-slots

@@ -1,5 +1,4 @@
-use Rattle.rv_emit.proofs.Terms.{arith, refl, Ld, upper_patchable, load_patchable}
-use Rattle.rv_emit.proofs.TableCode.{fill_put}
+use Rattle.rv_emit.proofs.{TableCode.fill_put, Terms.arith, Terms.refl, Terms.Ld, Terms.upper_patchable, Terms.load_patchable}
 use Rattle.rv_emit.proofs.symbols.put_slot_load.Goals as goal
 
 pub returns-clause-slots : goal.returns-clause-slots

@@ -1,5 +1,4 @@
-use Rattle.rv_emit.proofs.Terms.{arith, real_number}
-use Rattle.rv_emit.proofs.TableCode.{pair_patchable, far_put}
+use Rattle.rv_emit.proofs.{TableCode.pair_patchable, TableCode.far_put, Terms.arith, Terms.real_number}
 use Rattle.rv_emit.proofs.table.put_far_jump.Goals as goal
 
 pub returns-clause-slots : goal.returns-clause-slots

@@ -1,5 +1,4 @@
-use Rattle.rv_emit.proofs.Terms.{arith, alone_sound, none_put, take_all}
-use Rattle.rv_emit.proofs.TableCode.{each_listed, one_more, some_long}
+use Rattle.rv_emit.proofs.{TableCode.each_listed, TableCode.one_more, TableCode.some_long, Terms.arith, Terms.alone_sound, Terms.none_put, Terms.take_all}
 use Rattle.rv_emit.proofs.table.put_far_jumps.Goals as goal
 
 pub loop-label-init : goal.loop-label-init

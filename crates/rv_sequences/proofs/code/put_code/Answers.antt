@@ -1,5 +1,4 @@
-use Rattle.rv_sequences.proofs.Terms.{arith}
-use Rattle.rv_sequences.proofs.CodePut.{puts_next, next_few, all_put}
+use Rattle.rv_sequences.proofs.{CodePut.{puts_next, next_few, all_put}, Terms.arith}
 use Rattle.rv_sequences.proofs.code.put_code.Goals as goal
 
 pub loop-piece-preserved : goal.loop-piece-preserved

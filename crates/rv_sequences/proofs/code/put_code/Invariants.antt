@@ -1,5 +1,4 @@
-use Rattle.rv_sequences.proofs.Terms.{◌≤◌, drop, shape_of, IsSoundBuffer}
-use Rattle.rv_sequences.proofs.CodePut.{Putting}
+use Rattle.rv_sequences.proofs.{CodePut.Putting, Terms.{◌≤◌, drop, shape_of, IsSoundBuffer}}
 use Rattle.rv_sequences.proofs.code.put_code.Given as goal
 
 abbrev pub invariant-loop-piece : goal.invariant-loop-piece

@@ -1,5 +1,4 @@
-use Rattle.rv_sequences.proofs.Terms.{sym, subst, ℕ, on_ok_weaker, shape_of, slots_of, shown, IsBaseFor, Puts, CodePiece}
-use Rattle.rv_sequences.proofs.CodePut.{branch_puts, move_puts}
+use Rattle.rv_sequences.proofs.{CodePut.{branch_puts, move_puts}, Terms.{sym, subst, ℕ, on_ok_weaker, shape_of, slots_of, shown, IsBaseFor, Puts, CodePiece}}
 use Rattle.rv_sequences.proofs.code.put_piece.Goals as goal
 
 pub returns-in-Branch-clause-slot : goal.returns-in-Branch-clause-slot

@@ -1,5 +1,4 @@
-use Rattle.rv_sequences.proofs.Terms.{sym, ◌∙◌, on_ok_weaker}
-use Rattle.rv_sequences.proofs.SlotsPut.{constant_word, constant_double}
+use Rattle.rv_sequences.proofs.{SlotsPut.{constant_word, constant_double}, Terms.{sym, ◌∙◌, on_ok_weaker}}
 use Rattle.rv_sequences.proofs.expansions.put_constant.Goals as goal
 
 pub returns-then-bits-eq32-clause-slots : goal.returns-then-bits-eq32-clause-slots

@@ -1,12 +1,8 @@
-use Rattle.rv_sequences.proofs.Terms.{Some, refl, ap, ◌∙◌, arith, number_of, decoded_load, has_integer_load}
-use Rattle.rv_sequences.proofs.SlotsPut.{both_alone, alone_long, alone_sound}
+use Rattle.rv_sequences.proofs.{SlotsPut.{both_alone, alone_long, alone_sound}, Terms.{Some, refl, ap, ◌∙◌, arith, number_of, decoded_load, has_integer_load}}
 use Rattle.rv_sequences.proofs.expansions.put_load_over.Goals as goal
 
-pub put_word-requires-2-clause-room : goal.put_word-requires-2-clause-room
-put_word-requires-2-clause-room c = omega (arith, alone_long _ _ _ (c.in_ok-put_word.ensures.slot c.args.flags _ refl (c.enc_auipc.ensures.decodes c.args.flags)), c.requires.room)
-
-pub put_word-requires-2-clause-sound : goal.put_word-requires-2-clause-sound
-put_word-requires-2-clause-sound c = alone_sound _ _ _ (c.in_ok-put_word.ensures.slot c.args.flags _ refl (c.enc_auipc.ensures.decodes c.args.flags))
+pub put_word-requires-2 : goal.put_word-requires-2
+put_word-requires-2 c = record { room = omega (arith, alone_long _ _ _ (c.in_ok-put_word.ensures.slot c.args.flags _ refl (c.enc_auipc.ensures.decodes c.args.flags)), c.requires.room); sound = alone_sound _ _ _ (c.in_ok-put_word.ensures.slot c.args.flags _ refl (c.enc_auipc.ensures.decodes c.args.flags)) }
 
 pub put_short_jump-requires-clause-room : goal.put_short_jump-requires-clause-room
 put_short_jump-requires-clause-room c =

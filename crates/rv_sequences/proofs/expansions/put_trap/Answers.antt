@@ -1,5 +1,4 @@
-use Rattle.rv_sequences.proofs.SlotsPut.{trap_put}
-use Rattle.rv_sequences.proofs.Terms.{refl}
+use Rattle.rv_sequences.proofs.{SlotsPut.trap_put, Terms.refl}
 use Rattle.rv_sequences.proofs.expansions.put_trap.Goals as goal
 
 pub returns-then-flags-clause-slots : goal.returns-then-flags-clause-slots

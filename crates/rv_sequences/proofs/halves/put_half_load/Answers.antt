@@ -1,13 +1,8 @@
-use Rattle.rv_sequences.proofs.Terms.{arith, number_of, Lh, location_at, real_number}
-use Rattle.rv_sequences.proofs.AddressCode.{longer, load_is_short}
-use Rattle.rv_sequences.proofs.SlotsPut.{both_alone, alone_sound}
+use Rattle.rv_sequences.proofs.{AddressCode.{longer, load_is_short}, SlotsPut.{both_alone, alone_sound}, Terms.{arith, number_of, Lh, location_at, real_number}}
 use Rattle.rv_sequences.proofs.halves.put_half_load.Goals as goal
 
-pub put_boxing-requires-clause-room : goal.put_boxing-requires-clause-room
-put_boxing-requires-clause-room c = omega (arith, longer _ _ _ (load_is_short c.args.flags (number_of c.writable_spilltmp_reg-half.result.reg) Lh c.args.trap (location_at c.args.place)) c.in_ok-put_load.ensures.slots, c.requires.room)
-
-pub put_boxing-requires-clause-sound : goal.put_boxing-requires-clause-sound
-put_boxing-requires-clause-sound c = alone_sound _ _ _ c.in_ok-put_load.ensures.slots
+pub put_boxing-requires : goal.put_boxing-requires
+put_boxing-requires c = record { rd = c.requires.rd; room = omega (arith, longer _ _ _ (load_is_short c.args.flags (number_of c.writable_spilltmp_reg-half.result.reg) Lh c.args.trap (location_at c.args.place)) c.in_ok-put_load.ensures.slots, c.requires.room); sound = alone_sound _ _ _ c.in_ok-put_load.ensures.slots }
 
 pub returns-clause-slots : goal.returns-clause-slots
 returns-clause-slots c =

@@ -1,6 +1,4 @@
-use Rattle.rv_sequences.proofs.Terms.{refl, location_at, real_number}
-use Rattle.rv_sequences.proofs.AddressCode.{place_last}
-use Rattle.rv_sequences.proofs.SlotsPut.{both_alone}
+use Rattle.rv_sequences.proofs.{AddressCode.place_last, SlotsPut.both_alone, Terms.{refl, location_at, real_number}}
 use Rattle.rv_sequences.proofs.halves.put_half_store.Goals as goal
 
 pub put_store-requires-clause-fine : goal.put_store-requires-clause-fine

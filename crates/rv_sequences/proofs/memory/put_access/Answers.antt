@@ -1,5 +1,4 @@
-use Rattle.rv_sequences.proofs.AddressCode.{access_put}
-use Rattle.rv_sequences.proofs.SlotsPut.{none_put}
+use Rattle.rv_sequences.proofs.{AddressCode.access_put, SlotsPut.none_put}
 use Rattle.rv_sequences.proofs.memory.put_access.Goals as goal
 
 pub returns-in_ok-add_trap-in-Some-clause-slots : goal.returns-in_ok-add_trap-in-Some-clause-slots

@@ -1,5 +1,4 @@
-use Rattle.rv_sequences.proofs.Terms.{[], ◌∷◌, ◌∙◌, to_z-of_z, w64, on_ok_weaker, number_of, Addi, short_rri, Op}
-use Rattle.rv_sequences.proofs.AddressCode.{near_put, far_put}
+use Rattle.rv_sequences.proofs.{AddressCode.{near_put, far_put}, Terms.{[], ◌∷◌, ◌∙◌, to_z-of_z, w64, on_ok_weaker, number_of, Addi, short_rri, Op}}
 use Rattle.rv_sequences.proofs.memory.put_based_address.Goals as goal
 
 pub returns-in-Some-clause-slots : goal.returns-in-Some-clause-slots

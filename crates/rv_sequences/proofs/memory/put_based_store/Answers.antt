@@ -1,5 +1,4 @@
-use Rattle.rv_sequences.proofs.Terms.{[], ◌∷◌, ◌++◌, ◌∙◌, on_ok_weaker, w64, to_z-of_z, number_of, short_store, Op, access_slots}
-use Rattle.rv_sequences.proofs.AddressCode.{near_put, far_put}
+use Rattle.rv_sequences.proofs.{AddressCode.{near_put, far_put}, Terms.{[], ◌∷◌, ◌++◌, ◌∙◌, on_ok_weaker, w64, to_z-of_z, number_of, short_store, Op, access_slots}}
 use Rattle.rv_sequences.proofs.memory.put_based_store.Goals as goal
 
 pub returns-in-Some-clause-slots : goal.returns-in-Some-clause-slots

@@ -1,6 +1,4 @@
-use Rattle.rv_sequences.proofs.Terms.{arith, to_z-of_z, w64, number_of, offset_short}
-use Rattle.rv_sequences.proofs.AddressCode.{longer}
-use Rattle.rv_sequences.proofs.SlotsPut.{both_alone, alone_sound}
+use Rattle.rv_sequences.proofs.{AddressCode.longer, SlotsPut.{both_alone, alone_sound}, Terms.{arith, to_z-of_z, w64, number_of, offset_short}}
 use Rattle.rv_sequences.proofs.memory.put_far_address.Goals as goal
 
 pub put_rrr-requires-clause-room : goal.put_rrr-requires-clause-room

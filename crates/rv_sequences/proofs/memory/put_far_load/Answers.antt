@@ -1,14 +1,8 @@
-use Rattle.rv_sequences.proofs.Terms.{arith, w64, to_z-of_z, number_of, Based, PutsAlone, address_slots, address_short, real_number}
-use Rattle.rv_sequences.proofs.AddressCode.{longer, before_both}
-use Rattle.rv_sequences.proofs.SlotsPut.{alone_sound}
+use Rattle.rv_sequences.proofs.{AddressCode.{longer, before_both}, SlotsPut.alone_sound, Terms.{arith, w64, to_z-of_z, number_of, Based, PutsAlone, address_slots, address_short, real_number}}
 use Rattle.rv_sequences.proofs.memory.put_far_load.Goals as goal
 
-pub put_spilled_load-requires-clause-room : goal.put_spilled_load-requires-clause-room
-put_spilled_load-requires-clause-room c =
-    omega (arith, longer _ _ _ (address_short c.args.flags (number_of c.writable_spilltmp_reg.result.reg) (Based (number_of c.args.base) c.args.offset)) (rw (to_z-of_z w64 c.args.offset c.ranges.offset) at c.in_ok-put_based_address.ensures.slots), c.requires.room)
-
-pub put_spilled_load-requires-clause-sound : goal.put_spilled_load-requires-clause-sound
-put_spilled_load-requires-clause-sound c = alone_sound _ _ _ c.in_ok-put_based_address.ensures.slots
+pub put_spilled_load-requires : goal.put_spilled_load-requires
+put_spilled_load-requires c = record { rd = c.requires.rd; room = omega (arith, longer _ _ _ (address_short c.args.flags (number_of c.writable_spilltmp_reg.result.reg) (Based (number_of c.args.base) c.args.offset)) (rw (to_z-of_z w64 c.args.offset c.ranges.offset) at c.in_ok-put_based_address.ensures.slots), c.requires.room); sound = alone_sound _ _ _ c.in_ok-put_based_address.ensures.slots }
 
 pub returns-clause-slots : goal.returns-clause-slots
 returns-clause-slots c =

@@ -1,13 +1,8 @@
-use Rattle.rv_sequences.proofs.Terms.{arith, number_of, PutsAlone, location_at, address_slots, address_short, real_number}
-use Rattle.rv_sequences.proofs.AddressCode.{longer, before_both}
-use Rattle.rv_sequences.proofs.SlotsPut.{alone_sound}
+use Rattle.rv_sequences.proofs.{AddressCode.{longer, before_both}, SlotsPut.alone_sound, Terms.{arith, number_of, PutsAlone, location_at, address_slots, address_short, real_number}}
 use Rattle.rv_sequences.proofs.memory.put_far_store.Goals as goal
 
-pub put_spilled_store-requires-clause-room : goal.put_spilled_store-requires-clause-room
-put_spilled_store-requires-clause-room c = omega (arith, longer _ _ _ (address_short c.args.flags (number_of c.writable_spilltmp_reg.result.reg) (location_at c.args.place)) c.in_ok-put_address.ensures.slots, c.requires.room)
-
-pub put_spilled_store-requires-clause-sound : goal.put_spilled_store-requires-clause-sound
-put_spilled_store-requires-clause-sound c = alone_sound _ _ _ c.in_ok-put_address.ensures.slots
+pub put_spilled_store-requires : goal.put_spilled_store-requires
+put_spilled_store-requires c = record { src = c.requires.src; room = omega (arith, longer _ _ _ (address_short c.args.flags (number_of c.writable_spilltmp_reg.result.reg) (location_at c.args.place)) c.in_ok-put_address.ensures.slots, c.requires.room); sound = alone_sound _ _ _ c.in_ok-put_address.ensures.slots }
 
 pub returns-clause-slots : goal.returns-clause-slots
 returns-clause-slots c =

@@ -1,7 +1,4 @@
-use Rattle.rv_sequences.proofs.Terms.{arith, no_flags}
-use Rattle.rv_sequences.proofs.AddressCode.{aim_put}
-use Rattle.rv_sequences.proofs.Encoded.{addi_patchable}
-use Rattle.rv_sequences.proofs.SlotsPut.{both_alone, alone_long, alone_sound, alone_usable}
+use Rattle.rv_sequences.proofs.{AddressCode.aim_put, Encoded.addi_patchable, SlotsPut.{both_alone, alone_long, alone_sound, alone_usable}, Terms.{arith, no_flags}}
 use Rattle.rv_sequences.proofs.memory.put_label_address.Goals as goal
 
 pub put_use-requires : goal.put_use-requires

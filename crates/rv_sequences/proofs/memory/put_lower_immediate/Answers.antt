@@ -1,5 +1,4 @@
-use Rattle.rv_sequences.proofs.Terms.{ap, cast_unsigned, w16, on_ok_weaker, number_of}
-use Rattle.rv_sequences.proofs.AddressCode.{bits_zero, lower_zero_put, lower_put}
+use Rattle.rv_sequences.proofs.{AddressCode.{bits_zero, lower_zero_put, lower_put}, Terms.{ap, cast_unsigned, w16, on_ok_weaker, number_of}}
 use Rattle.rv_sequences.proofs.memory.put_lower_immediate.Goals as goal
 
 pub returns-then-lower-eq0-clause-slots : goal.returns-then-lower-eq0-clause-slots

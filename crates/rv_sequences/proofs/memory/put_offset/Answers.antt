@@ -1,5 +1,4 @@
-use Rattle.rv_sequences.proofs.Terms.{◌∙◌, on_ok_weaker, cast_signed, cast_unsigned, w64, to_z-of_z}
-use Rattle.rv_sequences.proofs.AddressCode.{immediates_put, constant_put}
+use Rattle.rv_sequences.proofs.{AddressCode.{immediates_put, constant_put}, Terms.{◌∙◌, on_ok_weaker, cast_signed, cast_unsigned, w64, to_z-of_z}}
 use Rattle.rv_sequences.proofs.memory.put_offset.Goals as goal
 
 pub returns-in-Some-clause-slots : goal.returns-in-Some-clause-slots

@@ -1,6 +1,4 @@
-use Rattle.rv_sequences.proofs.Terms.{refl, arith, no_flags, access_short, real_number}
-use Rattle.rv_sequences.proofs.AddressCode.{longer}
-use Rattle.rv_sequences.proofs.SlotsPut.{both_alone, alone_sound}
+use Rattle.rv_sequences.proofs.{AddressCode.longer, SlotsPut.{both_alone, alone_sound}, Terms.{refl, arith, no_flags, access_short, real_number}}
 use Rattle.rv_sequences.proofs.memory.put_spilled_load.Goals as goal
 
 pub put_word-requires : goal.put_word-requires

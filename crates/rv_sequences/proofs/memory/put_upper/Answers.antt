@@ -1,6 +1,4 @@
-use Rattle.rv_sequences.proofs.Terms.{arith}
-use Rattle.rv_sequences.proofs.AddressCode.{aim_put}
-use Rattle.rv_sequences.proofs.Encoded.{upper_patchable}
+use Rattle.rv_sequences.proofs.{AddressCode.aim_put, Encoded.upper_patchable, Terms.arith}
 use Rattle.rv_sequences.proofs.memory.put_upper.Goals as goal
 
 pub returns-clause-slots : goal.returns-clause-slots

@@ -1,5 +1,4 @@
-use Rattle.rv_sequences.proofs.AddressCode.{name_put}
-use Rattle.rv_sequences.proofs.SlotsPut.{none_put}
+use Rattle.rv_sequences.proofs.{AddressCode.name_put, SlotsPut.none_put}
 use Rattle.rv_sequences.proofs.memory.resolved_address.Goals as goal
 
 pub returns-in-RegOffset-clause-slots : goal.returns-in-RegOffset-clause-slots

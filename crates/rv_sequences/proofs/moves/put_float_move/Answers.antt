@@ -1,5 +1,4 @@
-use Rattle.rv_sequences.proofs.Terms.{refl, on_ok_weaker, number_of, RNE, Fsgnj, decoded_fpu_rrr}
-use Rattle.rv_sequences.proofs.CodePut.{float_width}
+use Rattle.rv_sequences.proofs.{CodePut.float_width, Terms.{refl, on_ok_weaker, number_of, RNE, Fsgnj, decoded_fpu_rrr}}
 use Rattle.rv_sequences.proofs.moves.put_float_move.Goals as goal
 
 pub returns-clause-slots : goal.returns-clause-slots

@@ -1,5 +1,4 @@
-use Rattle.rv_sequences.proofs.Terms.{sym, ◌∙◌, on_ok_weaker}
-use Rattle.rv_sequences.proofs.SlotsPut.{move_same, move_other}
+use Rattle.rv_sequences.proofs.{SlotsPut.{move_same, move_other}, Terms.{sym, ◌∙◌, on_ok_weaker}}
 use Rattle.rv_sequences.proofs.moves.put_move.Goals as goal
 
 pub returns-then-number_of-clause-slots : goal.returns-then-number_of-clause-slots

@@ -1,5 +1,4 @@
-use Rattle.rv_sequences.proofs.Terms.{◌≡◌, pos, ap, sym, ◌∙◌, ⊎_elim, RegClass, Vector, number_of, Decoded, Addi, short_rri, move_op}
-use Rattle.rv_base.specs.declared.regs.RegClass.TheVariants.{Int}
+use Rattle.{rv_base.specs.declared.regs.RegClass.TheVariants.Int, rv_sequences.proofs.Terms.{◌≡◌, pos, ap, sym, ◌∙◌, ⊎_elim, RegClass, Vector, number_of, Decoded, Addi, short_rri, move_op}}
 use Rattle.rv_sequences.proofs.moves.put_other.Goals as goal
 
 pub returns-in-Float-clause-slots : goal.returns-in-Float-clause-slots

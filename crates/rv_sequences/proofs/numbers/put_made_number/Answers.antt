@@ -1,5 +1,4 @@
-use Rattle.rv_sequences.proofs.Terms.{ap, cast_unsigned, w32, on_ok_weaker, number_of, real_number}
-use Rattle.rv_sequences.proofs.AddressCode.{lower_alone_put, both_immediates_put}
+use Rattle.rv_sequences.proofs.{AddressCode.{lower_alone_put, both_immediates_put}, Terms.{ap, cast_unsigned, w32, on_ok_weaker, number_of, real_number}}
 use Rattle.rv_sequences.proofs.numbers.put_made_number.Goals as goal
 
 pub returns-then-upper-eq0-clause-slots : goal.returns-then-upper-eq0-clause-slots

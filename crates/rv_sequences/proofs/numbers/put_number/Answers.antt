@@ -1,5 +1,4 @@
-use Rattle.rv_sequences.proofs.Terms.{sym, w64, of_z-to_z, on_ok_weaker}
-use Rattle.rv_sequences.proofs.AddressCode.{constant_put, unsplit_put}
+use Rattle.rv_sequences.proofs.{AddressCode.{constant_put, unsplit_put}, Terms.{sym, w64, of_z-to_z, on_ok_weaker}}
 use Rattle.rv_sequences.proofs.numbers.put_number.Goals as goal
 
 pub returns-in-Some-clause-slots : goal.returns-in-Some-clause-slots

@@ -1,6 +1,4 @@
-use Rattle.rv_sequences.proofs.Terms.{◌≡◌, ◌*◌, map, pos, arith, sym, ap, ◌∙◌, cast_signed, w64, number_of, low_word, number_slots, probe_turn, Op, real_number, number_short, own_word, small_signed}
-use Rattle.rv_sequences.proofs.AddressCode.{longer, before_both}
-use Rattle.rv_sequences.proofs.SlotsPut.{both_alone}
+use Rattle.rv_sequences.proofs.{AddressCode.{longer, before_both}, SlotsPut.both_alone, Terms.{◌≡◌, ◌*◌, pos, arith, sym, ap, ◌∙◌, cast_signed, w64, number_of, low_word, real_number, number_short, own_word, small_signed}}
 use Rattle.rv_sequences.proofs.probes.put_probe_loop.Goals as goal
 
 pub put_number-requires-2-clause-room : goal.put_number-requires-2-clause-room
@@ -21,9 +19,6 @@ returns-clause-slots c =
     let count_own = own_word _ c.ranges.probe_count.fits in
     let far : cast_signed w64 c.farthest_probe-farthest.result ≡ cast_signed w64 (guard * count) = ap (cast_signed w64) (c.farthest_probe-farthest.ensures ∙ (λ i. sym guard_own i * sym count_own i)) in
     let near : cast_signed w64 c.from.result ≡ pos guard = ap (cast_signed w64) (c.from.ensures ∙ sym guard_own) ∙ small_signed _ (omega arith) in
-    let first = number_slots flags 31 (cast_signed w64 (guard * count)) in
-    let second = number_slots flags tmp (pos guard) in
-    let turn = map Op (probe_turn flags tmp) in
     before_both _ _ _ _ _ _ (number_short flags 31 (cast_signed w64 (guard * count))).plain
     (rw ((real_number _ _ _ c.writable_spilltmp_reg.ensures), far) at c.in_ok-put_number.ensures.slots)
     (both_alone _ _ _ _ _ (number_short flags tmp (pos guard)).plain

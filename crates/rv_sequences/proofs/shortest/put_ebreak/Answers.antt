@@ -1,5 +1,4 @@
-use Rattle.rv_sequences.proofs.Terms.{on_ok_weaker}
-use Rattle.rv_sequences.proofs.OwnForms.{other_own, ebreak_other}
+use Rattle.rv_sequences.proofs.{OwnForms.{other_own, ebreak_other}, Terms.on_ok_weaker}
 use Rattle.rv_sequences.proofs.shortest.put_ebreak.Goals as goal
 
 pub returns-clause-slots : goal.returns-clause-slots

@@ -1,5 +1,4 @@
-use Rattle.rv_sequences.proofs.Terms.{on_ok_weaker, number_of}
-use Rattle.rv_sequences.proofs.OwnForms.{other_own, jalr_other}
+use Rattle.rv_sequences.proofs.{OwnForms.{other_own, jalr_other}, Terms.{on_ok_weaker, number_of}}
 use Rattle.rv_sequences.proofs.shortest.put_jalr.Goals as goal
 
 pub returns-clause-slots : goal.returns-clause-slots

@@ -1,5 +1,4 @@
-use Rattle.rv_sequences.proofs.Terms.{on_ok_weaker, number_of}
-use Rattle.rv_sequences.proofs.OwnForms.{other_own, lui_other}
+use Rattle.rv_sequences.proofs.{OwnForms.{other_own, lui_other}, Terms.{on_ok_weaker, number_of}}
 use Rattle.rv_sequences.proofs.shortest.put_lui.Goals as goal
 
 pub returns-clause-slots : goal.returns-clause-slots

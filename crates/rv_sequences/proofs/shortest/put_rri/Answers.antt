@@ -1,5 +1,4 @@
-use Rattle.rv_sequences.proofs.Terms.{on_ok_weaker}
-use Rattle.rv_sequences.proofs.OwnForms.{rri_own}
+use Rattle.rv_sequences.proofs.{OwnForms.rri_own, Terms.on_ok_weaker}
 use Rattle.rv_sequences.proofs.shortest.put_rri.Goals as goal
 
 pub returns-clause-slots : goal.returns-clause-slots

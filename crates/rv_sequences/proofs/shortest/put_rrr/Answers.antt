@@ -1,5 +1,4 @@
-use Rattle.rv_sequences.proofs.Terms.{on_ok_weaker}
-use Rattle.rv_sequences.proofs.OwnForms.{other_own, rrr_other}
+use Rattle.rv_sequences.proofs.{OwnForms.{other_own, rrr_other}, Terms.on_ok_weaker}
 use Rattle.rv_sequences.proofs.shortest.put_rrr.Goals as goal
 
 pub returns-clause-slots : goal.returns-clause-slots

@@ -1,5 +1,4 @@
-use Rattle.rv_sequences.proofs.Terms.{on_ok_weaker}
-use Rattle.rv_sequences.proofs.OwnForms.{other_own, jump_other}
+use Rattle.rv_sequences.proofs.{OwnForms.{other_own, jump_other}, Terms.on_ok_weaker}
 use Rattle.rv_sequences.proofs.shortest.put_short_jump.Goals as goal
 
 pub returns-clause-slots : goal.returns-clause-slots

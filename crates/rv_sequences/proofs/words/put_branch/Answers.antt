@@ -1,5 +1,4 @@
-use Rattle.rv_sequences.proofs.Terms.{on_ok_weaker}
-use Rattle.rv_sequences.proofs.SlotsPut.{none_put, alone}
+use Rattle.rv_sequences.proofs.{SlotsPut.{none_put, alone}, Terms.on_ok_weaker}
 use Rattle.rv_sequences.proofs.words.put_branch.Goals as goal
 
 pub returns-in-Fallthrough-default-clause-slots : goal.returns-in-Fallthrough-default-clause-slots

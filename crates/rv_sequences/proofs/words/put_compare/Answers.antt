@@ -1,10 +1,8 @@
-use Rattle.rv_sequences.proofs.Terms.{inl}
-use Rattle.rv_sequences.proofs.Encoded.{branch_word_is}
-use Rattle.rv_sequences.proofs.SlotsPut.{branch_put_at}
+use Rattle.rv_sequences.proofs.{Encoded.{branch_word_is, branch_patchable}, SlotsPut.aim_put_at, Terms.inl}
 use Rattle.rv_sequences.proofs.words.put_compare.Goals as goal
 
 pub returns-clause-slot : goal.returns-clause-slot
-returns-clause-slot c = λ flags. branch_put_at _ _ _ _ _ _ (branch_word_is _ _ c.compare_word.ensures) c.in_ok-put_use.ensures.added c.in_ok-put_use.ensures.sound
+returns-clause-slot c = λ flags. aim_put_at _ _ _ _ _ _ _ (branch_patchable _ _ _ (branch_word_is _ _ c.compare_word.ensures)) c.in_ok-put_use.ensures.added c.in_ok-put_use.ensures.sound
 
 pub put_use-requires-clause-usable : goal.put_use-requires-clause-usable
 put_use-requires-clause-usable c = inl c.requires.known

@@ -1,5 +1,4 @@
-use Rattle.rv_sequences.proofs.Terms.{◌≡◌, ◌+◌, length, arith, bytes_of}
-use Rattle.rv_sequences.proofs.SlotsPut.{branch_and_jump, word_longer}
+use Rattle.rv_sequences.proofs.{SlotsPut.{branch_and_jump, word_longer}, Terms.{◌≡◌, ◌+◌, length, arith, bytes_of}}
 use Rattle.rv_sequences.proofs.words.put_compare_and_jump.Goals as goal
 
 pub put_jump-requires-clause-room : goal.put_jump-requires-clause-room

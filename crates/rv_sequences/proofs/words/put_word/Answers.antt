@@ -1,6 +1,4 @@
-use Rattle.rv_sequences.proofs.Terms.{arith}
-use Rattle.rv_sequences.proofs.Encoded.{bytes_of_word}
-use Rattle.rv_sequences.proofs.SlotsPut.{op_put}
+use Rattle.rv_sequences.proofs.{Encoded.bytes_of_word, SlotsPut.op_put, Terms.arith}
 use Rattle.rv_sequences.proofs.words.put_word.Goals as goal
 
 pub returns-clause-slot : goal.returns-clause-slot

@@ -1,6 +1,4 @@
-use Rattle.rv_emit.proofs.Terms.{context_by, registered_of}
-use Rattle.rv_emit.proofs.StackMaps.{emits_taken}
-use Rattle.rv_emit.proofs.EmitRuns.{emits_run}
+use Rattle.rv_emit.proofs.{StackMaps.emits_taken, EmitRuns.emits_run, Terms.context_by, Terms.registered_of}
 use Rattle.rv_emit.proofs.emit.InstMachInstEmit.emit.Goals as goal
 
 pub returns-in-Ok-clause-emitted : goal.returns-in-Ok-clause-emitted
