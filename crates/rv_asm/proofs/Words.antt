@@ -21,10 +21,10 @@ pub use Rattle.{rv_runs.proofs.Words.{ReturnCallInd, Same, SameBut, Site, size_o
 pub use Rattle.rv_sequences.specs.Emitted.{Appends, AppendsIsland, AppendsSequence, Buffer, HasWindows, IsFarUse, IslandAsked, IslandIfNeeded, IsSoundBuffer, pending}
 pub use Rattle.std.proofs.Common.{[], ap, append-nil, append_assoc, arith, Bool, cond, drop, Err, false, inl, inr, length, List, lit<, lit≤, map, None, not, Option, pos, refl, Result, slice_index, Some, subst, suc, sym, take, true, zero, ℕ, ℤ, ⊎_elim, ◌%◌, ◌*◌, ◌++◌, ◌+◌, ◌-ℤ◌, ◌-◌, ◌<◌, ◌==◌, ◌^◌}
 pub use Rattle.{mach_buffer.proofs.Words.{take_all, take_more, traps_in, tries_in, true≢false, unplaced_of, unwinds_in, Use, uses_of, VCodeConstant, window, zeros}, mach_buffer.specs.Buffer.{constants_of, labels_of, records_of}, mach_buffer.specs.Islands.island_end}
-pub use Rattle.{mach_records.specs.Records.{event_relocs, record_relocs, record_traps, record_unwinds}, mach_records.specs.declared.records.MachReloc.MachReloc, mach_uses.specs.Labels.listed, rv_asm.specs.AfterLastIsland.{AfterLastIsland, EndsIn, passing}, rv_asm.specs.BoundLabels.is_in}
+pub use Rattle.{mach_records.proofs.OfRecords.{record_relocs, record_traps, record_unwinds}, mach_records.specs.Records.{event_recorded, no_offsets}, mach_records.specs.declared.records.MachReloc.MachReloc, rv_asm.specs.AfterLastIsland.{AfterLastIsland, EndsIn, passing}}
 pub use Rattle.{rv_asm.specs.FinishedCode.IsFinished, rv_asm.specs.FullSimulation.{environment_at, FullRuns, HasFullOperations, IsEntry, IsExit, IsOn, LineAt, Lines, meaning_of, OneFullLine, Overwrites, Placing, Reached, RunsOn, StandsAt, Stops}, rv_asm.specs.Job.job_of}
 pub use Rattle.{rv_asm.specs.LinesInBuffer.{BindPut, CanPut, GapAsked, is_stuck, IsNamed, LinePut, LinesStand, LineStands, Named, ReturnsWithin, Sized, SpansIn, StandsAfter}, rv_asm.specs.Placed.{address_of_name, Addresses, bytes_from, distance_to, IsFilledAt, IsPlaced}}
-pub use Rattle.{rv_asm.specs.Reported.{binds_from, FillsInLine, line_records, line_returns, records_from, Reported, return_from, returns_from, StandApart, StandOutside, Stands}, rv_asm.specs.SavedRegisters.{SavesReal, StepSaves}}
+pub use Rattle.{mach_uses.specs.Labels.listed, rv_asm.specs.BoundLabels.is_in, rv_asm.specs.Reported.{binds_from, FillsInLine, line_records, line_returns, records_from, Reported, return_from, returns_from, StandApart, StandOutside, Stands}, rv_asm.specs.SavedRegisters.{SavesReal, StepSaves}}
 pub use Rattle.{rv_asm.specs.Simulation.WritesOutside, rv_asm.specs.Spans.{binding_line, constants_after, constants_named, end_before, end_of, first_after_island, from_of, Gap, is_after_island, is_island, IsGap, IsGapOf, IsSpan, label_start, line_constant, start_of, to_of}}
 pub use Rattle.{rv_asm.specs.StraightUses.{GoStraight, IsIn}, rv_asm.specs.Survey.{IsPlainLine, IsSurveyed}, rv_base.specs.Frame.{sp_to_args_end, sp_to_fp_of}, rv_base.specs.Regs.{int_reg, IsReal}, rv_base.specs.declared.reloc.Reloc.Reloc}
 pub use Rattle.{rv_base.specs.declared.reloc.Reloc.TheVariants.{Abs8, RiscvCallPlt, RiscvGotHi20, RiscvPCRelHi20, RiscvPCRelLo12I}, rv_code.specs.Sites.LeadsOn, rv_code.specs.Slots.{call_event, Here, lower_event, upper_event}}

@@ -1,14 +1,15 @@
 -- Offsets, addresses and numbers that are computed in registers, and the way of a machine through a sequence.
 use Rattle.std.proofs.Common.{◌≡◌, ℕ, suc, ◌+◌, ◌-◌, ◌*◌, ◌/◌, ◌%◌, ◌^◌, ◌<◌, ◌≤◌, true, ℤ, pos, negsuc, ◌+ℤ◌, ◌-ℤ◌, arith, ap, ◌∙◌, ⊎_elim, ◌≢◌, Bool, false, List, [], ◌∷◌, ◌++◌, length, Some, refl, sym, subst, lit<, eqb-true, None, ◌==◌, lit≤, if◌then◌else◌, unwrap_or, slice_index, rules}
 use Rattle.rv_code.proofs.Words.{act, Add, Addi, address_at, address_slots, AimsFrom, Allocate, alu_rri, alu_rrr, AluOPRRI, AluOPRRR, and_parts, at, AtConstant, AtLabel, Base, Based, between, byte, BytesAt, cases_lt, CodeHas, constant_label, Decoded, decoded, decoded_addi, decoded_load, Environment}
-use Rattle.rv_code.proofs.Words.{Goes, Here, immediate_of, immediate_slots, inline_slots, ints, is_beyond, is_near, is_splittable, IsaFlags, IsAt, IsState, jump_size, Label, load_bytes, load_op, load_over, load_result, LoadOP, Location, low32, low64, lower_of, lower_of_distance, lower_part}
-use Rattle.rv_code.proofs.Words.{MachLabel, Memory, Names, nat_tests, Notes, number_slots, offset_slots, Op, PCRelHi20, reg, Same, same_Some, set_reg, shift_limit, short_jump, short_lui, short_rri, short_rrr, signed, Site, size_of, Slot, slot_size, StandsIn, State, to_le_bytes, upper_of}
+use Rattle.rv_machine.specs.Steps.{iter}
+use Rattle.rv_code.proofs.Words.{Goes, Here, istep, immediate_of, inline_slots, ints, is_beyond, is_near, is_splittable, IsaFlags, IsAt, IsState, jump_size, Label, load_bytes, load_op, load_over, load_result, LoadOP, Location, low32, low64, lower_of, lower_of_distance, lower_part}
+use Rattle.rv_code.proofs.Words.{MachLabel, Memory, Names, nat_tests, Notes, number_slots, offset_slots, Op, PCRelHi20, reg, Same, same_Some, set_reg, shift_limit, short_jump, short_lui, short_rri, short_rrr, signed, Site, size_of, Slot, slot_size, slots_of, StandsIn, State, to_le_bytes, upper_of}
 use Rattle.rv_code.proofs.Words.{upper_of_distance, upper_part, Values, w64, wrap}
 use Rattle.rv_base.specs.LabelUse.{code_limit}
 pub use Rattle.rv_inst.proofs.ImmediateSums.{IsRead, read_low, sum_of_parts, sum_of_negative, offset_sums, address_sums}
 pub use Rattle.rv_inst.proofs.Sequences.{set_twice, bits_back}
-use Rattle.rv_code.proofs.Steps.{lands, goes_both, goes_at_least, goes_none, goes_second, pc_in_code, step_at, at_next}
-pub use Rattle.rv_code.proofs.LineSlots.{size_append, closed_even, offsets, addresses, numbers, is_low, slots_by}
+use Rattle.rv_code.proofs.Steps.{lands, goes_both, goes_at_least, goes_none, goes_second, iter_one, iter_after, istep_here, pc_in_code, step_at, at_next}
+pub use Rattle.rv_code.proofs.LineSlots.{size_append, closed_even, offset_by, offsets, addresses, numbers, is_low, slots_by}
 use Rattle.rv_code.specs.InstRuns.{environment}
 use Rattle.rv_code.proofs.OperationActs.{IsIntegerLoad, rrr_acts, rri_acts, lui_acts, jump_acts, rrr_sized, rri_sized, lui_sized, jump_len, least_even, least_some, least_few, load_acts_wide, small_number, HasSize, rrr_fits}
 use Rattle.rv_code.proofs.Registers.{are_values_set, reads_back, reads_other}
@@ -103,9 +104,16 @@ sets_then {site} {s = s} d k n x y f g lt fits even some is_state h long has act
     let next : IsState s1 = record { pc = omega arith; values = are_values_set s.values n x is_state.values lt fits } in
     subst (λ m. Sets site.context.flags m s n y) (sym long) (sets_both k d.len n x y g (sets_one d n y (set_at k n x (shorter (k + d.len) h (omega arith)) even) some has (acts s1 next ∙ ap (λ z. Some (at (wrap (s1.pc + d.len)) (set_reg s1.values n z))) same)))
 
+-- in three steps
+pub record SetsInThree (flags : IsaFlags) (size : ℕ) (s : State) (n x : ℕ) : Type 0 where
+  pub ran : iter flags 3 s ≡ Some (at (wrap (s.pc + size)) (set_reg s.values n x))
+
+pub in_three : {flags : IsaFlags} {size n x : ℕ} {s : State} → SetsInThree flags size s n x → Sets flags size s n x
+in_three h = record { steps = 3; moved = lit≤ tt; ran = h.ran }
+
 -- the auipc, the load of bytes that stand after the code, and the jump over them
 pub over_goes : {site : Site} {offset : ℕ} {s : State} (allocated rd size x : ℕ) (op : LoadOP) (bytes : List ℕ) → IsIntegerLoad op → 0 < rd → rd < 32 → size < 16 → length bytes ≡ size → ((mem : Memory) (a : ℕ) → BytesAt mem a bytes → load_result (load_op op) mem a ≡ x) → 0 < size → IsState s →
-    IsAt site offset (8 + jump_size site.context.flags + size) s → StandsIn site allocated offset (load_over site.context.flags rd op size) → BytesAt s.values.mem (site.base + (offset + 4 + 4 + (short_jump site.context.flags (pos (size + jump_size site.context.flags))).len)) bytes → Sets site.context.flags (8 + jump_size site.context.flags + size) s rd x
+    IsAt site offset (8 + jump_size site.context.flags + size) s → StandsIn site allocated offset (load_over site.context.flags rd op size) → BytesAt s.values.mem (site.base + (offset + 4 + 4 + (short_jump site.context.flags (pos (size + jump_size site.context.flags))).len)) bytes → SetsInThree site.context.flags (8 + jump_size site.context.flags + size) s rd x
 over_goes {site} {offset} {s} allocated rd size x op bytes integer some lt little long reads filled is_state whole stands there =
     let flags = site.context.flags in
     let j = jump_size flags in
@@ -126,12 +134,14 @@ over_goes {site} {offset} {s} allocated rd size x op bytes integer some lt littl
     let back : reg s1.values rd ≡ a = reads_back s.values rd a is_state.values some lt in
     let address : wrap (reg s1.values rd + low64 (pos (8 + j))) ≡ site.base + (offset + 4 + 4 + jump.len) = (λ i. wrap (back i + low64 (pos (8 + j)))) ∙ omega (arith, none, ahead, here, there.room, filled, long, jump_long) in
     let read : load_result (load_op op) s.values.mem (wrap (reg s1.values rd + low64 (pos (8 + j)))) ≡ x = ap (load_result (load_op op) s.values.mem) address ∙ reads s.values.mem (site.base + (offset + 4 + 4 + jump.len)) there in
-    let loaded : Sets flags 8 s rd x =
-    sets_then (decoded_load op rd rd (pos (8 + j))) 4 rd a x (λ v. load_result (load_op op) v.mem (wrap (reg v rd + low64 (pos (8 + j))))) (sets_one (decoded (Base base.Auipc) rd 0 0 (pos 0)) rd a h (omega arith) stands.0 refl)
-    lt (omega arith) refl (lit< tt) is_state (shorter 8 whole (omega arith)) refl stands.1.0 (λ t is. load_acts_wide op rd rd (pos (8 + j)) t integer) read in
+    let next : wrap (s1.pc + 4) ≡ wrap (s.pc + 8) = omega arith in
+    let first : istep flags s ≡ Some s1 = istep_here (decoded (Base base.Auipc) rd 0 0 (pos 0)) [] s1 h (omega arith) stands.0 refl in
+    let second : istep flags s1 ≡ Some s2 = istep_here (decoded_load op rd rd (pos (8 + j))) [] s2 (set_at 4 rd a h refl) (omega arith) stands.1.0 (load_acts_wide op rd rd (pos (8 + j)) s1 integer ∙ (λ i. Some (at (next i) (set_reg s1.values rd (read i)))) ∙ ap (λ v. Some (at (wrap (s.pc + 8)) v)) (set_twice s.values rd a x)) in
     let h2 : IsAt site (offset + 8) jump.len s2 = set_at 8 rd x (shorter (8 + jump.len) h (omega arith)) refl in
     let jumped : wrap (s2.pc + low64 far) ≡ wrap (s.pc + (8 + j + size)) = (λ i. wrap (s2.pc + over i)) ∙ omega arith in
-    goes_both {n = 0} loaded (goes_at_least (omega arith) (step_at jump [] (at (wrap (s.pc + (8 + j + size))) s2.values) h2 (omega arith) (subst (λ n. CodeHas site n (jump ∷ [])) (omega arith) stands.1.1.0) (jump_acts flags far s2 ∙ (λ i. Some (at (jumped i) s2.values)))))
+    let s3 = at (wrap (s.pc + (8 + j + size))) s2.values in
+    let third : istep flags s2 ≡ Some s3 = istep_here jump [] s3 h2 (omega arith) (subst (λ n. CodeHas site n (jump ∷ [])) (omega arith) stands.1.1.0) (jump_acts flags far s2 ∙ (λ i. Some (at (jumped i) s2.values))) in
+    record { ran = iter_after flags 1 2 s s2 s3 (iter_after flags 1 1 s s1 s2 (iter_one flags s s1 first) (iter_one flags s1 s2 second)) (iter_one flags s2 s3 third) }
 
 -- how long the code of an inline constant is
 pub inline_size : (flags : IsaFlags) (rd size : ℕ) (op : LoadOP) (bytes : List ℕ) → length bytes ≡ size → size_of (inline_slots flags rd op size bytes) ≡ 8 + jump_size flags + size
@@ -139,7 +149,7 @@ inline_size flags rd size op bytes long = let jump = jump_len flags (pos (size +
 
 -- those bytes are a constant
 pub inline_goes : {site : Site} {offset : ℕ} {s : State} (allocated rd size x : ℕ) (op : LoadOP) (bytes : List ℕ) → IsIntegerLoad op → 0 < rd → rd < 32 → size < 16 → length bytes ≡ size → ((mem : Memory) (a : ℕ) → BytesAt mem a bytes → load_result (load_op op) mem a ≡ x) → 0 < size → IsState s →
-    IsAt site offset (size_of (inline_slots site.context.flags rd op size bytes)) s → StandsIn site allocated offset (inline_slots site.context.flags rd op size bytes) → Sets site.context.flags (8 + jump_size site.context.flags + size) s rd x
+    IsAt site offset (size_of (inline_slots site.context.flags rd op size bytes)) s → StandsIn site allocated offset (inline_slots site.context.flags rd op size bytes) → SetsInThree site.context.flags (8 + jump_size site.context.flags + size) s rd x
 inline_goes {site} {offset} {s} allocated rd size x op bytes integer some lt little long reads filled is_state h stands =
     let e = inline_size site.context.flags rd size op bytes long in
     over_goes allocated rd size x op bytes integer some lt little long reads filled is_state (shorter (8 + jump_size site.context.flags + size) h (omega arith)) (stands.0, (stands.1.0, (stands.1.1.0, tt))) (stands.1.1.1.0 s.values.mem h.placed)
@@ -157,20 +167,14 @@ offset_goes {site} {offset} {s} allocated rd o some lt is_state =
     let up = short_lui flags rd (upper_of o) in
     let down = short_rri flags Addi rd rd (lower_of o) in
     let u = wrap (low64 (upper_of o) * 2 ^ 12) in
-    let bytes = to_le_bytes w64 (low64 o) in
-    let Goal = λ (slots : List Slot). IsAt site offset (size_of slots) s → StandsIn site allocated offset slots → Sets flags (size_of slots) s rd (wrap (low64 o)) in
     let up_size = lui_sized flags rd (upper_of o) in
     let down_size = rri_sized flags Addi rd rd (lower_of o) in
-    (elim (is_splittable o) as (λ c. is_splittable o ≡ c → Goal (if c then immediate_slots flags rd (upper_of o) (lower_of o) else inline_slots flags rd loads.Ld 8 bytes)) [
-      | true ↦ λ fits. (elim (low64 (lower_of o) == 0) as (λ c. (low64 (lower_of o) == 0) ≡ c → Goal (Op up ∷ (if c then [] else Op down ∷ []))) [
-        | true ↦ λ test h stands. sets_alone allocated up rd u (wrap (low64 o)) up_size (omega (arith, offset_sums o fits, eqb-true (low64 (lower_of o)) 0 test)) (lui_acts flags rd (upper_of o) s is_state) h stands
-        | false ↦ λ test h stands. sets_then down up.len rd u (wrap (low64 o)) (λ v. wrap (reg v rd + low64 (lower_of o))) (sets_one up rd u h (omega (arith, up_size.some)) stands.0 (lui_acts flags rd (upper_of o) s is_state))
-            lt (omega arith) up_size.even (omega (arith, down_size.some)) is_state h (omega arith) stands.1.0
-            (λ t is. rri_acts flags Addi rd rd (lower_of o) t refl is) ((λ i. wrap (reads_back s.values rd u is_state.values some lt i + low64 (lower_of o))) ∙ offset_sums o fits)
-      ]) refl
-      | false ↦ λ other h stands. subst (λ n. Sets flags n s rd (wrap (low64 o))) (sym (inline_size flags rd 8 loads.Ld bytes refl))
-          (inline_goes allocated rd 8 (wrap (low64 o)) loads.Ld bytes refl some lt (lit< tt) refl (λ mem a there. eight_there mem a (low64 o) there) (lit< tt) is_state h stands)
-    ]) refl
+    offset_by (λ ps. IsAt site offset (size_of (slots_of flags ps)) s → StandsIn site allocated offset (slots_of flags ps) → Sets flags (size_of (slots_of flags ps)) s rd (wrap (low64 o))) rd o
+    (λ fits none h stands. sets_alone allocated up rd u (wrap (low64 o)) up_size (omega (arith, offset_sums o fits, none)) (lui_acts flags rd (upper_of o) s is_state) h stands)
+    (λ fits h stands. sets_then down up.len rd u (wrap (low64 o)) (λ v. wrap (reg v rd + low64 (lower_of o))) (sets_one up rd u h (omega (arith, up_size.some)) stands.0 (lui_acts flags rd (upper_of o) s is_state))
+    lt (omega arith) up_size.even (omega (arith, down_size.some)) is_state h (omega arith) stands.1.0 (λ t is. rri_acts flags Addi rd rd (lower_of o) t refl is) ((λ i. wrap (reads_back s.values rd u is_state.values some lt i + low64 (lower_of o))) ∙ offset_sums o fits))
+    (λ far h stands. subst (λ n. Sets flags n s rd (wrap (low64 o))) (sym (inline_size flags rd 8 loads.Ld (to_le_bytes w64 (low64 o)) refl))
+    (in_three (inline_goes allocated rd 8 (wrap (low64 o)) loads.Ld (to_le_bytes w64 (low64 o)) refl some lt (lit< tt) refl (λ mem a there. eight_there mem a (low64 o) there) (lit< tt) is_state h stands)))
 
 -- the slots of an address that counts from a register, by whether it is near
 abbrev based_slots : IsaFlags → ℕ → ℕ → ℤ → Bool → List Slot
@@ -307,14 +311,8 @@ goes_ahead {site} {offset} {size} {s = s} d n to more has acts there even fits s
     let e : wrap (s.pc + n) ≡ wrap (site.base + to) = omega arith in
     leads d to more has (acts ∙ ap (λ a. Some (at a s.values)) e) (omega arith) (omega arith) some k
 
--- back by so many
-pub goes_back : {site : Site} {offset size : ℕ} {Such : Values → Type 0} {s : State} (d : Decoded) (n to more : ℕ) → CodeHas site offset (d ∷ []) → act d s ≡ Some (at (wrap (s.pc + (2 ^ 64 - n))) s.values) → offset ≡ to + n → n < 2 ^ 64 → to % 2 ≡ 0 → to + more ≤ length site.bytes → 0 < size → InCourse site offset size Such s → Comes site to more Such s
-goes_back {site} {offset} {size} {s = s} d n to more has acts there few even room some k =
-    let e : wrap (s.pc + (2 ^ 64 - n)) ≡ wrap (site.base + to) = omega arith in
-    leads d to more has (acts ∙ ap (λ a. Some (at a s.values)) e) even room some k
-
 -- a number without an upper immediate is its lower one
-lower_whole : (z : ℤ) → is_low z ≡ true → wrap (0 + low64 (lower_of z)) ≡ wrap (low64 z)
+pub lower_whole : (z : ℤ) → is_low z ≡ true → wrap (0 + low64 (lower_of z)) ≡ wrap (low64 z)
 lower_whole z low =
     let both = and_parts (is_splittable z) (low64 (upper_of z) == 0) low in
     let none : low64 (upper_of z) ≡ 0 = eqb-true (low64 (upper_of z)) 0 both.1 in

@@ -1,11 +1,14 @@
 -- Where pieces stand, the machine does what their evaluation says.
-use Rattle.std.proofs.Common.{◌≡◌, ℕ, zero, suc, ◌+◌, ◌*◌, ◌%◌, ◌^◌, ◌<◌, ◌≤◌, ℤ, Bool, true, false, nat_eq, [], ◌∷◌, List, length, Option, Some, None, arith, refl, sym, ap, subst, ◌∙◌, lit<, lit≤, eqb-true, if◌then◌else◌, rules}
-use Rattle.rv_code.proofs.Words.{act, Action, after, alu_result_fits, AreInRange, AreValues, at, between, Bind, Branch, branches, CodeHas, Copy, Decoded, Do, Equal, holds, IntCC, IsaFlags, IsInRange, IsPlacedAt, IsState, istep, Jump, low64, New, op_of, own_label, Piece, piece_size, reg, same_Some}
-use Rattle.rv_code.proofs.Words.{short_jump, Site, slots_of, StandsIn, State, store_bytes, store_op, Trap, trap_bytes, trap_size, Values, wrap}
+use Rattle.std.proofs.Common.{◌≡◌, ℕ, zero, suc, ◌+◌, ◌*◌, ◌%◌, ◌^◌, ◌<◌, ◌≤◌, ℤ, pos, Bool, true, false, nat_eq, [], ◌∷◌, List, length, Option, Some, None, arith, refl, sym, ap, subst, ◌∙◌, lit<, lit≤, eqb-true, if◌then◌else◌, rules}
+use Rattle.rv_code.proofs.Words.{act, Action, after, alu_result_fits, AreInRange, AreValues, at, between, Bind, Branch, branches, CodeHas, Constant, Copy, Decoded, Do, Equal, holds, IntCC, IsaFlags, IsInRange, IsPlacedAt, IsState, istep, Jump, jump_size, low64, New, op_of, own_label, Piece, piece_size, reg}
+use Rattle.rv_code.proofs.Words.{same_Some, set_reg, short_jump, Site, slots_of, StandsIn, State, store_bytes, store_op, to_le_bytes, Trap, trap_bytes, trap_size, Values, w64, wrap}
 use Rattle.rv_code.specs.Pieces.{Lui, Store}
-use Rattle.rv_code.specs.Evaluation.{Point, at as points, to, address, is_of_integers, effect, wrote, AllOutside, next, and_then, evaluate, StandIn, IsAtPoint, ComesToPoint}
+use Rattle.rv_inst.specs.Addresses.{inline_size}
+use Rattle.rv_ops.specs.declared.memory.LoadOP.TheVariants.{Ld}
+use Rattle.rv_code.specs.Evaluation.{Point, at as points, to, address, is_of_integers, effect, wrote, AllOutside, next, and_then, evaluate, steps_for, steps_on, steps_of, StandIn, IsAtPoint, ComesToPoint}
+use Rattle.rv_code.proofs.Courses.{eight_there, over_goes, shorter}
 use Rattle.rv_code.proofs.Steps.{istep_here, aims_at, iter_none, iter_one, iter_after}
-use Rattle.rv_code.proofs.OperationActs.{rrr_fits, HasSize, rrr_acts, rri_acts, lui_acts, rrr_sized, rri_sized, lui_sized, load_acts, load_sized, store_acts, store_sized, jump_acts, window_long, least_even, least_some}
+use Rattle.rv_code.proofs.OperationActs.{rrr_fits, HasSize, rrr_acts, rri_acts, lui_acts, rrr_sized, rri_sized, lui_sized, load_acts, load_sized, store_acts, store_sized, jump_acts, jump_len, window_long, least_even, least_some}
 use Rattle.rv_code.proofs.Registers.{are_values_set}
 use Rattle.rv_code.proofs.StackRuns.{placed_after, put_values, stored_bytes, load_fits}
 
@@ -52,10 +55,12 @@ rest {site} {allocated} {start} {end} p ps k =
     by New h = subst (λ n. StandsIn site allocated n (slots_of site.context.flags ps)) (omega arith) h
     by (Bind j) h = subst (λ n. StandsIn site allocated n (slots_of site.context.flags ps)) (omega arith) h.1
     by (Trap code) h = h.1.1
+    by (Constant rd n) h = subst (λ n. StandsIn site allocated n (slots_of site.context.flags ps)) (omega (arith, jump_len site.context.flags (pos (8 + jump_size site.context.flags)))) h.1.1.1.1
     by _ h = h.1
 
     ranges : (p : Piece) → AreInRange (p ∷ ps) → AreInRange ps
     ranges (Do a) h = h.1
+    ranges (Constant rd n) h = h.1
     ranges _ h = h
 
 -- where an own label is bound
@@ -121,13 +126,25 @@ leads {site} {allocated} {start} {end} {ps} {v} {m} {s} k whole q p d aim whole_
     is_there site allocated start end f (steps_once t (istep_here (d z) [] t h.here (omega arith) has acts_there) (stands_at t m b.offset b.within h.here.placed refl h.is_state.values h.values b.stand))
 
 -- the machine goes on, without a step
-passes : {site : Site} {allocated start end : ℕ} {ps : List Piece} {v : Values} {m : List (List ℕ)} {s : State} (p : Piece) → piece_size site.context.flags p ≡ 0 → IsAtPoint site allocated start end (points (p ∷ ps) v m) s → ComesToPoint 1 site allocated start end (points ps v m) s
+passes : {site : Site} {allocated start end : ℕ} {ps : List Piece} {v : Values} {m : List (List ℕ)} {s : State} (p : Piece) → piece_size site.context.flags p ≡ 0 → IsAtPoint site allocated start end (points (p ∷ ps) v m) s → ComesToPoint 0 site allocated start end (points ps v m) s
 passes {site} {ps = ps} {m = m} {s = s} p none h = stays (stands_at s m (h.offset + piece_size site.context.flags p) (omega arith) h.here.placed (let pc = h.here.pc in omega arith) h.is_state.values h.values (rest p ps h.stand))
 
-pub one : {site : Site} {allocated start end : ℕ} (whole : List Piece) → StandIn site allocated start end whole → (ps : List Piece) (v : Values) (m : List (List ℕ)) (q : Point) (s : State) → next whole ps v m ≡ Some q → AllOutside site q.written → IsAtPoint site allocated start end (points ps v m) s → ComesToPoint 1 site allocated start end q s
+pub one : {site : Site} {allocated start end : ℕ} (whole : List Piece) → StandIn site allocated start end whole → (ps : List Piece) (v : Values) (m : List (List ℕ)) (q : Point) (s : State) → next whole ps v m ≡ Some q → AllOutside site q.written → IsAtPoint site allocated start end (points ps v m) s → ComesToPoint (steps_for ps) site allocated start end q s
 one {site} {allocated} {start} {end} whole k (Do a ∷ ps) v m q s e out h =
     (elim (is_of_integers a) as (λ c. is_of_integers a ≡ c → (if c then Some (points ps (effect a v) (wrote a v m)) else None) ≡ Some q → ComesToPoint 1 site allocated start end q s)
     [ true ↦ λ of f. is_there site allocated start end f (does a of (outside_at site f out) h) | false ↦ λ of f. absurd (cc) ]) refl e
+one {site} {allocated} {start} {end} whole k (Constant rd n ∷ ps) v m q s e out h =
+    let size = inline_size site.context.flags 8 in
+    let there = h.stand.stand in
+    let range = h.stand.ranges.0 in
+    let t = at (wrap (s.pc + size)) (set_reg s.values rd (wrap n)) in
+    is_there site allocated start end e (record {
+      state = t;
+      steps = 3;
+      few = lit≤ tt;
+      ran = (over_goes allocated rd 8 (wrap n) Ld (to_le_bytes w64 n) refl range.0 range.1 (lit< tt) refl (λ mem a bytes. eight_there mem a n bytes) (lit< tt) h.is_state (shorter size h.here (omega arith)) (there.0, (there.1.0, (there.1.1.0, tt))) (there.1.1.1.0 s.values.mem h.here.placed)).ran;
+      there = stands_at t m (h.offset + size) (omega arith) h.here.placed (let pc = h.here.pc in omega arith) (are_values_set s.values rd (wrap n) h.is_state.values range.1 (omega arith)) (ap (λ w. set_reg w rd (wrap n)) h.values) (rest (Constant rd n) ps h.stand);
+    })
 one {site} {allocated} {start} {end} whole k (Branch how a b j ∷ ps) v m q s e out h =
     let aim = h.stand.stand.0 in
     let test = holds how (reg s.values a) (reg s.values b) in
@@ -168,10 +185,10 @@ all_earlier site whole (suc n) p q e out =
     (elim (next whole p.ahead p.values p.written) as (λ o. next whole p.ahead p.values p.written ≡ o → and_then o (evaluate n whole) ≡ Some q → AllOutside site p.written)
     [ None ↦ λ is f. absurd (cc) | Some r ↦ λ is f. one_earlier site whole p.ahead p.values p.written r is (all_earlier site whole n r q f out) ]) refl e
 
-pub pieces_run : (site : Site) (allocated start end : ℕ) (whole : List Piece) → StandIn site allocated start end whole → (n : ℕ) (p q : Point) (s : State) → evaluate n whole p ≡ Some q → AllOutside site q.written → IsAtPoint site allocated start end p s → ComesToPoint n site allocated start end q s
+pub pieces_run : (site : Site) (allocated start end : ℕ) (whole : List Piece) → StandIn site allocated start end whole → (n : ℕ) (p q : Point) (s : State) → evaluate n whole p ≡ Some q → AllOutside site q.written → IsAtPoint site allocated start end p s → ComesToPoint (steps_of n whole p) site allocated start end q s
 pieces_run site allocated start end whole k zero p q s e out h = is_there site allocated start end e (stays h)
 pieces_run site allocated start end whole k (suc n) p q s e out h =
-    (elim (next whole p.ahead p.values p.written) as (λ o. next whole p.ahead p.values p.written ≡ o → and_then o (evaluate n whole) ≡ Some q → ComesToPoint (suc n) site allocated start end q s) [
+    (elim (next whole p.ahead p.values p.written) as (λ o. next whole p.ahead p.values p.written ≡ o → and_then o (evaluate n whole) ≡ Some q → ComesToPoint (steps_for p.ahead + steps_on o (steps_of n whole)) site allocated start end q s) [
       | None ↦ λ is f. absurd (cc)
       | Some r ↦ λ is f.
           let c = one whole k p.ahead p.values p.written r s is (all_earlier site whole n r q f out) h in

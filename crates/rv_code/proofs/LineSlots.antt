@@ -1,11 +1,13 @@
 -- What lines of loads, stores, addresses, numbers and symbols add to a buffer, and that their parts are self-contained.
-use Rattle.std.proofs.Common.{◌≡◌, ℕ, ◌+◌, List, [], ◌∷◌, ◌%◌, length, Option, refl, arith, ◌-◌, ◌≤◌, Bool, true, false, ◌++◌, Some, None, ℤ, pos, ap, sym, ◌∙◌, subst, append_assoc, lit≤, append-nil, ◌==◌, ◌^◌, ◌<◌, not, if◌then◌else◌, ◌&&◌, rules}
+use Rattle.std.proofs.Common.{◌≡◌, ℕ, ◌+◌, List, [], ◌∷◌, ◌%◌, eqb-true, length, Option, refl, arith, ◌-◌, ◌≤◌, Bool, true, false, ◌++◌, Some, None, ℤ, pos, ap, sym, ◌∙◌, subst, append_assoc, lit≤, append-nil, ◌==◌, ◌^◌, ◌<◌, not, if◌then◌else◌, ◌&&◌, rules}
 use Rattle.rv_code.proofs.Words.{access_slots, Add, Addi, address_event, address_slots, address_targets, Aim, Allocate, AMode, AreClosed, AreSelfContained, AtConstant, AtLabel, Base, Based, boxing_slots, cast_signed, Const, constant_label, constant_named, Context, Data, Decoded, decoded}
-use Rattle.rv_code.proofs.Words.{decoded_load, decoded_store, ExternalName, far_slots, FrameLayout, got_slots, half_load_slots, half_store_slots, has_load, has_store, Here, immediate_slots, inline_size, inline_slots, Inst, inst_constant, inst_records, inst_size, ints, is_near, is_splittable}
+use Rattle.rv_code.proofs.Words.{decoded_load, decoded_store, ExternalName, far_slots, FrameLayout, got_slots, half_load_slots, half_store_slots, has_load, has_store, Here, inline_size, Inst, inst_constant, inst_records, inst_size, ints, is_near, is_splittable}
 use Rattle.rv_code.proofs.Words.{IsaFlags, IsOfSize, IsReal, Jal20, jump_size, label_of, LabelAddress, LabelUse, Lh, Load, load_line_slots, load_over, load_own_size, load_size, load_slots, LoadAddr, LoadExtNameFar, LoadExtNameGot, LoadExtNameNear, LoadOP, Location, location_of, low64, low_word}
 use Rattle.rv_code.proofs.Words.{lower_of, MachLabel, MachRecord, marks_of, MemFlagsData, moved_to_float, moved_to_integer, name_more, named_by, Names, names_of, near_slots, Notes, number_of, number_slots, offset_slots, Op, Or, PCRelHi20, PCRelLo12I, Real, records_of, Reg, RegClass, Sh, short_jump}
 use Rattle.rv_code.proofs.Words.{short_load, short_lui, short_rri, short_rrr, short_store, size_of, Slot, slot_size, Store, store_line_slots, store_own_size, store_slots, StoreOP, target_uses, to_le_bytes, TrapCode, Unwind, upper_of, use_at, uses_in, uses_of, uses_start, VCodeConstant, Virtual, w64}
 use Rattle.rv_code.proofs.Words.{Writable}
+use Rattle.rv_code.proofs.Words.{Constant, Do, immediate_pieces, number_pieces, offset_pieces, Piece, Rri, slots_of}
+use Rattle.rv_code.specs.Pieces.{Lui}
 use Rattle.mach_records.specs.declared.records.Event.{Event}
 use Rattle.mach_uses.specs.declared.uses.Use.{Use}
 use Rattle.rv_inst.specs.Records.{access_records}
@@ -164,19 +166,33 @@ accessed trap d even =
     let own = from_start (one d even) in
     subst (λ n. HaveAccess n none trap None (access_slots trap ++ Op d ∷ [])) same (elim trap as (λ t. HaveAccess (size_of (Op d ∷ [])) none t None (access_slots t ++ Op d ∷ [])) [ None ↦ own | Some code ↦ note_then (event.Trap code) refl own ])
 
--- an offset is put into a register
+-- by which pieces an offset is put into a register
+pub offset_by : (P : List Piece → Type 0) (rd : ℕ) (o : ℤ) → (is_splittable o ≡ true → low64 (lower_of o) ≡ 0 → P (Do (Lui rd (upper_of o)) ∷ [])) → (is_splittable o ≡ true → P (Do (Lui rd (upper_of o)) ∷ Do (Rri Addi rd rd (lower_of o)) ∷ [])) → (is_splittable o ≡ false → P (Constant rd (low64 o) ∷ [])) → P (offset_pieces rd o)
+offset_by P rd o upper both constant =
+    (elim (is_splittable o) as (λ c. is_splittable o ≡ c → P (if c then immediate_pieces rd (upper_of o) (lower_of o) else Constant rd (low64 o) ∷ [])) [
+      | true ↦ λ fits. (elim (low64 (lower_of o) == 0) as (λ c. (low64 (lower_of o) == 0) ≡ c → P (Do (Lui rd (upper_of o)) ∷ (if c then [] else Do (Rri Addi rd rd (lower_of o)) ∷ []))) [ true ↦ λ none. upper fits (eqb-true (low64 (lower_of o)) 0 none) | false ↦ λ some. both fits ]) refl
+      | false ↦ constant
+    ]) refl
+
 pub offsets : (flags : IsaFlags) (rd : ℕ) (o : ℤ) → HaveWords (offset_slots flags rd o)
-offsets flags rd o = by (is_splittable o) (low64 (lower_of o) == 0)
-  where
-    by : (s n : Bool) → HaveWords (if s then Op (short_lui flags rd (upper_of o)) ∷ (if n then [] else Op (short_rri flags Addi rd rd (lower_of o)) ∷ []) else inline_slots flags rd loads.Ld 8 (to_le_bytes w64 (low64 o)))
-    by true true = one (short_lui flags rd (upper_of o)) (lui_sized flags rd (upper_of o)).even
-    by true false = op_then (short_lui flags rd (upper_of o)) (lui_sized flags rd (upper_of o)).even (one (short_rri flags Addi rd rd (lower_of o)) (rri_sized flags Addi rd rd (lower_of o)).even)
-    by false n =
-        let far = pos (8 + jump_size flags) in
-        let jump = jump_len flags far in
-        let even = least_even flags in
-        let bytes : HaveWords (Data (to_le_bytes w64 (low64 o)) ∷ []) = record { plain = tt; within = lit≤ tt; uses = λ allocated start. refl; records = λ start. refl; names = λ named. refl; closed = λ here start. (refl, tt) } in
-        op_then (decoded (Base base.Auipc) rd 0 0 (pos 0)) refl (op_then (decoded_load loads.Ld rd rd far) refl (op_then (short_jump flags far) (omega arith) bytes))
+offsets flags rd o =
+    let up = lui_sized flags rd (upper_of o) in
+    let far = pos (8 + jump_size flags) in
+    let even : (short_jump flags far).len % 2 ≡ 0 = omega (arith, jump_len flags far, least_even flags) in
+    let bytes : HaveWords (Data (to_le_bytes w64 (low64 o)) ∷ []) = record { plain = tt; within = lit≤ tt; uses = λ allocated start. refl; records = λ start. refl; names = λ named. refl; closed = λ here start. (refl, tt) } in
+    offset_by (λ ps. HaveWords (slots_of flags ps)) rd o (λ fits none. one (short_lui flags rd (upper_of o)) up.even) (λ fits. op_then (short_lui flags rd (upper_of o)) up.even (one (short_rri flags Addi rd rd (lower_of o)) (rri_sized flags Addi rd rd (lower_of o)).even))
+    (λ other. op_then (decoded (Base base.Auipc) rd 0 0 (pos 0)) refl (op_then (decoded_load loads.Ld rd rd far) refl (op_then (short_jump flags far) even bytes)))
+
+-- a number is its lower immediate
+abbrev pub is_low : ℤ → Bool
+is_low z = is_splittable z && low64 (upper_of z) == 0
+
+-- by that alone, or as an offset is
+abbrev pub slots_by : IsaFlags → ℕ → ℤ → Bool → List Slot
+slots_by flags rd z low = slots_of flags (if low then Do (Rri Addi rd 0 (lower_of z)) ∷ [] else offset_pieces rd z)
+
+pub number_by : (P : List Piece → Type 0) (rd : ℕ) (z : ℤ) → (is_low z ≡ true → P (Do (Rri Addi rd 0 (lower_of z)) ∷ [])) → (is_splittable z ≡ true → low64 (lower_of z) ≡ 0 → P (Do (Lui rd (upper_of z)) ∷ [])) → (is_splittable z ≡ true → P (Do (Lui rd (upper_of z)) ∷ Do (Rri Addi rd rd (lower_of z)) ∷ [])) → (is_splittable z ≡ false → P (Constant rd (low64 z) ∷ [])) → P (number_pieces rd z)
+number_by P rd z alone upper both constant = (elim (is_low z) as (λ c. is_low z ≡ c → P (if c then Do (Rri Addi rd 0 (lower_of z)) ∷ [] else offset_pieces rd z)) [ true ↦ alone | false ↦ λ high. offset_by P rd z upper both constant ]) refl
 
 -- the uses of an address
 abbrev pub uses_at : Location → ℕ → ℕ → List (Use LabelUse)
@@ -222,16 +238,15 @@ either_most x y true most h g = h
 either_most x y false most h g = g
 
 -- an offset that an upper and a lower immediate make
-immediates_few : (flags : IsaFlags) (rd : ℕ) (o : ℤ) → size_of (immediate_slots flags rd (upper_of o) (lower_of o)) ≤ 8
-immediates_few flags rd o =
-    let up = (lui_sized flags rd (upper_of o)).few in let down = (rri_sized flags Addi rd rd (lower_of o)).few in
-    elim (low64 (lower_of o) == 0) as (λ c. (short_lui flags rd (upper_of o)).len + size_of (if c then [] else Op (short_rri flags Addi rd rd (lower_of o)) ∷ []) ≤ 8) [ true ↦ omega arith | false ↦ omega arith ]
-
 pub split_short : (flags : IsaFlags) (rd : ℕ) (o : ℤ) → is_splittable o ≡ true → size_of (offset_slots flags rd o) ≤ 8
-split_short flags rd o splits = rw (splits) (immediates_few flags rd o)
+split_short flags rd o splits =
+    let up = (lui_sized flags rd (upper_of o)).few in let down = (rri_sized flags Addi rd rd (lower_of o)).few in
+    offset_by (λ ps. size_of (slots_of flags ps) ≤ 8) rd o (λ fits none. omega arith) (λ fits. omega arith) (λ far. absurd (cc))
 
 pub offset_most : (flags : IsaFlags) (rd : ℕ) (o : ℤ) → size_of (offset_slots flags rd o) ≤ 20
-offset_most flags rd o = either_most _ _ (is_splittable o) 20 (omega (arith, immediates_few flags rd o)) (omega (arith, jump_len flags (pos (8 + jump_size flags)), least_few flags))
+offset_most flags rd o =
+    let up = (lui_sized flags rd (upper_of o)).few in let down = (rri_sized flags Addi rd rd (lower_of o)).few in
+    offset_by (λ ps. size_of (slots_of flags ps) ≤ 20) rd o (λ fits none. omega arith) (λ fits. omega arith) (λ far. omega (arith, jump_len flags (pos (8 + jump_size flags)), least_few flags))
 
 pub address_most : (flags : IsaFlags) (rd : ℕ) (at : Location) → size_of (address_slots flags rd at) ≤ 24
 address_most flags rd (Based r o) =
@@ -280,14 +295,6 @@ label_address_summed context dst label = summed_by (addresses context.flags (num
 pub address_contained : (flags : IsaFlags) (rd : ℕ) (at : Location) → AreSelfContained (address_slots flags rd at)
 address_contained flags rd at = (addresses flags rd at).closed _ 0
 
--- a number is its lower immediate
-abbrev pub is_low : ℤ → Bool
-is_low z = is_splittable z && low64 (upper_of z) == 0
-
--- by that alone, or as an offset is
-abbrev pub slots_by : IsaFlags → ℕ → ℤ → Bool → List Slot
-slots_by flags rd z low = if low then Op (short_rri flags Addi rd 0 (lower_of z)) ∷ [] else offset_slots flags rd z
-
 -- in two's complement a number below 2 ^ 63 is itself
 pub small_signed : (n : ℕ) → n < 2 ^ 63 → cast_signed w64 n ≡ pos n
 small_signed n lt = omega (arith, ints)
@@ -326,10 +333,7 @@ numbers flags rd z =
 
 -- at most 20 bytes
 pub number_few : (flags : IsaFlags) (rd : ℕ) (z : ℤ) → size_of (number_slots flags rd z) ≤ 20
-number_few flags rd z = either_most _ _ (is_low z) 20 (omega (arith, (rri_sized flags Addi rd 0 (lower_of z)).few)) (offset_most flags rd z)
-
-pub number_short : (flags : IsaFlags) (rd : ℕ) (z : ℤ) → IsShort 20 (number_slots flags rd z)
-number_short flags rd z = record { plain = (numbers flags rd z).plain; short = number_few flags rd z }
+number_few flags rd z = elim (is_low z) as (λ low. size_of (slots_by flags rd z low) ≤ 20) [ true ↦ omega (arith, (rri_sized flags Addi rd 0 (lower_of z)).few) | false ↦ offset_most flags rd z ]
 
 -- ---- what symbols' addresses and steps in the making of a frame add to a buffer, and that their parts are self-contained.
 

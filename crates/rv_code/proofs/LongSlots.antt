@@ -1,15 +1,14 @@
--- Slots of tables, tail calls and probes of the stack: how long they are, and that they are self-contained.
-use Rattle.std.proofs.Common.{rules, ◌≡◌, ℕ, ◌+◌, ◌^◌, ◌*◌, ◌≤◌, Bool, true, false, List, [], ◌∷◌, length, Option, Some, None, ℤ, pos, ◌-ℤ◌, arith, lit≤, refl, subst, sym, ◌-◌, ◌%◌, ◌<◌, ◌++◌, map, ap, ◌∙◌, ◌==◌, suc, if◌then◌else◌, ◌&&◌}
-use Rattle.rv_code.proofs.Words.{Add, Addi, address_slots, Aim, AllByRecursion, Allocate, AreClosed, AreFineResults, AreSelfContained, Based, call_event, call_to, CallRetPair, cast_signed, Context, Data, decoded_bgeu, decoded_load, extend_pieces, ExternalName, frame_above, FrameLayout}
-use Rattle.rv_code.proofs.Words.{half_load_slots, has_load, Here, here_at, inline_slots, InReg, Int, ints, is_near, is_splittable, IsaFlags, IsFineResult, jump_size, Ld, length-append, Lh, load_line_slots, load_slots, LoadOP, loads_unless, location_loads, low64, low_word, lower_of, MachLabel}
-use Rattle.rv_code.proofs.Words.{MachRecord, Notes, number_of, number_slots, offset_slots, OnStack, Op, Own, PReg, probe_slots, Reg, restores, result_load, result_loads, RetLocation, return_size, return_slots, saved_load, saves_from, Sb, setup_loads, short_jalr, short_jump, short_lui, short_rri}
-use Rattle.rv_code.proofs.Words.{short_rrr, size_of, Slli, Slot, slots_of, sp_to_fp_of, Srli, stack_load_slots, stack_step_slots, StackLoad, StackProbeLoop, Sub, t0_slots, table_slots, tail_slots, to_le_bytes, typed_loads, upper_of, w64, Writable}
+-- Slots of tables and tail calls: how long they are, and that they are self-contained.
+use Rattle.std.proofs.Common.{rules, ◌≡◌, ℕ, ◌+◌, ◌^◌, ◌*◌, ◌≤◌, Bool, true, false, List, [], ◌∷◌, length, Option, Some, None, ℤ, pos, ◌-ℤ◌, arith, lit≤, refl, subst, sym, ◌-◌, ◌%◌, ◌<◌, ◌++◌, map, ap, ◌==◌, suc, if◌then◌else◌}
+use Rattle.rv_code.proofs.Words.{Add, Addi, address_slots, Aim, AllByRecursion, Allocate, AreClosed, AreFineResults, AreSelfContained, Based, call_event, call_to, CallRetPair, Data, decoded_load, extend_pieces, ExternalName, frame_above, FrameLayout}
+use Rattle.rv_code.proofs.Words.{half_load_slots, has_load, Here, here_at, InReg, Int, ints, is_near, is_splittable, IsaFlags, IsFineResult, jump_size, Ld, length-append, Lh, load_line_slots, load_slots, LoadOP, loads_unless, location_loads, low64, lower_of, MachLabel}
+use Rattle.rv_code.proofs.Words.{MachRecord, Notes, number_of, number_slots, offset_slots, OnStack, Op, Own, PReg, Reg, restores, result_load, result_loads, RetLocation, return_size, return_slots, saved_load, saves_from, setup_loads, short_jalr, short_rri}
+use Rattle.rv_code.proofs.Words.{short_rrr, size_of, Slli, Slot, slots_of, sp_to_fp_of, Srli, stack_load_slots, stack_step_slots, StackLoad, t0_slots, table_slots, tail_slots, typed_loads, upper_of, Writable}
 use Rattle.rv_inst.specs.Limits.{return_limit}
-use Rattle.rv_code.proofs.OperationActs.{load_sized, lui_sized, rrr_sized, rri_sized, jump_len, least_even, jalr_sized, HasSize, store_sized, least_few}
+use Rattle.rv_code.proofs.OperationActs.{load_sized, lui_sized, rrr_sized, rri_sized, jump_len, least_even, jalr_sized}
 use Rattle.rv_code.proofs.LineOperands.{of_both, setup_by}
-use Rattle.rv_code.proofs.LineSlots.{is_low, numbers, number_few as number_most, IsPlain, IsSummed, HaveContents, HaveWords, none, nothing, one, both, closed_append, op_then, line_loaded, size_append, summed_by, split_short, far_most, load_most, half_most, either_most}
+use Rattle.rv_code.proofs.LineSlots.{is_low, slots_by, number_by, numbers, number_few as number_most, IsPlain, HaveContents, HaveWords, none, nothing, one, both, closed_append, line_loaded, size_append, split_short, far_most, load_most, half_most, either_most}
 use Rattle.rv_code.specs.Tables.{far_jump, jump_slots}
-use Rattle.rv_code.specs.Probes.{probe_op, zero_op, nearer_op, probe_turn, probe_turn_size}
 use Rattle.rv_ops.specs.declared.memory.LoadOP.TheVariants as loads
 use Rattle.mach_records.specs.declared.records.Event.TheVariants as event
 
@@ -95,18 +94,13 @@ pub extend_few : (flags : IsaFlags) (rd rn : ℕ) → size_of (slots_of flags (e
 extend_few flags rd rn = let a = (rri_sized flags Slli rd rn (pos 32)).few in let b = (rri_sized flags Srli rd rd (pos 32)).few in omega arith
 
 pub number_even : (flags : IsaFlags) (rd : ℕ) (z : ℤ) → AreEven (number_slots flags rd z)
-number_even flags rd z = by (is_splittable z) (low64 (upper_of z) == 0) (low64 (lower_of z) == 0)
-  where
-    by : (splits alone upper : Bool) → AreEven (if splits && alone then Op (short_rri flags Addi rd 0 (lower_of z)) ∷ [] else
-        if splits then Op (short_lui flags rd (upper_of z)) ∷ (if upper then [] else Op (short_rri flags Addi rd rd (lower_of z)) ∷ []) else inline_slots flags rd loads.Ld 8 (to_le_bytes w64 (low64 z)))
-    by true true upper = ((rri_sized flags Addi rd 0 (lower_of z)).even, tt)
-    by true false true = ((lui_sized flags rd (upper_of z)).even, tt)
-    by true false false = ((lui_sized flags rd (upper_of z)).even, ((rri_sized flags Addi rd rd (lower_of z)).even, tt))
-    by false alone upper = (refl, (refl, (omega (arith, jump_len flags (pos (8 + jump_size flags)), least_even flags), (refl, tt))))
+number_even flags rd z =
+    let up = (lui_sized flags rd (upper_of z)).even in
+    number_by (λ ps. AreEven (slots_of flags ps)) rd z (λ low. ((rri_sized flags Addi rd 0 (lower_of z)).even, tt)) (λ fits none. (up, tt)) (λ fits. (up, ((rri_sized flags Addi rd rd (lower_of z)).even, tt))) (λ far. (refl, (refl, (omega (arith, jump_len flags (pos (8 + jump_size flags)), least_even flags), (refl, tt)))))
 
 -- a number of few bits is put by immediates
 pub number_few : (flags : IsaFlags) (rd : ℕ) (z : ℤ) → is_splittable z ≡ true → size_of (number_slots flags rd z) ≤ 8
-number_few flags rd z splits = let one = (rri_sized flags Addi rd 0 (lower_of z)).few in either_most _ _ (is_low z) 8 (omega arith) (split_short flags rd z splits)
+number_few flags rd z splits = elim (is_low z) as (λ low. size_of (slots_by flags rd z low) ≤ 8) [ true ↦ omega (arith, (rri_sized flags Addi rd 0 (lower_of z)).few) | false ↦ split_short flags rd z splits ]
 
 pub count_splits : (n : ℕ) → n < 2 ^ 30 → is_splittable (pos n) ≡ true
 count_splits n lt = grind (arith, ints)
@@ -200,35 +194,3 @@ pub return_most : (flags : IsaFlags) (frame : FrameLayout) (arguments : ℕ) →
 return_most flags frame arguments =
     let offset = pos (sp_to_fp_of frame) -ℤ pos 8 in
     omega (arith, return_short flags frame arguments, length-append (saves_from offset frame.clobbered_callee_saves) (setup_loads frame), saves_long offset frame.clobbered_callee_saves, setup_few frame)
-
--- ---- the length of the slots that probe the stack.
-
-pub probe_sized : (flags : IsaFlags) → HasSize (probe_op flags)
-probe_sized flags = rrr_sized flags Sub 30 2 31
-
-pub zero_sized : (flags : IsaFlags) → HasSize (zero_op flags)
-zero_sized flags = store_sized flags Sb 30 0 (pos 0)
-
-pub nearer_sized : (flags : IsaFlags) (tmp : ℕ) → HasSize (nearer_op flags tmp)
-nearer_sized flags tmp = rrr_sized flags Sub 31 31 tmp
-
-probes_counted : (flags : IsaFlags) (tmp guard count : ℕ) → HaveWords (probe_slots flags tmp guard count)
-probes_counted flags tmp guard count =
-    let far = pos 0 -ℤ pos (probe_turn_size flags tmp) in
-    let even : (short_jump flags far).len % 2 ≡ 0 = omega (arith, jump_len flags far, least_even flags) in
-    let turn : HaveWords (map Op (probe_turn flags tmp)) =
-    op_then (decoded_bgeu tmp 31 (pos (probe_turn_size flags tmp + jump_size flags))) refl
-    (op_then (probe_op flags) (probe_sized flags).even (op_then (zero_op flags) (zero_sized flags).even (op_then (nearer_op flags tmp) (nearer_sized flags tmp).even (one (short_jump flags far) even)))) in
-    both (both (numbers flags 31 (cast_signed w64 (guard * count))) (numbers flags tmp (pos guard))) turn
-
-probe_short : (flags : IsaFlags) (tmp guard count : ℕ) → size_of (probe_slots flags tmp guard count) ≤ 60
-probe_short flags tmp guard count =
-    let turn = map Op (probe_turn flags tmp) in
-    let far = pos 0 -ℤ pos (probe_turn_size flags tmp) in
-    omega (arith, size_append (number_slots flags 31 (cast_signed w64 (guard * count)) ++ number_slots flags tmp (pos guard)) turn, size_append (number_slots flags 31 (cast_signed w64 (guard * count))) (number_slots flags tmp (pos guard)), number_most flags 31 (cast_signed w64 (guard * count)), number_most flags tmp (pos guard), (probe_sized flags).few, (zero_sized flags).few, (nearer_sized flags tmp).few, jump_len flags far, least_few flags)
-
-pub probe_summed : (context : Context) (guard count : ℕ) (tmp : Writable Reg) → IsSummed context (StackProbeLoop guard count tmp) (probe_slots context.flags (number_of tmp.reg) (low_word guard) (low_word count))
-probe_summed context guard count tmp = summed_by (probes_counted context.flags (number_of tmp.reg) (low_word guard) (low_word count)) (probe_short context.flags (number_of tmp.reg) (low_word guard) (low_word count)) (λ start end. refl) (λ start end. refl) refl
-
-pub probe_contained : (flags : IsaFlags) (tmp guard count : ℕ) → AreSelfContained (probe_slots flags tmp guard count)
-probe_contained flags tmp guard count = (probes_counted flags tmp guard count).closed _ 0

@@ -1,6 +1,8 @@
 -- Instructions that pieces make: how long they are, and that they are self-contained.
-use Rattle.std.proofs.Common.{rules, ◌≡◌, ℕ, ◌+◌, ◌≤◌, Bool, true, false, nat_eq, [], ◌∷◌, List, length, Some, None, arith, refl, lit≤, sym, subst, ap, lit<, suc, ◌*◌, ◌<◌, ◌++◌, map, pos, ◌∙◌, ◌-◌, if◌then◌else◌}
+use Rattle.std.proofs.Common.{rules, ◌≡◌, ℕ, ℤ, ◌+◌, ◌≤◌, Bool, true, false, nat_eq, [], ◌∷◌, List, length, Some, None, arith, refl, lit≤, sym, subst, ap, lit<, suc, ◌*◌, ◌<◌, ◌++◌, map, pos, ◌∙◌, ◌-◌, if◌then◌else◌}
 use Rattle.rv_code.proofs.Words.{Action, after, all_of, Andi, AreAmong, AreClosed, AreClosedPieces, AreSelfContained, AtMost, B12, backward_of, Bind, bits_of, Branch, Brev8, canonical_type, choice_pieces, class_of, Cltz, complement_of, Context, Do, Exactly, Extend, extend_pieces, forward_of}
+use Rattle.rv_code.proofs.Words.{cast_signed, Constant, jump_size, low_word, number_pieces, short_jump, StackProbeLoop, w64}
+use Rattle.rv_code.proofs.LineSlots.{number_by}
 use Rattle.rv_code.proofs.Words.{GoNowhere, here_at, I64, Inst, inst_constant, inst_records, inst_size, Int, IntCC, IntegerCompare, IrType, is_byte, IsaFlags, IsBoundIn, IsBoundNear, IsOfSize, Jal20, Jump, jump_kind, LabelUse, Mov, move_action, move_op, move_pieces, move_size, moves_then}
 use Rattle.rv_code.proofs.Words.{MovFromPReg, named_by, names_of, New, number_of, op_of, own_labels, Piece, piece_most, piece_size, pieces_most, pieces_size, Popcnt, PReg, records_of, Reg, RegClass, request_of, right_shift, Rri, RVCJump, same_numbers, Select, select_pieces, SelectInfo, size_of}
 use Rattle.rv_code.proofs.Words.{Slli, slots_of, Trap, TrapCode, TrapIf, Udf, uses_in, VCodeConstant, Writable, written_in}
@@ -9,8 +11,9 @@ use borrow.Author.Count.{below_more, below_none}
 use Rattle.rv_inst.specs.declared.inst.Brev8Info.{Brev8Info}
 use Rattle.rv_inst.specs.declared.inst.CountInfo.{CountInfo}
 use Rattle.rv_code.proofs.Evaluation.{trap_long, action_sized, piece_even}
-use Rattle.rv_code.proofs.OperationActs.{window_long, least_few}
+use Rattle.rv_code.proofs.OperationActs.{window_long, least_even, least_few, jump_len}
 use Rattle.rv_code.specs.Counts.{ones_pieces, zeros_pieces}
+use Rattle.rv_code.specs.Probes.{probe_pieces, probe_turn}
 use Rattle.rv_code.specs.Reversals.{reverse_pieces}
 use Rattle.rv_code.specs.Traps.{trap_if_pieces}
 
@@ -23,11 +26,16 @@ piece_few flags _ = omega (arith, window_long flags, least_few flags, trap_long 
 pub pieces_long : (flags : IsaFlags) (ps : List Piece) → size_of (slots_of flags ps) ≡ pieces_size flags ps
 pieces_long flags [] = refl
 pieces_long flags (New ∷ ps) = let e = pieces_long flags ps in omega arith
+pieces_long flags (Constant rd n ∷ ps) = let e = pieces_long flags ps in omega (arith, jump_len flags (pos (8 + jump_size flags)))
 pieces_long flags (p ∷ ps) = let e = pieces_long flags ps in omega arith
 
 pub pieces_few : (flags : IsaFlags) (ps : List Piece) → pieces_size flags ps ≤ pieces_most ps
 pieces_few flags [] = lit≤ tt
 pieces_few flags (p ∷ ps) = let a = piece_few flags p in let b = pieces_few flags ps in omega arith
+
+-- the offset after a constant, as its slots count it
+abbrev constant_end : IsaFlags → ℕ → ℕ
+constant_end flags at = at + 4 + 4 + (short_jump flags (pos (8 + jump_size flags))).len + 8
 
 -- an own label is bound near enough for each kind of use that reaches over all pieces
 bound_near : (flags : IsaFlags) (kind : LabelUse) (from end k : ℕ) → 2046 ≤ forward_of kind → 2046 ≤ backward_of kind → from ≤ end → end ≤ 2046 → (at : ℕ) (whole qs : List Piece) → after k whole ≡ Some qs → at + pieces_size flags whole ≤ end → IsBoundNear (here_at k at (slots_of flags whole)) kind from
@@ -36,6 +44,7 @@ bound_near flags kind from end k f b le small at (New ∷ ps) qs e room = bound_
 bound_near flags kind from end k f b le small at (Bind j ∷ ps) qs e room =
     (elim (nat_eq j k) as (λ c. (if c then Some ps else after k ps) ≡ Some qs → IsBoundNear (if c then Some at else here_at k at (slots_of flags ps)) kind from)
     [ true ↦ λ g. record { to = at; there = refl; forward = omega arith; backward = omega arith } | false ↦ λ g. bound_near flags kind from end k f b le small at ps qs g (omega arith) ]) e
+bound_near flags kind from end k f b le small at (Constant rd n ∷ ps) qs e room = let jump = jump_len flags (pos (8 + jump_size flags)) in bound_near flags kind from end k f b le small (constant_end flags at) ps qs e (omega arith)
 bound_near flags kind from end k f b le small at (p ∷ ps) qs e room = bound_near flags kind from end k f b le small (at + piece_size flags p) ps qs e (omega arith)
 
 pub jump_reach : (flags : IsaFlags) → (2046 ≤ forward_of (jump_kind flags)) × (2046 ≤ backward_of (jump_kind flags))
@@ -45,6 +54,9 @@ closed : (flags : IsaFlags) (whole : List Piece) (at end : ℕ) (ps : List Piece
 closed flags whole at end [] all small le c among = tt
 closed flags whole at end (Branch how x y k ∷ ps) all small le c among = let b = c.bound k among.0 in (bound_near flags B12 at end k (lit≤ tt) (lit≤ tt) (omega arith) small 0 whole b.0 b.1 (omega arith), closed flags whole (at + 4) end ps all small (omega arith) c among.1)
 closed flags whole at end (Jump k ∷ ps) all small le c among = let b = c.bound k among.0 in let r = jump_reach flags in (bound_near flags (jump_kind flags) at end k r.0 r.1 (omega arith) small 0 whole b.0 b.1 (omega arith), closed flags whole (at + piece_size flags (Jump k)) end ps all small (omega arith) c among.1)
+closed flags whole at end (Constant rd n ∷ ps) all small le c among =
+    let jump = jump_len flags (pos (8 + jump_size flags)) in
+    let even = least_even flags in (refl, (refl, (omega arith, (refl, closed flags whole (constant_end flags at) end ps all small (omega arith) c among))))
 closed flags whole at end (p ∷ ps) all small le c among = search (rules, arith, piece_even flags p, λ (at : ℕ). closed flags whole at end ps all small)
 
 -- ---- an instruction that pieces make: how many bytes it has, and what it records and names.
@@ -218,3 +230,35 @@ trap_if_made context cmp code =
     let P = IsBoundIn (trap_if_pieces cmp code) in
     let t = trap_long context.flags in
     made_by context (TrapIf cmp code) (trap_if_pieces cmp code) (record { among = (lit< tt, (lit< tt, tt)); bound = below_more P 0 (below_none P) (_, refl) }) (omega arith) (lit≤ tt) tt (lit≤ tt) refl (λ start end. refl) (λ start. refl) refl
+
+-- ---- a number in a register, and the probes of the stack, which are two and a loop: the pieces that make them, and how long they are.
+
+-- what an operation and a constant leave true of the pieces after it is true after it
+number_keeps : (P : List Piece → Type 0) (rd : ℕ) (z : ℤ) (more : List Piece) → ((a : Action) (ps : List Piece) → P ps → P (Do a ∷ ps)) → ((rd n : ℕ) (ps : List Piece) → P ps → P (Constant rd n ∷ ps)) → P more → P (number_pieces rd z ++ more)
+number_keeps P rd z more step constant h = number_by (λ ps. P (ps ++ more)) rd z (λ low. step _ more h) (λ fits none. step _ more h) (λ fits. step _ _ (step _ more h)) (λ far. constant rd _ more h)
+
+number_most : (rd : ℕ) (z : ℤ) (more : List Piece) → pieces_most (number_pieces rd z ++ more) ≤ 20 + pieces_most more
+number_most rd z more = number_by (λ ps. pieces_most (ps ++ more) ≤ 20 + pieces_most more) rd z (λ low. omega arith) (λ fits none. omega arith) (λ fits. omega arith) (λ far. omega arith)
+
+-- both numbers leave true of the loop what each piece of them does
+probe_keeps : (P : List Piece → Type 0) (tmp guard count : ℕ) → ((a : Action) (ps : List Piece) → P ps → P (Do a ∷ ps)) → ((rd n : ℕ) (ps : List Piece) → P ps → P (Constant rd n ∷ ps)) → P (Bind 0 ∷ probe_turn tmp) → P (number_pieces 31 (cast_signed w64 (guard * count)) ++ (number_pieces tmp (pos guard) ++ Bind 0 ∷ probe_turn tmp))
+probe_keeps P tmp guard count step constant h = number_keeps P 31 (cast_signed w64 (guard * count)) _ step constant (number_keeps P tmp (pos guard) _ step constant h)
+
+-- where the loop's label and the end's stand
+pub probe_places : (tmp guard count : ℕ) → (after 0 (probe_pieces tmp guard count) ≡ Some (probe_turn tmp)) × (after 1 (probe_pieces tmp guard count) ≡ Some [])
+probe_places tmp guard count = (probe_keeps (λ ps. after 0 ps ≡ Some (probe_turn tmp)) tmp guard count (λ a ps e. e) (λ rd n ps e. e) refl, probe_keeps (λ ps. after 1 ps ≡ Some []) tmp guard count (λ a ps e. e) (λ rd n ps e. e) refl)
+
+pub probe_made : (context : Context) (guard count : ℕ) (tmp : Writable Reg) → IsMadeOf context (StackProbeLoop guard count tmp) (probe_pieces (number_of tmp.reg) (low_word guard) (low_word count))
+probe_made context guard count tmp =
+    let t = number_of tmp.reg in
+    let g = low_word guard in
+    let n = low_word count in
+    let pieces = probe_pieces t g n in
+    let P = IsBoundIn pieces in
+    let places = probe_places t g n in
+    let owns : own_labels pieces ≡ 2 = ap (λ k. 1 + (1 + k)) (probe_keeps (λ ps. own_labels ps ≡ 0) t g n (λ a ps e. e) (λ rd n ps e. e) refl) in
+    let among = subst (λ k. AreAmong k pieces) (sym owns) (probe_keeps (AreAmong 2) t g n (λ a ps h. h) (λ rd n ps h. h) (lit< tt, (lit< tt, (lit< tt, (lit< tt, tt))))) in
+    let few : pieces_most pieces ≤ 60 = omega (arith, number_most 31 (cast_signed w64 (g * n)) (number_pieces t (pos g) ++ Bind 0 ∷ probe_turn t), number_most t (pos g) (Bind 0 ∷ probe_turn t)) in
+    made_by context (StackProbeLoop guard count tmp) pieces (record { among = among; bound = subst (λ m. (k : ℕ) → k < m → P k) (sym owns) (below_more P 1 (below_more P 0 (below_none P) (_, places.0)) (_, places.1)) }) (fits_most context.flags pieces few) (omega arith)
+    (probe_keeps GoNowhere t g n (λ a ps h. h) (λ rd n ps h. h) tt) (omega (arith, owns)) refl (λ start end. refl)
+    (probe_keeps (λ ps. (at : ℕ) → records_of at (slots_of context.flags ps) ≡ []) t g n (λ a ps h at. h _) (λ rd n ps h at. h _) (λ at. refl)) refl

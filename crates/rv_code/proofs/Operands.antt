@@ -1,10 +1,10 @@
 -- What an instruction that breaks no rule gives: of its registers, numbers and targets.
-use Rattle.std.proofs.Common.{⊎_elim, ◌≡◌, ◌⊎◌, inl, inr, ℕ, ◌<◌, Bool, true, false, List, [], ◌∷◌, ◌++◌, length, Option, Some, None, arith, refl, sym, subst, eqb-true, ◌∙◌, ◌≢◌, ◌==◌, not, ◌≤◌, rules, ◌%◌, ap, nat_le, ◌||◌, ◌&&◌}
+use Rattle.std.proofs.Common.{⊎_elim, ◌≡◌, ◌⊎◌, inl, inr, ℕ, ◌<◌, Bool, true, false, List, [], ◌∷◌, ◌++◌, length, Option, Some, None, arith, refl, sym, subst, eqb-true, ◌∙◌, ◌≢◌, ◌==◌, not, ◌≤◌, rules, ◌%◌, ap, nat_le, ◌||◌, ◌&&◌, IfSome}
 use Rattle.rv_code.proofs.Words.{all_of, AllByRecursion, and_parts, AreListed, AreMoves, AVirtual, bits_of, breaks_none, Brev8, BrTable, CallInd, CallInfo, canonical_type, clash, class_of, Cltz, Context, count_faults, differ_at_places, differ_in_class, eqb-false, Extend, Float, has_bad_rounding}
 use Rattle.rv_code.proofs.Words.{has_bad_size, has_bad_type, has_bad_width, has_clash, has_empty_table, has_zero, I8, Inst, inst_registers, inst_rule, Int, IntegerCompare, IrType, is_buffer_label, is_float, is_float_class, is_int_class, is_int_type, is_misplaced, is_movable, is_not_of, is_one_of}
 use Rattle.rv_code.proofs.Words.{is_other_class, is_out_of_place, is_out_of_range, is_real_x, is_reserved, is_stack_or_frame, is_uneven, is_vector, is_vector_class, is_virtual, is_word_type, is_zero, IsFineChoice, IsFineTarget, IsFineTry, IsIntRegister, IsListed, IsMove, IsRealRegister, IsUsable}
-use Rattle.rv_code.proofs.Words.{labels_of, lacks_target, leb-false, leb-true, list_any, LoadInlineConst, MachLabel, Mov, MovFromPReg, number_of, or_cases, or_parts, PReg, RawData, Real, Reg, RegClass, registers_in, same_class, same_register, same_Some, Select, SelectInfo, StackProbeLoop, table_of}
-use Rattle.rv_code.proofs.Words.{target_labels, targets_of, TrapCode, TrapIf, try_call_of, try_labels, TryCallInfo, UnitWord, values_differ, Vector, Writable, written_in}
+use Rattle.rv_code.proofs.Words.{labels_of, lacks_target, leb-false, leb-true, list_any, LoadInlineConst, MachLabel, Mov, MovFromPReg, number_of, or_cases, or_parts, PReg, RawData, Real, Reg, RegClass, registers_in, same_class, same_register, Select, SelectInfo, StackProbeLoop, table_of}
+use Rattle.rv_code.proofs.Words.{IsFine, IsFineUnit, target_labels, targets_of, TrapCode, TrapIf, try_call_of, try_labels, TryCallInfo, unit_word, UnitWord, values_differ, Vector, Writable, written_in}
 use Rattle.std.proofs.lemmas.List.Folds.{list_any-append}
 use Rattle.rv_base.specs.ValueRegs.{count_of as value_count}
 use Rattle.rv_base.specs.declared.value_regs.ValueRegs.{ValueRegs}
@@ -273,9 +273,10 @@ are_usable_in (p ∷ places) real placed free = (
   are_usable_in places (or_right (is_virtual p.reg) _ real) (or_right (is_out_of_place p) _ placed) (or_right (is_reserved p.reg) _ free),
 )
 
--- the operation of a word that is found
-pub operation_given : {x w : UnitWord} → Some x ≡ Some w → Some x.operation ≡ Some w.operation
-operation_given {x} {w} e = ap (λ (y : UnitWord). Some y.operation) (same_Some x w e)
+-- what the word of a unit asks
+pub word_fine : (constants : List _) (inst : Inst) → IsFine constants inst → IfSome (unit_word inst) (λ (w : UnitWord). IsFineUnit w)
+word_fine constants (RawData bytes) f = tt
+word_fine constants inst f = search (f)
 
 -- ---- what an extension and a choice that break no rule give.
 

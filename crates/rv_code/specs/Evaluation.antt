@@ -7,7 +7,7 @@ use Rattle.rv_machine.specs.Steps.{iter}
 use Rattle.rv_encode.specs.Operations.{load_op, store_op}
 use Rattle.rv_inst.specs.Meaning.{alu_rrr, alu_rri, put_bytes, addresses_from, AreOutside}
 use Rattle.rv_code.specs.Chains.{IsAt}
-use Rattle.rv_code.specs.Pieces.{Action, Rrr, Rri, Lui, Load, Store, Copy, Piece, Do, Branch, Jump, New, Bind, Go, Trap, after, slots_of, pieces_size, AreInRange}
+use Rattle.rv_code.specs.Pieces.{Action, Rrr, Rri, Lui, Load, Store, Copy, Piece, Do, Constant, Branch, Jump, New, Bind, Go, Trap, after, slots_of, pieces_size, AreInRange}
 use Rattle.rv_code.specs.Sites.{Site, StandsIn}
 
 -- ---- values
@@ -64,6 +64,7 @@ to (Some ps) v m = Some (at ps v m)
 abbrev pub next : List Piece → List Piece → Values → List (List ℕ) → Option Point
 next whole [] v m = None
 next whole (Do a ∷ ps) v m = if is_of_integers a then Some (at ps (effect a v) (wrote a v m)) else None
+next whole (Constant rd n ∷ ps) v m = Some (at ps (set_reg v rd (wrap n)) m)
 next whole (Branch how a b k ∷ ps) v m = if holds how (reg v a) (reg v b) then to (after k whole) v m else Some (at ps v m)
 next whole (Jump k ∷ ps) v m = to (after k whole) v m
 next whole (New ∷ ps) v m = Some (at ps v m)
@@ -79,6 +80,26 @@ and_then (Some p) f = f p
 abbrev pub evaluate : ℕ → List Piece → Point → Option Point
 evaluate zero whole p = Some p
 evaluate (suc n) whole p = and_then (next whole p.ahead p.values p.written) (evaluate n whole)
+
+-- how many steps of the machine they are at most: one for each piece, but three for a constant, which is loaded and jumped over
+abbrev pub steps_for : List Piece → ℕ
+steps_for [] = 0
+steps_for (Do a ∷ ps) = 1
+steps_for (Constant rd n ∷ ps) = 3
+steps_for (Branch how a b k ∷ ps) = 1
+steps_for (Jump k ∷ ps) = 1
+steps_for (New ∷ ps) = 0
+steps_for (Bind k ∷ ps) = 0
+steps_for (Go l ∷ ps) = 0
+steps_for (Trap code ∷ ps) = 0
+
+abbrev pub steps_on : Option Point → (Point → ℕ) → ℕ
+steps_on None f = 0
+steps_on (Some p) f = f p
+
+abbrev pub steps_of : ℕ → List Piece → Point → ℕ
+steps_of zero whole p = 0
+steps_of (suc n) whole p = steps_for p.ahead + steps_on (next whole p.ahead p.values p.written) (steps_of n whole)
 
 -- ---- on the machine
 
@@ -112,6 +133,6 @@ abbrev pub AllOutside : Site → List (List ℕ) → Type 0
 AllOutside site [] = Unit {0}
 AllOutside site (addresses ∷ m) = AreOutside site.base (length site.bytes) addresses × AllOutside site m
 
--- where pieces stand that write no byte of the code, the machine's steps over them are what the evaluation says, at most one a piece
+-- where pieces stand that write no byte of the code, the machine's steps over them are what the evaluation says, at most so many
 abbrev pub PiecesRun : Type 0
-PiecesRun = (site : Site) (allocated start end : ℕ) (whole : List Piece) → StandIn site allocated start end whole → (n : ℕ) (p q : Point) (s : State) → evaluate n whole p ≡ Some q → AllOutside site q.written → IsAtPoint site allocated start end p s → ComesToPoint n site allocated start end q s
+PiecesRun = (site : Site) (allocated start end : ℕ) (whole : List Piece) → StandIn site allocated start end whole → (n : ℕ) (p q : Point) (s : State) → evaluate n whole p ≡ Some q → AllOutside site q.written → IsAtPoint site allocated start end p s → ComesToPoint (steps_of n whole p) site allocated start end q s

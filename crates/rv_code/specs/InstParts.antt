@@ -1,6 +1,6 @@
 -- The parts of each instruction's code: links of the proof.
-use Rattle.std.specs.Prelude.{ℕ, ◌+◌, ◌*◌, ◌%◌, ◌^◌, ◌==◌, ◌&&◌, Bool, false, if◌then◌else◌, List, ◌∷◌, ◌++◌, map, length, Option, Some, None, ℤ, pos, true}
-use Rattle.std.specs.Int.{to_le_bytes, cast_signed, w32, w64}
+use Rattle.std.specs.Prelude.{ℕ, ◌+◌, ◌%◌, ◌^◌, ◌==◌, Bool, false, if◌then◌else◌, List, ◌∷◌, ◌++◌, length, Option, Some, None, ℤ, pos, true}
+use Rattle.std.specs.Int.{to_le_bytes, w32, w64}
 use Rattle.std.proofs.Common.{refl, []}
 use Rattle.rv_base.specs.declared.call.CallInfo.{CallInfo}
 use Rattle.rv_base.specs.declared.call.TryCallInfo.{TryCallInfo}
@@ -47,18 +47,18 @@ use Rattle.rv_inst.specs.Forms.{jump_kind, short_rrr, short_rri, short_lui, shor
 use Rattle.rv_machine.specs.State.{low64}
 use Rattle.rv_machine.specs.Arithmetic.{low_word}
 use Rattle.mach_uses.specs.Labels.{constant_label}
-use Rattle.rv_inst.specs.Addresses.{Location, Based, AtLabel, AtConstant, location_of, is_near, is_splittable}
+use Rattle.rv_inst.specs.Addresses.{Location, Based, AtLabel, AtConstant, location_of, is_near}
 use Rattle.rv_inst.specs.Halves.{high_bits}
 use Rattle.rv_code.specs.Immediates.{upper_of, lower_of, upper_of_distance, lower_of_distance}
 use Rattle.mach_records.specs.declared.records.Event.TheVariants as event
 use Rattle.rv_code.specs.declared.state.EmitVState.{EmitVState}
-use Rattle.rv_code.specs.Operations.{decoded_addi, decoded_jalr, decoded_jump, short_jump, jump_size}
+use Rattle.rv_code.specs.Operations.{decoded_addi, decoded_jalr, decoded_jump, short_jump}
 use Rattle.rv_code.specs.Counts.{ones_pieces, zeros_pieces}
 use Rattle.rv_code.specs.Choices.{extend_pieces, move_pieces, select_pieces}
 use Rattle.rv_code.specs.Reversals.{reverse_pieces}
-pub use Rattle.rv_code.specs.Pieces.{trap_bytes, trap_slots}
-use Rattle.rv_code.specs.Pieces.{slots_of}
-use Rattle.rv_code.specs.Probes.{probe_turn}
+pub use Rattle.rv_code.specs.Pieces.{inline_slots, load_over, trap_bytes, trap_slots}
+use Rattle.rv_code.specs.Pieces.{immediate_pieces, lower_pieces, number_pieces, offset_pieces, slots_of}
+use Rattle.rv_code.specs.Probes.{probe_pieces}
 use Rattle.rv_code.specs.Traps.{trap_if_pieces}
 use Rattle.rv_code.specs.Tables.{jump_slots}
 use Rattle.rv_code.specs.Slots.{AddressOf, SlotOf, Target, Label, Slot, Op, Aim, Data, Notes, Names, Fill, Address, CallTo, Part, Ask, Slots, size_of}
@@ -89,26 +89,22 @@ branch_slots flags kind Fallthrough not_taken = []
 branch_slots flags kind (ToLabel t) Fallthrough = branch_to kind (Label t) ∷ []
 branch_slots flags kind (ToLabel t) (ToLabel f) = branch_to kind (Label t) ∷ jump_to flags (Label f) ∷ []
 
--- a load of so many bytes that stand after it and a jump over them
-abbrev pub load_over : IsaFlags → ℕ → LoadOP → ℕ → List Slot
-load_over flags rd op size = Op (decoded (Base base.Auipc) rd 0 0 (pos 0)) ∷ Op (decoded_load op rd rd (pos (8 + jump_size flags))) ∷ Op (short_jump flags (pos (size + jump_size flags))) ∷ []
-
--- a constant of so many bytes after the code that loads it, which jumps over it
-abbrev pub inline_slots : IsaFlags → ℕ → LoadOP → ℕ → List ℕ → List Slot
-inline_slots flags rd op size bytes = load_over flags rd op size ++ Data bytes ∷ []
-
 abbrev pub constant_slots : IsaFlags → ℕ → IrType → ℕ → List Slot
 constant_slots flags rd type imm = if bits_of type == 32 then inline_slots flags rd loads.Lw 4 (to_le_bytes w32 (imm % 2 ^ 32)) else inline_slots flags rd loads.Ld 8 (to_le_bytes w64 imm)
 
--- an offset in a register: by an upper and a lower immediate, by the upper alone where the lower is 0, or from among the code
+-- an offset in a register
 abbrev pub lower_slots : IsaFlags → ℕ → ℤ → List Slot
-lower_slots flags rd lower = if low64 lower == 0 then [] else Op (short_rri flags rri.Addi rd rd lower) ∷ []
+lower_slots flags rd lower = slots_of flags (lower_pieces rd lower)
 
 abbrev pub immediate_slots : IsaFlags → ℕ → ℤ → ℤ → List Slot
-immediate_slots flags rd upper lower = Op (short_lui flags rd upper) ∷ lower_slots flags rd lower
+immediate_slots flags rd upper lower = slots_of flags (immediate_pieces rd upper lower)
 
 abbrev pub offset_slots : IsaFlags → ℕ → ℤ → List Slot
-offset_slots flags rd o = if is_splittable o then immediate_slots flags rd (upper_of o) (lower_of o) else inline_slots flags rd loads.Ld 8 (to_le_bytes w64 (low64 o))
+offset_slots flags rd o = slots_of flags (offset_pieces rd o)
+
+-- a number of 64 bits
+abbrev pub number_slots : IsaFlags → ℕ → ℤ → List Slot
+number_slots flags rd z = slots_of flags (number_pieces rd z)
 
 -- the address of a label in a register
 abbrev pub label_slots : ℕ → MachLabel → List Slot
@@ -187,16 +183,6 @@ abbrev pub labelled : Location → Location
 labelled (Based r o) = Based r o
 labelled (AtLabel l) = AtLabel l
 labelled (AtConstant k) = AtLabel (constant_label k)
-
--- ---- probes of the stack
-
--- a number of 64 bits in a register: by its lower immediate alone where the upper one is 0
-abbrev pub number_slots : IsaFlags → ℕ → ℤ → List Slot
-number_slots flags rd z = if is_splittable z && low64 (upper_of z) == 0 then Op (short_rri flags rri.Addi rd 0 (lower_of z)) ∷ [] else offset_slots flags rd z
-
--- x31 counts down from the farthest probe's distance, by a guard each turn
-abbrev pub probe_slots : IsaFlags → ℕ → ℕ → ℕ → List Slot
-probe_slots flags tmp guard count = number_slots flags 31 (cast_signed w64 (guard * count)) ++ number_slots flags tmp (pos guard) ++ map Op (probe_turn flags tmp)
 
 -- ---- a branch by a table
 
@@ -343,7 +329,7 @@ parts_of context setting (Jalr rd base offset) = slots_alone (Op (short_jalr con
 parts_of context setting (Popcnt info) = slots_alone (slots_of context.flags (ones_pieces (number_of info.sum.reg) (number_of info.tmp.reg) (number_of info.step.reg) (number_of info.rs) (bits_of info.ty)))
 parts_of context setting (Cltz leading info) = slots_alone (slots_of context.flags (zeros_pieces leading (number_of info.sum.reg) (number_of info.tmp.reg) (number_of info.step.reg) (number_of info.rs) (bits_of info.ty)))
 parts_of context setting (Brev8 info) = slots_alone (slots_of context.flags (reverse_pieces (number_of info.rd.reg) (number_of info.tmp.reg) (number_of info.tmp2.reg) (number_of info.step.reg) (number_of info.rs) (bits_of info.ty)))
-parts_of context setting (StackProbeLoop guard_size probe_count tmp) = slots_alone (probe_slots context.flags (number_of tmp.reg) (low_word guard_size) (low_word probe_count))
+parts_of context setting (StackProbeLoop guard_size probe_count tmp) = slots_alone (slots_of context.flags (probe_pieces (number_of tmp.reg) (low_word guard_size) (low_word probe_count)))
 parts_of context setting (LoadExtNameGot rd name) = slots_alone (got_slots (number_of rd.reg) name)
 parts_of context setting (LoadExtNameNear rd name offset) = slots_alone (near_slots (number_of rd.reg) name offset)
 parts_of context setting (LoadExtNameFar rd name offset) = slots_alone (far_slots context.flags (number_of rd.reg) name offset)

@@ -30,16 +30,3 @@ short_jump flags d = if flags.has_zca then compressed (Base base.Jal) 0 0 0 d el
 -- the word of a jump by no distance that links nothing: its opcode alone, since each other field is 0
 abbrev pub jump_word : ℕ
 jump_word = JAL
-
--- branches where two registers are equal, where they aren't, and where the first isn't less than the second, signed and unsigned
-abbrev pub decoded_beq : ℕ → ℕ → ℤ → Decoded
-decoded_beq rs1 rs2 d = decoded (Base base.Beq) 0 rs1 rs2 d
-
-abbrev pub decoded_bge : ℕ → ℕ → ℤ → Decoded
-decoded_bge rs1 rs2 d = decoded (Base base.Bge) 0 rs1 rs2 d
-
-abbrev pub decoded_bne : ℕ → ℕ → ℤ → Decoded
-decoded_bne rs1 rs2 d = decoded (Base base.Bne) 0 rs1 rs2 d
-
-abbrev pub decoded_bgeu : ℕ → ℕ → ℤ → Decoded
-decoded_bgeu rs1 rs2 d = decoded (Base base.Bgeu) 0 rs1 rs2 d

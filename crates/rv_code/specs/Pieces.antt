@@ -1,29 +1,35 @@
 -- The pieces of an instruction's code: they name registers and labels of the sequence's own, but no length, no address and no flag.
-use Rattle.std.specs.Prelude.{◌≡◌, ℕ, ◌+◌, ◌^◌, ◌<◌, ℤ, false, if◌then◌else◌, List, [], ◌∷◌, ◌++◌, length, nat_eq, Option, Some, None}
+use Rattle.std.specs.Prelude.{◌≡◌, ℕ, ◌+◌, ◌^◌, ◌<◌, ◌==◌, ◌&&◌, ℤ, pos, false, if◌then◌else◌, List, [], ◌∷◌, ◌++◌, length, nat_eq, Option, Some, None}
+use Rattle.std.specs.Int.{to_le_bytes, w64}
 use Rattle.rv_base.specs.declared.condcodes.IntCC.{IntCC}
 use Rattle.rv_base.specs.declared.flags.IsaFlags.{IsaFlags}
 use Rattle.rv_base.specs.declared.label.MachLabel.{MachLabel}
 use Rattle.rv_base.specs.declared.trap.TrapCode.{TrapCode}
 use Rattle.rv_ops.specs.declared.alu.AluOPRRR.{AluOPRRR}
 use Rattle.rv_ops.specs.declared.alu.AluOPRRI.{AluOPRRI}
+use Rattle.rv_ops.specs.declared.alu.AluOPRRI.TheVariants.{Addi}
 use Rattle.rv_ops.specs.declared.float_fields.FRM.TheVariants.{RNE}
 use Rattle.rv_ops.specs.declared.float_fields.FpuOPWidth.{FpuOPWidth}
 use Rattle.rv_ops.specs.declared.fpu.FpuOPRRR.TheVariants.{Fsgnj}
 use Rattle.rv_ops.specs.declared.memory.LoadOP.{LoadOP}
+use Rattle.rv_ops.specs.declared.memory.LoadOP.TheVariants.{Ld}
 use Rattle.rv_ops.specs.declared.memory.StoreOP.{StoreOP}
 use Rattle.rv_ops.specs.Compare.{branch_of, is_reversed}
 use Rattle.rv_ops.specs.Memory.{is_float_load, is_float_store}
 use Rattle.rv_ops.specs.Operations.{immediate_of, shift_limit}
 use Rattle.rv_machine.specs.declared.decoding.Decoded.{Decoded}
 use Rattle.rv_machine.specs.declared.ops.MOp.TheVariants.{Base}
+use Rattle.rv_machine.specs.declared.ops.BaseOp.TheVariants.{Auipc}
 use Rattle.rv_machine.specs.State.{low64}
-use Rattle.rv_encode.specs.Operations.{decoded, branch_op, decoded_fpu_rrr}
+use Rattle.rv_encode.specs.Operations.{decoded, decoded_load, branch_op, decoded_fpu_rrr}
+use Rattle.rv_inst.specs.Addresses.{inline_size, is_splittable}
 use Rattle.rv_inst.specs.Forms.{jump_kind, short_rrr, short_rri, short_lui, short_load, short_store}
 use Rattle.rv_inst.specs.LabelUse.{marks_of}
 use Rattle.rv_inst.specs.Rules.{is_beyond}
 use Rattle.rv_inst.specs.declared.label_use.LabelUse.TheVariants.{B12}
 use Rattle.mach_records.specs.declared.records.Event.TheVariants as event
-use Rattle.rv_code.specs.Operations.{short_jump}
+use Rattle.rv_code.specs.Immediates.{upper_of, lower_of}
+use Rattle.rv_code.specs.Operations.{short_jump, jump_size}
 use Rattle.rv_code.specs.Slots.{Slot, Label, Own, Op, Aim, Data, Notes, Allocate, Here}
 
 -- an operation of the machine after which the next one is done: of two registers, or of a register and an immediate; an upper immediate
@@ -36,10 +42,11 @@ pub data Action : Type 0 where
   Store : StoreOP → ℕ → ℕ → ℤ → Action
   Copy : FpuOPWidth → ℕ → ℕ → Action
 
--- such an operation; a branch to an own label where two registers compare so, and a jump to one; an own label that is allocated, and one
--- that is bound here; a jump to a label of the listing; or a trap
+-- such an operation; 64 bits of a number in a register, from among the code; a branch to an own label where two registers compare so, and
+-- a jump to one; an own label that is allocated, and one that is bound here; a jump to a label of the listing; or a trap
 pub data Piece : Type 0 where
   Do : Action → Piece
+  Constant : ℕ → ℕ → Piece
   Branch : IntCC → ℕ → ℕ → ℕ → Piece
   Jump : ℕ → Piece
   New : Piece
@@ -69,8 +76,17 @@ trap_bytes flags = if flags.has_zca then 0 ∷ 0 ∷ [] else 0 ∷ 0 ∷ 0 ∷ 0
 abbrev pub trap_slots : IsaFlags → TrapCode → List Slot
 trap_slots flags code = Notes (event.Trap code) ∷ Data (trap_bytes flags) ∷ []
 
+-- a load of so many bytes that stand after it and a jump over them
+abbrev pub load_over : IsaFlags → ℕ → LoadOP → ℕ → List Slot
+load_over flags rd op size = Op (decoded (Base Auipc) rd 0 0 (pos 0)) ∷ Op (decoded_load op rd rd (pos (8 + jump_size flags))) ∷ Op (short_jump flags (pos (size + jump_size flags))) ∷ []
+
+-- a constant of so many bytes after the code that loads it, which jumps over it
+abbrev pub inline_slots : IsaFlags → ℕ → LoadOP → ℕ → List ℕ → List Slot
+inline_slots flags rd op size bytes = load_over flags rd op size ++ Data bytes ∷ []
+
 abbrev pub slots_for : IsaFlags → Piece → List Slot
 slots_for flags (Do a) = Op (op_of flags a) ∷ []
+slots_for flags (Constant rd n) = inline_slots flags rd Ld 8 (to_le_bytes w64 n)
 slots_for flags (Branch how a b k) = Aim B12 (Own k) (λ d. branches how a b d ∷ []) ∷ []
 slots_for flags (Jump k) = Aim (jump_kind flags) (Own k) (λ d. short_jump flags d ∷ []) ∷ []
 slots_for flags New = Allocate ∷ []
@@ -85,6 +101,7 @@ slots_of flags (p ∷ ps) = slots_for flags p ++ slots_of flags ps
 -- how long they are
 abbrev pub piece_size : IsaFlags → Piece → ℕ
 piece_size flags (Do a) = (op_of flags a).len
+piece_size flags (Constant rd n) = inline_size flags 8
 piece_size flags (Branch how a b k) = 4
 piece_size flags (Jump k) = length (marks_of (jump_kind flags))
 piece_size flags New = 0
@@ -99,6 +116,7 @@ pieces_size flags (p ∷ ps) = piece_size flags p + pieces_size flags ps
 -- and at most, in whatever forms
 abbrev pub piece_most : Piece → ℕ
 piece_most (Do a) = 4
+piece_most (Constant rd n) = 20
 piece_most (Branch how a b k) = 4
 piece_most (Jump k) = 4
 piece_most New = 0
@@ -112,7 +130,7 @@ pieces_most (p ∷ ps) = piece_most p + pieces_most ps
 
 -- ---- what they ask
 
--- numbers of registers, shift amounts and immediates in their ranges
+-- numbers of registers, shift amounts and immediates in their ranges; of a constant, no x0
 abbrev pub IsInRange : Action → Type 0
 IsInRange (Rrr op rd a b) = rd < 32
 IsInRange (Rri op rd rs imm) = (rd < 32) × (is_beyond (shift_limit (immediate_of op)) imm ≡ false) × (low64 imm < 2 ^ 64)
@@ -124,6 +142,7 @@ IsInRange (Copy width rd rs) = rd < 32
 abbrev pub AreInRange : List Piece → Type 0
 AreInRange [] = Unit {0}
 AreInRange (Do a ∷ ps) = IsInRange a × AreInRange ps
+AreInRange (Constant rd n ∷ ps) = ((0 < rd) × (rd < 32)) × AreInRange ps
 AreInRange (Branch how a b k ∷ ps) = AreInRange ps
 AreInRange (Jump k ∷ ps) = AreInRange ps
 AreInRange (New ∷ ps) = AreInRange ps
@@ -137,6 +156,7 @@ AreInRange (Trap code ∷ ps) = AreInRange ps
 abbrev pub after : ℕ → List Piece → Option (List Piece)
 after k [] = None
 after k (Do a ∷ ps) = after k ps
+after k (Constant rd n ∷ ps) = after k ps
 after k (Branch how a b j ∷ ps) = after k ps
 after k (Jump j ∷ ps) = after k ps
 after k (New ∷ ps) = after k ps
@@ -148,6 +168,7 @@ after k (Trap code ∷ ps) = after k ps
 abbrev pub own_labels : List Piece → ℕ
 own_labels [] = 0
 own_labels (Do a ∷ ps) = own_labels ps
+own_labels (Constant rd n ∷ ps) = own_labels ps
 own_labels (Branch how a b k ∷ ps) = own_labels ps
 own_labels (Jump k ∷ ps) = own_labels ps
 own_labels (New ∷ ps) = 1 + own_labels ps
@@ -163,6 +184,7 @@ IsBoundIn whole k = (qs : List Piece) × (after k whole ≡ Some qs)
 abbrev pub AreAmong : ℕ → List Piece → Type 0
 AreAmong total [] = Unit {0}
 AreAmong total (Do a ∷ ps) = AreAmong total ps
+AreAmong total (Constant rd n ∷ ps) = AreAmong total ps
 AreAmong total (Branch how a b k ∷ ps) = (k < total) × AreAmong total ps
 AreAmong total (Jump k ∷ ps) = (k < total) × AreAmong total ps
 AreAmong total (New ∷ ps) = AreAmong total ps
@@ -179,9 +201,27 @@ pub record AreClosedPieces (whole : List Piece) : Type 0 where
 abbrev pub GoNowhere : List Piece → Type 0
 GoNowhere [] = Unit {0}
 GoNowhere (Do a ∷ ps) = GoNowhere ps
+GoNowhere (Constant rd n ∷ ps) = GoNowhere ps
 GoNowhere (Branch how a b k ∷ ps) = GoNowhere ps
 GoNowhere (Jump k ∷ ps) = GoNowhere ps
 GoNowhere (New ∷ ps) = GoNowhere ps
 GoNowhere (Bind k ∷ ps) = GoNowhere ps
 GoNowhere (Go l ∷ ps) = ⊥
 GoNowhere (Trap code ∷ ps) = GoNowhere ps
+
+-- ---- a number in a register
+
+-- by an upper and a lower immediate, or by the upper alone where the lower is 0
+abbrev pub lower_pieces : ℕ → ℤ → List Piece
+lower_pieces rd lower = if low64 lower == 0 then [] else Do (Rri Addi rd rd lower) ∷ []
+
+abbrev pub immediate_pieces : ℕ → ℤ → ℤ → List Piece
+immediate_pieces rd upper lower = Do (Lui rd upper) ∷ lower_pieces rd lower
+
+-- by these, or from among the code
+abbrev pub offset_pieces : ℕ → ℤ → List Piece
+offset_pieces rd o = if is_splittable o then immediate_pieces rd (upper_of o) (lower_of o) else Constant rd (low64 o) ∷ []
+
+-- of 64 bits, by its lower immediate alone where the upper one is 0
+abbrev pub number_pieces : ℕ → ℤ → List Piece
+number_pieces rd z = if is_splittable z && low64 (upper_of z) == 0 then Do (Rri Addi rd 0 (lower_of z)) ∷ [] else offset_pieces rd z

@@ -22,8 +22,7 @@ use Rattle.rv_ops.specs.Memory.{is_float_load}
 use Rattle.rv_ops.specs.declared.memory.LoadOP.{LoadOP}
 use Rattle.rv_ops.specs.declared.compare.IntegerCompare.{IntegerCompare}
 use Rattle.rv_encode.specs.Registers.{IsIntRegister, IsRealRegister}
-use Rattle.rv_inst.specs.UnitWords.{UnitWord, registers_in, unit_of}
-use Rattle.rv_inst.specs.declared.units.PlacedReg.{PlacedReg}
+use Rattle.rv_inst.specs.UnitWords.{IsFineUnit, unit_of}
 use Rattle.rv_inst.specs.declared.inst.Inst.{Inst}
 use Rattle.rv_inst.specs.declared.inst.Inst.TheVariants.{Nop0, Nop4, EBreak, SequencePoint, Args, Rets, DummyUse, EmitIsland, RawData, Lui, Auipc, LoadInlineConst, AluRRR, AluRRImm12, Mov, MovFromPReg, Extend, Select, Load, Store, LoadAddr, LabelAddress, Ret, TrapIf, Jal, CondBr, BrTable, Udf, Jalr, Popcnt, Cltz, Brev8, StackProbeLoop, LoadExtNameGot, LoadExtNameNear, LoadExtNameFar, Call, CallInd, ReturnCall, ReturnCallInd, Unwind}
 use Rattle.rv_inst.specs.Generators.{canonical_type}
@@ -107,18 +106,6 @@ pub record IsFineChoice (to : ValueRegs (Writable Reg)) (condition : IntegerComp
   pub y : AreMoves (written_in to) (all_of second)
   pub x_count : count_of to ≡ count_of first
   pub y_count : count_of to ≡ count_of second
-
--- of a word of a unit: registers of the machine, each of the class that its place asks, and fields that its operation takes
-abbrev pub AreReal : List Reg → Type 0
-AreReal [] = Unit {0}
-AreReal (r ∷ rs) = IsRealRegister r × AreReal rs
-
-abbrev pub AreOfClass : List PlacedReg → Type 0
-AreOfClass [] = Unit {0}
-AreOfClass (p ∷ places) = (class_of p.reg ≡ p.class) × AreOfClass places
-
-abbrev pub IsFineUnit : UnitWord → Type 0
-IsFineUnit w = AreReal (registers_in w.places) × AreOfClass w.places × (w.rounding ≡ true) × (w.width ≡ true)
 
 -- among these constants
 abbrev pub IsFine : List Constant → Inst → Type 0

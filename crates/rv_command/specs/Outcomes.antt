@@ -92,17 +92,6 @@ abbrev pub IsRefused : Job → EmitError → Type 0
 IsRefused job errors.OutOfMemory = ⊥
 IsRefused job error = refusal job ≡ Some error
 
--- the outcome of a job that was asked for so, and the text that it has to write
-abbrev pub Means : Request → Job → Outcome → List ℕ → Type 0
-Means request job (ends.Done code) text = IsCodeOf job code × (text ≡ wanted request job code)
-Means request job (ends.Refused error) text = IsRefused job error × (text ≡ error_line error)
-Means request job (ends.Syntax line) text = ⊥
-Means request job ends.Usage text = ⊥
-Means request job ends.TooLong text = ⊥
-Means request job ends.ReadFault text = ⊥
-Means request job ends.WriteFault text = ⊥
-Means request job ends.OutOfMemory text = ⊥
-
 -- ---- a call
 
 -- What a call began with, and what it left: the command's words, the bytes left and taken, where they are known, and the counts of
@@ -150,8 +139,8 @@ OfJob call P = (request : Request) × (asked call.words ≡ Some request) × (jo
 -- why a call has this text to write, and the outcome once it is written; too long is what gave more bytes than may be read, whatever
 -- would have come after them
 abbrev pub Due : Call → Outcome → List ℕ → Type 0
-Due call (ends.Done code) text = OfJob call (λ request job. Means request job (ends.Done code) text)
-Due call (ends.Refused error) text = OfJob call (λ request job. Means request job (ends.Refused error) text)
+Due call (ends.Done code) text = OfJob call (λ request job. IsCodeOf job code × (text ≡ wanted request job code))
+Due call (ends.Refused error) text = OfJob call (λ request job. IsRefused job error × (text ≡ error_line error))
 Due call (ends.Syntax line) text = AsksListing call × ((input : List ℕ) × Read call input × (reads input ≡ Err line)) × (text ≡ syntax_line line)
 Due call ends.Usage text = (asked call.words ≡ None) × (text ≡ usage_line)
 Due call ends.TooLong text = AsksListing call × Gave (λ n. input_limit < n) call.left call.left_after × (text ≡ too_long_line)
@@ -217,6 +206,17 @@ pub record IsSettled (call : Call) (returned : Outcome) : Type 0 where
   pub complete : NoFault call → (request : Request) (job : Job) → asked call.words ≡ Some request → KnownJob call request job → refusal job ≡ None → IsDone returned
 
 -- ---- between the program's functions
+
+-- the outcome of a job that was asked for so, and the text that it has to write
+abbrev pub Means : Request → Job → Outcome → List ℕ → Type 0
+Means request job (ends.Done code) text = IsCodeOf job code × (text ≡ wanted request job code)
+Means request job (ends.Refused error) text = IsRefused job error × (text ≡ error_line error)
+Means request job (ends.Syntax line) text = ⊥
+Means request job ends.Usage text = ⊥
+Means request job ends.TooLong text = ⊥
+Means request job ends.ReadFault text = ⊥
+Means request job ends.WriteFault text = ⊥
+Means request job ends.OutOfMemory text = ⊥
 
 -- the outcome of an input that was read
 abbrev pub MeansInput : Request → List ℕ → Outcome → List ℕ → Type 0

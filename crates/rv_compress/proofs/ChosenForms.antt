@@ -1,16 +1,7 @@
 -- The form where there is one, and else the operation of 32 bits, stands in what was chosen.
-use Rattle.std.proofs.Common.{◌≡◌, ℕ, ◌%◌, ℤ, Bool, false, Option, Some, None, refl, sym, subst, ◌∙◌}
-use Rattle.std.specs.Prelude.{nat_eq}
-use Rattle.rv_base.specs.declared.flags.IsaFlags.{IsaFlags}
-use Rattle.rv_machine.specs.declared.decoding.Decoded.{Decoded}
-use Rattle.rv_machine.specs.Compressed.{decode_half}
-use Rattle.rv_machine.specs.Decode.{decode}
-use Rattle.rv_ops.specs.declared.memory.LoadOP.{LoadOP}
-use Rattle.rv_ops.specs.Memory.{load_size}
-use Rattle.rv_encode.specs.Operations.{load_op}
-use Rattle.rv_encode.specs.Compressed.{decoded_sp_load}
-use Rattle.rv_inst.specs.Forms.{chosen, sp, is_scaled, form_where, load_form}
-use Rattle.rv_compress.specs.Encoded.{IsForm, IsHalf, IsWord, IsScaledBy}
+use Rattle.{std.proofs.Common.{◌≡◌, ℕ, ◌%◌, ℤ, Bool, false, Option, Some, None, refl, sym, subst, ◌∙◌}, std.specs.Prelude.nat_eq, rv_base.specs.declared.flags.IsaFlags.IsaFlags, rv_machine.specs.declared.decoding.Decoded.Decoded}
+use Rattle.{rv_machine.specs.Compressed.decode_half, rv_machine.specs.Decode.decode, rv_ops.specs.declared.memory.LoadOP.LoadOP, rv_ops.specs.Memory.load_size, rv_encode.specs.Operations.load_op, rv_encode.specs.Compressed.decoded_sp_load}
+use Rattle.{rv_inst.specs.Forms.{chosen, sp, is_scaled, form_where, load_form}, rv_compress.specs.Encoded.{IsForm, IsHalf, IsWord, IsScaledBy}}
 
 pub half_holds : (flags : IsaFlags) (half : ℕ) (form : Option Decoded) (whole : Decoded) → IsForm flags (Some half) form → IsHalf flags half (chosen form whole)
 half_holds flags half None whole h = absurd h

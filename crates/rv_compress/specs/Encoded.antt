@@ -42,12 +42,6 @@ abbrev pub WhereHalf : Encoded → (ℕ → Type 0) → Type 0
 WhereHalf (Half half) P = P half
 WhereHalf (Word word) P = ⊤
 
--- how long an operation is: two bytes or four
-pub record IsSizeOf (d : Decoded) (size : ℕ) : Type 0 where
-  pub is : size ≡ d.len
-  pub even : size % 2 ≡ 0
-  pub few : size ≤ 4
-
 -- an instruction of sixteen bits was chosen exactly where there is a form, and is that form
 abbrev pub IsForm : IsaFlags → Option ℕ → Option Decoded → Type 0
 IsForm flags None None = ⊤

@@ -3,13 +3,13 @@ use Rattle.{rv_code.proofs.Courses.inline_size, rv_code.specs.{Operations.jump_s
 use Rattle.rv_emit.proofs.{CallSlots.IsCall, CallSlots.call_adds, CallSlots.call_blocks, CallSlots.call_is, CallSlots.call_ind_is, Islands.KeepsLow, Islands.asked_keeps, Islands.room_named, Islands.room_records, Islands.room_sound, OwnPieces.Each, OwnPieces.each_none, OwnPieces.made_appends}
 use Rattle.rv_emit.proofs.{TableSlots.table_adds}
 use Rattle.rv_emit.proofs.Terms.{none_put, ◌≡◌, ◌⊎◌, inl, ℕ, ◌+◌, ◌^◌, ◌%◌, ◌≤◌, true, List, [], ◌∷◌, ◌++◌, length, Option, Some, None, pos, refl, ap, sym, ◌∙◌, arith, lit≤, subst, same_Some, to_le_bytes, w32, w64, IrType, I32, I64, Reg, Writable, number_of, TrapCode, code_limit, IsaFlags, LoadOP}
-use Rattle.rv_emit.proofs.Terms.{IntegerCompare, Context, low_word, is_word_type, inst_rule, UnitWord, unit_of, Inst, Nop0, Nop4, EBreak, SequencePoint, Args, Rets, DummyUse, EmitIsland, RawData, Lui, Auipc, LoadInlineConst, AluRRR, AluRRImm12, Mov, MovFromPReg, Extend, Select, Load, Store}
+use Rattle.rv_emit.proofs.Terms.{IntegerCompare, Context, is_word_type, inst_rule, UnitWord, unit_of, Inst, Nop0, Nop4, EBreak, SequencePoint, Args, Rets, DummyUse, EmitIsland, RawData, Lui, Auipc, LoadInlineConst, AluRRR, AluRRImm12, Mov, MovFromPReg, Extend, Select, Load, Store}
 use Rattle.rv_emit.proofs.Terms.{LoadAddr, LabelAddress, Ret, TrapIf, Jal, CondBr, BrTable, Udf, Jalr, Popcnt, Cltz, Brev8, StackProbeLoop, LoadExtNameGot, LoadExtNameNear, LoadExtNameFar, Call, CallInd, ReturnCall, ReturnCallInd, Unwind, CondBrTarget, Fallthrough, TryCallInfo, StackLoad, Exactly}
 use Rattle.rv_emit.proofs.Terms.{AtMost, IsOfSize, Request, first_in, space_in, request_of, inst_size, inst_sum, inst_records, uses_in, return_of, filled_last, is_some, VCodeConstant, inst_constant, named_by, table_of, EmitVState, Decoded, short_jalr, Buffer, IsSoundBuffer, Appends, AppendsCode}
 use Rattle.rv_emit.proofs.Terms.{HasReturn, IsFarUse, IslandAsked, bytes_of, allocated_of, named_of, PutsParts, EmitsIn, Part, Ask, Slots, Slot, Op, Notes, size_of, names_of, AreSelfContained, PartsAreSelfContained, access_records, access_slots, branch_slots, inline_slots, constant_slots}
 use Rattle.rv_emit.proofs.Terms.{call_parts, call_to, tail_slots, t0_slots, return_slots, table_slots, parts_of, slots_of, Piece, HasSize, rrr_sized, rri_sized, lui_sized, jalr_sized, ebreak_sized, jump_len, least_even, window_long, size_append, IsPlain, IsSummed, summed, plain_put, put_long}
 use Rattle.rv_emit.proofs.Terms.{code_none, no_own, low_kept, IsMadeOf, made_contained, mov_made, mov_from_preg_made, extend_made, select_made, trap_if_made, udf_made, popcnt_made, zeros_made, reverse_made, load_summed, store_summed, load_contained, store_contained, load_addr_summed}
-use Rattle.rv_emit.proofs.Terms.{label_address_summed, address_contained, AtLabel, location_of, probe_summed, probe_contained, got_summed, near_summed, far_summed, far_contained, unwind_summed, table_contained, table_short, tail_contained, tail_contents, t0_contained, t0_contents, return_short}
+use Rattle.rv_emit.proofs.Terms.{label_address_summed, address_contained, AtLabel, location_of, probe_made, got_summed, near_summed, far_summed, far_contained, unwind_summed, table_contained, table_short, tail_contained, tail_contents, t0_contained, t0_contents, return_short}
 use Rattle.{rv_emit.proofs.Terms.{AreShortLoads, unless_short, results_short, fine, constant_kept, data_kept, keeps}, rv_inst.specs.declared.inst.CondBrTarget.TheVariants.Label as ToLabel}
 use Rattle.mach_records.specs.declared.records.Event.TheVariants as event
 use Rattle.rv_ops.specs.declared.memory.LoadOP.TheVariants as loads
@@ -168,9 +168,7 @@ inst_is_code context setting (Jalr rd base offset) rule = operation (jalr_sized 
 inst_is_code context setting (Popcnt info) rule = made (popcnt_made context info)
 inst_is_code context setting (Cltz leading info) rule = made (zeros_made context leading info)
 inst_is_code context setting (Brev8 info) rule = made (reverse_made context info)
-inst_is_code context setting (StackProbeLoop guard_size probe_count tmp) rule =
-    let register = number_of tmp.reg in
-    plain (probe_summed context guard_size probe_count tmp) refl (probe_contained context.flags register (low_word guard_size) (low_word probe_count))
+inst_is_code context setting (StackProbeLoop guard_size probe_count tmp) rule = made (probe_made context guard_size probe_count tmp)
 inst_is_code context setting (LoadExtNameGot rd name) rule = plain (got_summed context rd name) refl tt
 inst_is_code context setting (LoadExtNameNear rd name offset) rule = plain (near_summed context rd name offset) refl tt
 inst_is_code context setting (LoadExtNameFar rd name offset) rule = plain (far_summed context rd name offset) refl (far_contained context.flags (number_of rd.reg) name offset)

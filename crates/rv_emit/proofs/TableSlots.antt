@@ -1,7 +1,7 @@
 -- The slots of a branch by a table: each of their uses reaches everywhere.
-use Rattle.{rv_code.specs.Slots.{uses_of, records_of}, rv_emit.proofs.OwnPieces.{Each, each_none, each_more}}
-use Rattle.rv_emit.proofs.Terms.{◌≡◌, ℕ, suc, ◌+◌, Bool, true, false, List, [], ◌∷◌, ◌++◌, map, length, Some, refl, ap, sym, ◌∙◌, subst, arith, slice_get, ◌==◌, ◌&&◌, if◌then◌else◌, ℤ, pos, to_le_bytes, w64, VCodeConstant, IsaFlags, MachLabel, low64, Addi, Ld, is_splittable, short_lui, short_rri}
-use Rattle.rv_emit.proofs.Terms.{LabelUse, PCRel32, use_at, IsFarUse, upper_of, lower_of, inline_slots, number_slots, table_slots, Target, Label, Own, Slot, Op, Aim, Data, names_of, far_jump, jump_slots, IsPlain}
+use Rattle.{rv_code.proofs.LineSlots.number_by, rv_code.specs.Slots.{uses_of, records_of}, rv_emit.proofs.OwnPieces.{Each, each_none, each_more}}
+use Rattle.rv_emit.proofs.Terms.{◌≡◌, ℕ, suc, ◌+◌, List, [], ◌∷◌, ◌++◌, map, length, Some, refl, ap, sym, ◌∙◌, subst, arith, slice_get, ℤ, pos, VCodeConstant, IsaFlags, MachLabel}
+use Rattle.rv_emit.proofs.Terms.{LabelUse, slots_of, PCRel32, use_at, IsFarUse, number_slots, table_slots, Target, Label, Own, Slot, Op, Aim, Data, names_of, far_jump, jump_slots, IsPlain}
 
 -- ---- slots whose uses reach everywhere
 
@@ -53,13 +53,7 @@ add_far labels (first ∷ slots) a = absurd a
 
 -- a number in a register names no label
 number_far : (labels : List MachLabel) (flags : IsaFlags) (rd : ℕ) (z : ℤ) → AreFar labels (number_slots flags rd z)
-number_far labels flags rd z = on (is_splittable z) (low64 (upper_of z) == 0) (low64 (lower_of z) == 0)
-  where
-    on : (c d e : Bool) → AreFar labels (if c && d then Op (short_rri flags Addi rd 0 (lower_of z)) ∷ [] else if c then Op (short_lui flags rd (upper_of z)) ∷ (if e then [] else Op (short_rri flags Addi rd rd (lower_of z)) ∷ []) else inline_slots flags rd Ld 8 (to_le_bytes w64 (low64 z)))
-    on true true e = tt
-    on true false true = tt
-    on true false false = tt
-    on false d e = tt
+number_far labels flags rd z = number_by (λ ps. AreFar labels (slots_of flags ps)) rd z (λ low. tt) (λ fits none. tt) (λ fits. tt) (λ far. tt)
 
 jumps_far : (all : List MachLabel) (tmp from : ℕ) (labels : List MachLabel) → ((i : ℕ) (l : MachLabel) → slice_get labels i ≡ Some l → slice_get all (from + i) ≡ Some l) → AreFar all (map (far_jump tmp) labels)
 jumps_far all tmp from [] there = tt

@@ -13,13 +13,13 @@ pub use Rattle.rv_base.specs.{declared.call.CallRetPair.CallRetPair, declared.ca
 pub use Rattle.rv_base.specs.{declared.constant.Constant.Constant, declared.constant.VCodeConstant.VCodeConstant, declared.external_name.ExternalName.ExternalName, declared.flags.IsaFlags.IsaFlags, declared.frame.FrameLayout.FrameLayout, declared.ir_type.IrType.IrType}
 pub use Rattle.rv_base.specs.{declared.label.MachLabel.MachLabel, declared.regs.PReg.PReg, declared.regs.Reg.Reg, declared.regs.Reg.TheVariants.Real, declared.regs.Reg.TheVariants.Virtual, declared.regs.RegClass.TheVariants.Int, declared.regs.Writable.Writable, declared.trap.TrapCode.TrapCode}
 pub use Rattle.rv_base.specs.declared.ir_type.IrType.TheVariants.{F16, F32, F64, I16, I32, I64, I8}
-pub use Rattle.rv_code.proofs.{Operands.constant_kept, Operands.data_kept, Operands.keeps, Operands.table_fine, Operands.operation_given, Registers.are_values_set, Steps.istep_at, Steps.comes_both, Steps.comes_one, Steps.jump_leads, Steps.leads_both, Steps.leads_here}
+pub use Rattle.rv_code.proofs.{Operands.constant_kept, Operands.data_kept, Operands.keeps, Operands.table_fine, Operands.word_fine, Registers.are_values_set, Steps.istep_at, Steps.comes_both, Steps.comes_one, Steps.jump_leads, Steps.leads_both, Steps.leads_here}
 pub use Rattle.rv_code.proofs.LineOperands.{call_asks, call_ind_asks, fine_ind, fine_try, fine, jump_sum, tail_kept, tail_sum, target_kept}
 pub use Rattle.rv_code.proofs.LineSlots.{HaveContents, IsPlain, IsSummed, access_short, address_contained, at_end, both, closed_even, far_contained, far_summed, from_start, got_summed, label_address_summed, load_addr_summed, load_contained, load_over_short, load_summed, marks_even, near_summed}
 pub use Rattle.rv_code.proofs.LineSlots.{note_then, real_number, size_append, store_contained, store_summed, unwind_summed}
-pub use Rattle.rv_code.proofs.LongSlots.{number_few, AreShortLoads, count_splits, eight_short, even_plain, extend_even, extend_few, far_jumps_even, far_jumps_long, loads_counted, loads_most, number_even, probe_contained, probe_summed, results_short, return_most, return_short, returns_counted}
+pub use Rattle.rv_code.proofs.LongSlots.{number_few, AreShortLoads, count_splits, eight_short, even_plain, extend_even, extend_few, far_jumps_even, far_jumps_long, loads_counted, loads_most, number_even, results_short, return_most, return_short, returns_counted}
 pub use Rattle.rv_code.proofs.LongSlots.{saves_long, saves_short, setup_few, setup_short, step_most, steps_counted, t0_contained, t0_contents, table_contained, table_short, tail_contained, tail_contents, unless_short}
-pub use Rattle.rv_code.proofs.MadeOfPieces.{IsMadeOf, extend_made, made_contained, mov_from_preg_made, mov_made, pieces_few, pieces_long, pieces_name, popcnt_made, reverse_made, select_made, trap_if_made, udf_made, zeros_made}
+pub use Rattle.rv_code.proofs.MadeOfPieces.{IsMadeOf, extend_made, made_contained, mov_from_preg_made, mov_made, pieces_few, pieces_long, pieces_name, popcnt_made, probe_made, reverse_made, select_made, trap_if_made, udf_made, zeros_made}
 pub use Rattle.rv_code.proofs.OperationActs.{HasSize, ebreak_sized, jalr_sized, jump_len, least_even, least_few, lui_sized, rri_sized, rrr_sized, window_long}
 pub use Rattle.rv_code.specs.{Choices.extend_pieces, Immediates.lower_of, Immediates.upper_of, Operations.decoded_jalr, Operations.decoded_jump, Operations.jump_word, Tables.bound_op, Tables.enter_ops, Tables.far_jump, Tables.jump_slots, Usable.AreFineResults, Usable.AreListed, Usable.IsFine}
 pub use Rattle.rv_code.specs.{Usable.IsFineResult, Usable.IsListed, declared.state.EmitVState.EmitVState, declared.state.EmitVState.TheVariants.Unknown}
@@ -33,10 +33,10 @@ pub use Rattle.rv_emit.specs.{Emission.Emits, Emission.EmitsAnyhow, Emission.Emi
 pub use Rattle.{rv_emit.specs.{Standing.IsFinishedTo, Standing.IslandIn, Standing.PartsIn, Standing.SlotsIn, State.setting_after, State.setting_beyond}, rv_encode.proofs.Decoding.opcode_decodes}
 pub use Rattle.rv_encode.specs.{Layouts.IsIType, Layouts.IsUType, Operations.decoded, Operations.decoded_rri, Operations.decoded_rrr, Operations.has_load, Operations.has_store, Registers.IsIntRegister, Registers.IsRealRegister}
 pub use Rattle.rv_inst.proofs.{Bridges.decode-patched_pair, ResultLoads.no_extra, UnitWords.is_unit}
-pub use Rattle.rv_inst.specs.{Addresses.AtLabel, Addresses.Based, Addresses.inline_size, Addresses.is_near, Addresses.is_splittable, Addresses.location_of, Context.Context, Context.context_by, Core.is_integer_family, Families.family_of, Forms.IsOwnForm, Forms.jump_kind, Forms.jump_size}
+pub use Rattle.rv_inst.specs.{Addresses.AtLabel, Addresses.Based, Addresses.inline_size, Addresses.is_near, Addresses.is_splittable, Addresses.location_of, Context.Context, Context.context_by, Core.is_integer_family, Operands.family_of, Forms.IsOwnForm, Forms.jump_kind, Forms.jump_size}
 pub use Rattle.rv_inst.specs.{Forms.short_jalr, Forms.short_lui, Forms.short_rri, Frames.is_bad_frame_for, Islands.GoesOn, Islands.IsIsland, Islands.word_in, LabelUseBridges.PairDecodes, LabelUseBridges.with_immediate, LabelUseWords.AreBytes, LabelUseWords.word_at, LabelUseWords.word_bytes}
 pub use Rattle.rv_inst.specs.{Limits.call_limit, Limits.load_limit, Limits.sequence_limit, Limits.step_limit, Limits.store_limit, Limits.table_space, Records.access_records, Records.patch_records, Records.return_records, Records.site_event, Rules.inst_rule, Rules.is_on_stack, Rules.is_stacked}
-pub use Rattle.rv_inst.specs.{Rules.is_word_type, SameValues.Same, UnitWords.UnitWord, UnitWords.trap_in, UnitWords.unit_of, UnitWords.unit_word, declared.inst.CondBrTarget.CondBrTarget, declared.inst.CondBrTarget.TheVariants.Fallthrough, declared.inst.Family.Family}
+pub use Rattle.rv_inst.specs.{Rules.is_word_type, SameValues.Same, UnitWords.UnitWord, UnitWords.trap_in, UnitWords.unit_of, declared.inst.CondBrTarget.CondBrTarget, declared.inst.CondBrTarget.TheVariants.Fallthrough, declared.inst.Family.Family}
 pub use Rattle.rv_inst.specs.{declared.inst.Family.TheVariants.Calls, declared.inst.Inst.Inst, declared.label_use.LabelUse.LabelUse, declared.label_use.LabelUse.TheVariants.B12, declared.label_use.LabelUse.TheVariants.Jal20, declared.label_use.LabelUse.TheVariants.PCRel32}
 pub use Rattle.rv_inst.specs.{declared.label_use.LabelUse.TheVariants.PCRelHi20, declared.label_use.LabelUse.TheVariants.PCRelLo12I, declared.label_use.LabelUse.TheVariants.RVCJump, declared.targets.Targets.Targets, declared.targets.Targets.TheVariants.Branches}
 pub use Rattle.rv_inst.specs.{declared.targets.Targets.TheVariants.Jumps, declared.targets.Targets.TheVariants.Nowhere, declared.targets.Targets.TheVariants.Refers, declared.targets.Targets.TheVariants.RefersConstant}
@@ -51,7 +51,7 @@ pub use Rattle.rv_machine.specs.{Arithmetic.low_word, Decode.decode, Decode.int_
 pub use Rattle.{rv_machine.specs.declared.ops.MOp.TheVariants.Base, rv_machine.specs.State.{Memory, Values, at, byte, low64, reg, set_reg, signed, store, wrap}}
 pub use Rattle.rv_ops.specs.{Memory.load_of, Memory.load_size, declared.alu.AluOPRRI.TheVariants.Addi, declared.alu.AluOPRRI.TheVariants.Slli, declared.alu.AluOPRRR.TheVariants.Add, declared.compare.IntegerCompare.IntegerCompare, declared.memory.LoadOP.LoadOP, declared.memory.LoadOP.TheVariants.Ld}
 pub use Rattle.{rv_ops.specs.declared.memory.StoreOP.StoreOP, rv_runs.proofs.{CallRuns.inst_resumes, FullInstRuns.resumes_fully, FullInstRuns.runs_fully, InstRuns.inst_runs, OneOperations.reads_operation, UnitRuns.parts_are, UnitRuns.unit_operation}}
-pub use Rattle.rv_sequences.proofs.{CodePut.int_class, PlainSlots.adds_alone, PlainSlots.code_none, PlainSlots.plain_put, PlainSlots.put_long, PlainSlots.summed, Sequences.low_kept, Sequences.named_kept, Sequences.no_own, SlotsPut.alone, SlotsPut.alone_long, SlotsPut.alone_sound}
+pub use Rattle.rv_sequences.proofs.{CodePut.int_class, PlainSlots.{adds_alone, code_none, plain_keeps, plain_put, put_long, summed}, Sequences.low_kept, Sequences.named_kept, Sequences.no_own, SlotsPut.alone, SlotsPut.alone_long, SlotsPut.alone_sound}
 pub use Rattle.{rv_sequences.proofs.{SlotsPut.both_alone, SlotsPut.none_put}, rv_sequences.proofs.AddressCode.{far, load_line_named, longer, lower_is, named_put, near, store_line_named, upper_is}}
 pub use Rattle.rv_sequences.proofs.BufferAfterSlots.{lasts_after_slots, puts_bytes, puts_constants, puts_named, puts_records, puts_uses, slot_bytes, slot_ends}
 pub use Rattle.{rv_sequences.proofs.Encoded.{addi_patchable, load_patchable, low_funct3, lower_fresh, upper_fresh, upper_patchable, word_fits, word_there}, rv_sequences.specs.{NewConstants.AddsConstants, NewConstants.StandInTurn, Parts.PutsAlone, Parts.PutsParts}}

@@ -15,7 +15,7 @@ ghost use Rattle.rv_emit.specs.Emission.{Emits, EmitsAnyhow};
 ghost use Rattle.rv_emit.specs.StackMaps.{with_map};
 ghost use Rattle.rv_inst.specs.Limits.{sequence_limit};
 ghost use Rattle.rv_inst.specs.Sizes.{request_of};
-ghost use Rattle.rv_inst.specs.Families.{family_of};
+ghost use Rattle.rv_inst.specs.Operands.{family_of};
 ghost use Rattle.rv_inst.specs.declared.inst.Family.TheVariants.{Pseudo, Integer, Memory, Control, Loop, Symbols, Calls};
 
 use crate::calls::{put_call, put_call_ind};

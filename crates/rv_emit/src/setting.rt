@@ -5,7 +5,7 @@ ghost use Rattle.rv_base.specs.declared.constant.Constant.{Constant};
 ghost use Rattle.rv_base.specs.Frame.{sp_to_args_end};
 ghost use Rattle.rv_inst.specs.Addresses.{location_of, is_splittable};
 ghost use Rattle.rv_inst.specs.Context.{context_by};
-ghost use Rattle.rv_inst.specs.Families.{family_of};
+ghost use Rattle.rv_inst.specs.Operands.{family_of};
 ghost use Rattle.rv_inst.specs.Sizes.{request_of};
 ghost use Rattle.rv_inst.specs.declared.inst.Family.TheVariants.{Integer, Memory, Control, Loop, Symbols};
 ghost use Rattle.rv_code.specs.declared.state.EmitVState.{EmitVState as Setting};

@@ -33,7 +33,8 @@ use Rattle.rv_inst.specs.declared.targets.Targets.TheVariants.{Nowhere}
 use Rattle.rv_inst.specs.Operands.{inst_registers, inst_labels, tail_call_of, target_labels, labels_of, address_targets}
 use Rattle.rv_inst.specs.Addresses.{is_distant}
 use Rattle.rv_inst.specs.Context.{Context}
-use Rattle.rv_inst.specs.Rules.{is_virtual, is_other_class, is_reserved, is_int_class, same_class, is_not_of, differ_in_class, is_int_type, is_buffer_label, is_beyond, is_fallthrough, has_other_class, faults_of, is_zero, lacks_named, lacks_constant, exceeds_arguments, every_rule, breaks, is_movable}
+use Rattle.rv_inst.specs.Faults.{lacks_constant}
+use Rattle.rv_inst.specs.Rules.{is_virtual, is_other_class, is_reserved, is_int_class, same_class, is_not_of, differ_in_class, is_int_type, is_buffer_label, is_beyond, is_fallthrough, has_other_class, faults_of, is_zero, lacks_named, exceeds_arguments, every_rule, breaks, is_movable}
 use Rattle.rv_inst.specs.Sizes.{inst_sum}
 use Rattle.rv_inst.specs.Plain.{is_usable, is_plain_address, IsPlain, is_plain}
 

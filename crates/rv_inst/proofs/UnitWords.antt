@@ -1,23 +1,24 @@
 -- What holds of every instruction that is one word of a unit, since all tables over instructions go by that word.
-use Rattle.std.proofs.Common.{◌≡◌, Bool, true, false, List, [], ◌∷◌, Option, Some, None, refl, ap}
+use Rattle.std.proofs.Common.{◌≡◌, false, List, [], ◌∷◌, Some, refl, ap}
 use Rattle.std.specs.Prelude.{◌||◌}
 use Rattle.std.specs.List.{list_any}
 use Rattle.rv_inst.specs.Context.{Context}
 use Rattle.rv_inst.specs.Core.{is_integer_family}
-use Rattle.rv_inst.specs.Families.{family_of}
 use Rattle.rv_inst.specs.Meaning.{Environment, Next, inst_exit}
 use Rattle.rv_machine.specs.State.{Values}
-use Rattle.rv_inst.specs.Operands.{inst_registers, inst_temporaries}
+use Rattle.rv_inst.specs.Operands.{family_of, inst_registers, inst_temporaries}
 use Rattle.rv_inst.specs.RegisterTests.{place_test, test_of}
-use Rattle.rv_inst.specs.Rules.{faults_of, is_misplaced, unit_faults}
+use Rattle.rv_inst.specs.Faults.{is_misplaced}
+use Rattle.rv_inst.specs.Rules.{faults_of, unit_faults}
 use Rattle.rv_inst.specs.Sizes.{inst_code, unit_code}
-use Rattle.rv_inst.specs.UnitWords.{UnitWord, given, places_in, registers_in, unit_word}
+use Rattle.rv_inst.specs.UnitWords.{UnitWord, all_replaced, given, places_in, registers_in, unit_regs, unit_word, with_registers}
 use Rattle.rv_inst.specs.declared.inst.Family.TheVariants.{Float}
 use Rattle.rv_inst.specs.declared.inst.Inst.{Inst}
 use Rattle.rv_inst.specs.declared.inst.Inst.TheVariants.{Nop0}
 use Rattle.rv_inst.specs.declared.registers.RegisterTest.{RegisterTest}
 use Rattle.rv_inst.specs.declared.units.PlacedReg.{PlacedReg}
 use Rattle.rv_inst.specs.declared.units.PlaceTest.TheVariants.{Register, OutOfPlace}
+use Rattle.rv_inst.specs.declared.units.UnitRegs.{UnitRegs}
 
 -- a test of registers, wherever they stand
 pub places_have : (test : RegisterTest) (places : List PlacedReg) → list_any (place_test (Register test)) places ≡ list_any (test_of test) (registers_in places)
@@ -46,3 +47,17 @@ pub record IsUnit (inst : Inst) : Type 0 where
 pub is_unit : (inst : Inst) → is_integer_family (family_of inst) ≡ false → IsUnit inst
 is_unit Nop0 e = absurd (cc)
 is_unit inst e = record { word = given (unit_word inst) (cc); is = cc; family = cc; registers = cc; faults = cc; code = λ context. cc; temporaries = cc; exit = λ env v. cc }
+
+-- ---- registers put back
+
+pub own_put_back : (inst : Inst) → with_registers inst (unit_regs inst) ≡ inst
+own_put_back Nop0 = refl
+own_put_back inst = cc
+
+pub registers_after : (inst : Inst) (registers : UnitRegs) → unit_regs (with_registers inst registers) ≡ all_replaced registers (unit_regs inst)
+registers_after Nop0 registers = refl
+registers_after inst registers = cc
+
+pub family_after : (inst : Inst) (registers : UnitRegs) → family_of (with_registers inst registers) ≡ family_of inst
+family_after Nop0 registers = refl
+family_after inst registers = cc

@@ -4,13 +4,12 @@ use Rattle.std.specs.List.{list_any}
 use Rattle.rv_base.specs.declared.frame.FrameLayout.{FrameLayout}
 use Rattle.rv_base.specs.declared.regs.PReg.{PReg}
 use Rattle.rv_base.specs.declared.regs.Writable.{Writable}
-use Rattle.rv_inst.specs.Families.{family_of}
 use Rattle.rv_inst.specs.declared.inst.Family.{Family}
 use Rattle.rv_inst.specs.declared.inst.Family.TheVariants.{Pseudo, Integer, Memory, Control, Loop, Symbols, Calls, Float}
 use Rattle.rv_inst.specs.declared.inst.Inst.{Inst}
 use Rattle.rv_inst.specs.declared.inst.Line.{Line}
 use Rattle.rv_inst.specs.declared.inst.Line.TheVariants.{Inst as Put, Bind}
-use Rattle.rv_inst.specs.Operands.{is_float_class, operands_of, tail_call_of}
+use Rattle.rv_inst.specs.Operands.{family_of, is_float_class, operands_of, tail_call_of}
 use Rattle.rv_inst.specs.declared.tail_calls.TailCall.{TailCall}
 
 abbrev pub is_integer_family : Family → Bool

@@ -10,18 +10,17 @@ use Rattle.rv_machine.specs.declared.ops.FloatFormat.TheVariants.{D}
 use Rattle.rv_machine.specs.declared.ops.LoadOp.{LoadOp}
 use Rattle.rv_machine.specs.declared.ops.StoreOp.{StoreOp}
 use Rattle.rv_machine.specs.declared.ops.AluOp.{AluOp}
-use Rattle.rv_machine.specs.declared.ops.AluOp.TheVariants.{Int, Mul, Bit}
+use Rattle.rv_machine.specs.declared.ops.AluOp.TheVariants.{Int, Bit}
 use Rattle.rv_machine.specs.declared.ops.IntOp.TheVariants as int
-use Rattle.rv_machine.specs.declared.ops.MulOp.TheVariants as mul
 use Rattle.rv_machine.specs.declared.ops.BitOp.TheVariants as bit
 use Rattle.rv_machine.specs.Compressed.{half_funct3}
 use Rattle.rv_machine.specs.Layout.{bare_form, compressed}
 use Rattle.rv_ops.specs.declared.compressed.CiOp.TheVariants.{CAddi16sp}
 use Rattle.rv_ops.specs.Compressed.{ci_funct3}
 use Rattle.rv_ops.specs.declared.alu.AluOPRRR.{AluOPRRR}
-use Rattle.rv_ops.specs.declared.alu.AluOPRRR.TheVariants as rrr
 use Rattle.rv_ops.specs.declared.alu.AluOPRRI.{AluOPRRI}
-use Rattle.rv_ops.specs.declared.alu.AluOPRRI.TheVariants as rri
+use Rattle.rv_ops.specs.Operations.{RegisterForm, AddForm, EitherForm, FirstForm, MulForm, ZextWForm, rrr_operation, rrr_op}
+use Rattle.rv_ops.specs.Operations.{ImmediateForm, AddiForm, OriForm, AddiwForm, SlliForm, RightShiftForm, AndiForm, NotForm, ExtendForm, rri_operation, rri_op}
 use Rattle.rv_ops.specs.declared.memory.LoadOP.{LoadOP}
 use Rattle.rv_ops.specs.declared.memory.LoadOP.TheVariants as loads
 use Rattle.rv_ops.specs.declared.memory.StoreOP.{StoreOP}
@@ -96,61 +95,17 @@ first_form op rd rs1 rs2 = form_where ((rd == rs1) && is_short rs1 && is_short r
 abbrev pub zext_w_form : ℕ → ℕ → ℕ → Option Decoded
 zext_w_form rd rs1 rs2 = form_where ((rd == rs1) && is_short rs1 && (rs2 == 0)) (compressed (Alu (Bit bit.AddUw)) rd rd 0 (pos 0))
 
+-- the form of an operation of two registers, in its way
+abbrev pub register_form : IsaFlags → Option RegisterForm → AluOp → ℕ → ℕ → ℕ → Option Decoded
+register_form flags None op rd rs1 rs2 = None
+register_form flags (Some AddForm) op rd rs1 rs2 = add_form rd rs1 rs2
+register_form flags (Some EitherForm) op rd rs1 rs2 = either_form op rd rs1 rs2
+register_form flags (Some FirstForm) op rd rs1 rs2 = first_form op rd rs1 rs2
+register_form flags (Some MulForm) op rd rs1 rs2 = if flags.has_zcb && flags.has_m then either_form op rd rs1 rs2 else None
+register_form flags (Some ZextWForm) op rd rs1 rs2 = if flags.has_zcb && flags.has_zba then zext_w_form rd rs1 rs2 else None
+
 abbrev pub zca_rrr : IsaFlags → AluOPRRR → ℕ → ℕ → ℕ → Option Decoded
-zca_rrr flags rrr.Add rd rs1 rs2 = add_form rd rs1 rs2
-zca_rrr flags rrr.Sub rd rs1 rs2 = first_form (Int int.Sub) rd rs1 rs2
-zca_rrr flags rrr.Sll rd rs1 rs2 = None
-zca_rrr flags rrr.Slt rd rs1 rs2 = None
-zca_rrr flags rrr.Sgt rd rs1 rs2 = None
-zca_rrr flags rrr.SltU rd rs1 rs2 = None
-zca_rrr flags rrr.Sgtu rd rs1 rs2 = None
-zca_rrr flags rrr.Xor rd rs1 rs2 = either_form (Int int.Xor) rd rs1 rs2
-zca_rrr flags rrr.Srl rd rs1 rs2 = None
-zca_rrr flags rrr.Sra rd rs1 rs2 = None
-zca_rrr flags rrr.Or rd rs1 rs2 = either_form (Int int.Or) rd rs1 rs2
-zca_rrr flags rrr.And rd rs1 rs2 = either_form (Int int.And) rd rs1 rs2
-zca_rrr flags rrr.Addw rd rs1 rs2 = either_form (Int int.Addw) rd rs1 rs2
-zca_rrr flags rrr.Subw rd rs1 rs2 = first_form (Int int.Subw) rd rs1 rs2
-zca_rrr flags rrr.Sllw rd rs1 rs2 = None
-zca_rrr flags rrr.Srlw rd rs1 rs2 = None
-zca_rrr flags rrr.Sraw rd rs1 rs2 = None
-zca_rrr flags rrr.Mul rd rs1 rs2 = if flags.has_zcb && flags.has_m then either_form (Mul mul.Mul) rd rs1 rs2 else None
-zca_rrr flags rrr.Mulh rd rs1 rs2 = None
-zca_rrr flags rrr.Mulhsu rd rs1 rs2 = None
-zca_rrr flags rrr.Mulhu rd rs1 rs2 = None
-zca_rrr flags rrr.Div rd rs1 rs2 = None
-zca_rrr flags rrr.DivU rd rs1 rs2 = None
-zca_rrr flags rrr.Rem rd rs1 rs2 = None
-zca_rrr flags rrr.RemU rd rs1 rs2 = None
-zca_rrr flags rrr.Mulw rd rs1 rs2 = None
-zca_rrr flags rrr.Divw rd rs1 rs2 = None
-zca_rrr flags rrr.Divuw rd rs1 rs2 = None
-zca_rrr flags rrr.Remw rd rs1 rs2 = None
-zca_rrr flags rrr.Remuw rd rs1 rs2 = None
-zca_rrr flags rrr.Adduw rd rs1 rs2 = if flags.has_zcb && flags.has_zba then zext_w_form rd rs1 rs2 else None
-zca_rrr flags rrr.Andn rd rs1 rs2 = None
-zca_rrr flags rrr.Bclr rd rs1 rs2 = None
-zca_rrr flags rrr.Bext rd rs1 rs2 = None
-zca_rrr flags rrr.Binv rd rs1 rs2 = None
-zca_rrr flags rrr.Bset rd rs1 rs2 = None
-zca_rrr flags rrr.Max rd rs1 rs2 = None
-zca_rrr flags rrr.Maxu rd rs1 rs2 = None
-zca_rrr flags rrr.Min rd rs1 rs2 = None
-zca_rrr flags rrr.Minu rd rs1 rs2 = None
-zca_rrr flags rrr.Orn rd rs1 rs2 = None
-zca_rrr flags rrr.Rol rd rs1 rs2 = None
-zca_rrr flags rrr.Rolw rd rs1 rs2 = None
-zca_rrr flags rrr.Ror rd rs1 rs2 = None
-zca_rrr flags rrr.Rorw rd rs1 rs2 = None
-zca_rrr flags rrr.Sh1add rd rs1 rs2 = None
-zca_rrr flags rrr.Sh1adduw rd rs1 rs2 = None
-zca_rrr flags rrr.Sh2add rd rs1 rs2 = None
-zca_rrr flags rrr.Sh2adduw rd rs1 rs2 = None
-zca_rrr flags rrr.Sh3add rd rs1 rs2 = None
-zca_rrr flags rrr.Sh3adduw rd rs1 rs2 = None
-zca_rrr flags rrr.Xnor rd rs1 rs2 = None
-zca_rrr flags rrr.CzeroEqz rd rs1 rs2 = None
-zca_rrr flags rrr.CzeroNez rd rs1 rs2 = None
+zca_rrr flags op rd rs1 rs2 = register_form flags (rrr_operation op).short (rrr_op op) rd rs1 rs2
 
 abbrev pub form_rrr : IsaFlags → AluOPRRR → ℕ → ℕ → ℕ → Option Decoded
 form_rrr flags op rd rs1 rs2 = if flags.has_zca then zca_rrr flags op rd rs1 rs2 else None
@@ -228,38 +183,20 @@ not_form flags rd rs imm = form_where (flags.has_zcb && (rd == rs) && is_short r
 abbrev pub extend_form : IsaFlags → AluOp → ℕ → ℕ → ℤ → Option Decoded
 extend_form flags op rd rs imm = form_where (flags.has_zcb && flags.has_zbb && (rd == rs) && is_short rs && is_equal imm (pos 0)) (compressed (Alu op) rd rd 0 (pos 0))
 
+-- the form of an operation of a register and an immediate, in its way
+abbrev pub immediate_form : IsaFlags → Option ImmediateForm → AluOp → ℕ → ℕ → ℤ → Option Decoded
+immediate_form flags None op rd rs imm = None
+immediate_form flags (Some AddiForm) op rd rs imm = addi_form rd rs imm
+immediate_form flags (Some OriForm) op rd rs imm = ori_form rd rs imm
+immediate_form flags (Some AddiwForm) op rd rs imm = addiw_form rd rs imm
+immediate_form flags (Some SlliForm) op rd rs imm = slli_form rd rs imm
+immediate_form flags (Some RightShiftForm) op rd rs imm = right_shift_form op rd rs imm
+immediate_form flags (Some AndiForm) op rd rs imm = andi_form flags rd rs imm
+immediate_form flags (Some NotForm) op rd rs imm = not_form flags rd rs imm
+immediate_form flags (Some ExtendForm) op rd rs imm = extend_form flags op rd rs imm
+
 abbrev pub zca_rri : IsaFlags → AluOPRRI → ℕ → ℕ → ℤ → Option Decoded
-zca_rri flags rri.Addi rd rs imm = addi_form rd rs imm
-zca_rri flags rri.Slti rd rs imm = None
-zca_rri flags rri.SltiU rd rs imm = None
-zca_rri flags rri.Xori rd rs imm = not_form flags rd rs imm
-zca_rri flags rri.Ori rd rs imm = ori_form rd rs imm
-zca_rri flags rri.Andi rd rs imm = andi_form flags rd rs imm
-zca_rri flags rri.Slli rd rs imm = slli_form rd rs imm
-zca_rri flags rri.Srli rd rs imm = right_shift_form (Int int.Srli) rd rs imm
-zca_rri flags rri.Srai rd rs imm = right_shift_form (Int int.Srai) rd rs imm
-zca_rri flags rri.Addiw rd rs imm = addiw_form rd rs imm
-zca_rri flags rri.Slliw rd rs imm = None
-zca_rri flags rri.SrliW rd rs imm = None
-zca_rri flags rri.Sraiw rd rs imm = None
-zca_rri flags rri.Bclri rd rs imm = None
-zca_rri flags rri.Bexti rd rs imm = None
-zca_rri flags rri.Binvi rd rs imm = None
-zca_rri flags rri.Bseti rd rs imm = None
-zca_rri flags rri.Rori rd rs imm = None
-zca_rri flags rri.Roriw rd rs imm = None
-zca_rri flags rri.SlliUw rd rs imm = None
-zca_rri flags rri.Clz rd rs imm = None
-zca_rri flags rri.Clzw rd rs imm = None
-zca_rri flags rri.Cpop rd rs imm = None
-zca_rri flags rri.Cpopw rd rs imm = None
-zca_rri flags rri.Ctz rd rs imm = None
-zca_rri flags rri.Ctzw rd rs imm = None
-zca_rri flags rri.Rev8 rd rs imm = None
-zca_rri flags rri.Sextb rd rs imm = extend_form flags (Bit bit.SextB) rd rs imm
-zca_rri flags rri.Sexth rd rs imm = extend_form flags (Bit bit.SextH) rd rs imm
-zca_rri flags rri.Zexth rd rs imm = extend_form flags (Bit bit.ZextH) rd rs imm
-zca_rri flags rri.Orcb rd rs imm = None
+zca_rri flags op rd rs imm = immediate_form flags (rri_operation op).short (rri_op op) rd rs imm
 
 abbrev pub form_rri : IsaFlags → AluOPRRI → ℕ → ℕ → ℤ → Option Decoded
 form_rri flags op rd rs imm = if flags.has_zca then zca_rri flags op rd rs imm else None

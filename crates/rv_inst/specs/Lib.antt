@@ -1,5 +1,4 @@
 pub mod UnitWords
-pub mod Families
 pub mod Core
 pub mod Records
 pub mod Relocations
@@ -15,6 +14,7 @@ pub mod LabelUseWords
 pub mod Meaning
 pub mod Returns
 pub mod Rules
+pub mod Faults
 pub mod Frames
 pub mod SameValues
 pub mod Halves

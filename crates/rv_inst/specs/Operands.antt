@@ -33,6 +33,8 @@ use Rattle.rv_inst.specs.Forms.{short_jalr}
 use Rattle.rv_inst.specs.Returns.{StackLoad, result_loads, loads_unless}
 use Rattle.rv_inst.specs.declared.inst.Line.{Line}
 use Rattle.rv_inst.specs.declared.inst.Line.TheVariants.{Inst as Put, Bind}
+use Rattle.rv_inst.specs.declared.inst.Family.{Family}
+use Rattle.rv_inst.specs.declared.inst.Family.TheVariants.{Pseudo, Integer, Memory, Control, Loop, Symbols, Calls}
 use Rattle.rv_inst.specs.declared.inst.Inst.{Inst}
 use Rattle.rv_inst.specs.declared.inst.Inst.TheVariants.{Nop0, Nop4, EBreak, SequencePoint, Args, Rets, DummyUse, Unwind, EmitIsland, RawData, Lui, Auipc, LoadInlineConst, AluRRR, AluRRImm12, Mov, MovFromPReg, Extend, Select, Load, Store, LoadAddr, LabelAddress, Ret, TrapIf, Jal, CondBr, BrTable, Udf, Jalr, Popcnt, Cltz, Brev8, StackProbeLoop, LoadExtNameGot, LoadExtNameNear, LoadExtNameFar, Call, CallInd, ReturnCall, ReturnCallInd}
 use Rattle.rv_inst.specs.UnitWords.{registers_in, unit_of}
@@ -119,11 +121,12 @@ returns_at offset popped loads = Some (record { offset = offset; popped = popped
 abbrev pub loads_float : List StackLoad → Bool
 loads_float loads = list_any (λ (l : StackLoad). is_float_load l.op) loads
 
--- What an instruction names: its registers; the labels, or the constant, by what it does with them; the labels of its table, the default
+-- What an instruction names: its family; its registers; the labels, or the constant, by what it does with them; the labels of its table, the default
 -- first; and the numbers of its temporaries, beside x30 and x31, which may hold anything after it. Of a call: its results, where control
 -- goes after one that ends its block, where one returns, by the flags, and the tail call that it is. Of an instruction that moves values
 -- of any class, and of a call: whether it moves, or loads as a result, one of a floating-point register.
 pub record Operands : Type 0 where
+  pub family : Family
   pub registers : List Reg
   pub targets : Targets
   pub table : List MachLabel
@@ -135,53 +138,56 @@ pub record Operands : Type 0 where
   pub tail_call : Option TailCall
 
 -- these registers, and nothing else
-abbrev pub only : List Reg → Operands
-only registers = record { registers = registers; targets = Nowhere; table = []; temporaries = []; floats = false; results = []; try_call = None; returns = λ flags. None; tail_call = None }
+abbrev pub only : Family → List Reg → Operands
+only family registers = record { family = family; registers = registers; targets = Nowhere; table = []; temporaries = []; floats = false; results = []; try_call = None; returns = λ flags. None; tail_call = None }
 
 -- a call returns after an auipc and a jalr, or after a jalr alone
 abbrev pub operands_of : Inst → Operands
-operands_of Nop0 = only []
-operands_of Nop4 = only []
-operands_of EBreak = only []
-operands_of SequencePoint = only []
-operands_of (Args args) = only (arg_registers args)
-operands_of (Rets rets) = only (ret_registers rets)
-operands_of (DummyUse reg) = only (reg ∷ [])
-operands_of (Unwind inst) = only (unwind_registers inst)
-operands_of (EmitIsland needed_space) = only []
-operands_of (RawData bytes) = only []
-operands_of (Lui rd imm) = only (rd.reg ∷ [])
-operands_of (Auipc rd imm) = only (rd.reg ∷ [])
-operands_of (LoadInlineConst rd type imm) = only (rd.reg ∷ [])
-operands_of (AluRRR op rd rs1 rs2) = only (rd.reg ∷ rs1 ∷ rs2 ∷ [])
-operands_of (AluRRImm12 op rd rs imm) = only (rd.reg ∷ rs ∷ [])
-operands_of (Mov rd rm type) = record (only (rd.reg ∷ rm ∷ [])) { floats = is_float rd.reg }
-operands_of (MovFromPReg rd rm) = only (rd.reg ∷ Real rm ∷ [])
-operands_of (Extend rd rn signed from_bits to_bits) = only (rd.reg ∷ rn ∷ [])
-operands_of (Select info) = record (only (written_in info.dst ++ info.condition.rs1 ∷ info.condition.rs2 ∷ all_of info.x ++ all_of info.y)) { floats = list_any is_float (written_in info.dst ++ all_of info.x ++ all_of info.y) }
-operands_of (Load rd op flags from) = record (only (rd.reg ∷ registers_of from)) { targets = address_targets (load_size op) from; floats = is_float_load op }
-operands_of (Store src op flags to) = record (only (src ∷ registers_of to)) { targets = address_targets 0 to; floats = is_float_store op }
-operands_of (LoadAddr rd mem) = record (only (rd.reg ∷ registers_of mem)) { targets = address_targets 0 mem }
-operands_of (LabelAddress dst label) = record (only (dst.reg ∷ [])) { targets = Refers label }
-operands_of Ret = only []
-operands_of (TrapIf cmp code) = only (cmp.rs1 ∷ cmp.rs2 ∷ [])
-operands_of (Jal label) = record (only []) { targets = Jumps label }
-operands_of (CondBr taken not_taken kind) = record (only (kind.rs1 ∷ kind.rs2 ∷ [])) { targets = Branches taken not_taken }
-operands_of (BrTable index tmp1 tmp2 targets) = record (only (index ∷ tmp1.reg ∷ tmp2.reg ∷ [])) { table = targets; temporaries = number_of tmp1.reg ∷ number_of tmp2.reg ∷ [] }
-operands_of (Udf code) = only []
-operands_of (Jalr rd base offset) = only (rd.reg ∷ base ∷ [])
-operands_of (Popcnt info) = record (only (info.sum.reg ∷ info.tmp.reg ∷ info.step.reg ∷ info.rs ∷ [])) { temporaries = number_of info.tmp.reg ∷ number_of info.step.reg ∷ [] }
-operands_of (Cltz leading info) = record (only (info.sum.reg ∷ info.tmp.reg ∷ info.step.reg ∷ info.rs ∷ [])) { temporaries = number_of info.tmp.reg ∷ number_of info.step.reg ∷ [] }
-operands_of (Brev8 info) = record (only (info.rs ∷ info.step.reg ∷ info.tmp.reg ∷ info.tmp2.reg ∷ info.rd.reg ∷ [])) { temporaries = number_of info.step.reg ∷ number_of info.tmp.reg ∷ number_of info.tmp2.reg ∷ [] }
-operands_of (StackProbeLoop guard_size probe_count tmp) = record (only (tmp.reg ∷ [])) { temporaries = number_of tmp.reg ∷ [] }
-operands_of (LoadExtNameGot rd name) = only (rd.reg ∷ [])
-operands_of (LoadExtNameNear rd name offset) = only (rd.reg ∷ [])
-operands_of (LoadExtNameFar rd name offset) = only (rd.reg ∷ [])
-operands_of (Call info) = record (only (use_registers info.uses ++ def_registers info.defs)) { floats = loads_float (loads_unless info.patchable info.defs); results = info.defs; try_call = info.try_call_info; returns = λ flags. returns_at 8 info.callee_pop_size (loads_unless info.patchable info.defs) }
-operands_of (CallInd info) = record (only (info.dest ∷ use_registers info.uses ++ def_registers info.defs)) { floats = loads_float (result_loads info.defs); results = info.defs; try_call = info.try_call_info; returns = λ flags. returns_at (short_jalr flags 1 (number_of info.dest) (pos 0)).len info.callee_pop_size (result_loads info.defs) }
-operands_of (ReturnCall info) = record (only (use_registers info.uses)) { tail_call = Some (record { stack_arg_size = info.new_stack_arg_size; by_register = false }) }
-operands_of (ReturnCallInd info) = record (only (info.dest ∷ use_registers info.uses)) { tail_call = Some (record { stack_arg_size = info.new_stack_arg_size; by_register = true }) }
-operands_of inst = only (registers_in (unit_of inst refl).places)
+operands_of Nop0 = only Pseudo []
+operands_of Nop4 = only Pseudo []
+operands_of EBreak = only Pseudo []
+operands_of SequencePoint = only Pseudo []
+operands_of (Args args) = only Pseudo (arg_registers args)
+operands_of (Rets rets) = only Pseudo (ret_registers rets)
+operands_of (DummyUse reg) = only Pseudo (reg ∷ [])
+operands_of (Unwind inst) = only Pseudo (unwind_registers inst)
+operands_of (EmitIsland needed_space) = only Pseudo []
+operands_of (RawData bytes) = only Pseudo []
+operands_of (Lui rd imm) = only Integer (rd.reg ∷ [])
+operands_of (Auipc rd imm) = only Integer (rd.reg ∷ [])
+operands_of (LoadInlineConst rd type imm) = only Integer (rd.reg ∷ [])
+operands_of (AluRRR op rd rs1 rs2) = only Integer (rd.reg ∷ rs1 ∷ rs2 ∷ [])
+operands_of (AluRRImm12 op rd rs imm) = only Integer (rd.reg ∷ rs ∷ [])
+operands_of (Mov rd rm type) = record (only Integer (rd.reg ∷ rm ∷ [])) { floats = is_float rd.reg }
+operands_of (MovFromPReg rd rm) = only Integer (rd.reg ∷ Real rm ∷ [])
+operands_of (Extend rd rn signed from_bits to_bits) = only Integer (rd.reg ∷ rn ∷ [])
+operands_of (Select info) = record (only Integer (written_in info.dst ++ info.condition.rs1 ∷ info.condition.rs2 ∷ all_of info.x ++ all_of info.y)) { floats = list_any is_float (written_in info.dst ++ all_of info.x ++ all_of info.y) }
+operands_of (Load rd op flags from) = record (only Memory (rd.reg ∷ registers_of from)) { targets = address_targets (load_size op) from; floats = is_float_load op }
+operands_of (Store src op flags to) = record (only Memory (src ∷ registers_of to)) { targets = address_targets 0 to; floats = is_float_store op }
+operands_of (LoadAddr rd mem) = record (only Memory (rd.reg ∷ registers_of mem)) { targets = address_targets 0 mem }
+operands_of (LabelAddress dst label) = record (only Memory (dst.reg ∷ [])) { targets = Refers label }
+operands_of Ret = only Control []
+operands_of (TrapIf cmp code) = only Control (cmp.rs1 ∷ cmp.rs2 ∷ [])
+operands_of (Jal label) = record (only Control []) { targets = Jumps label }
+operands_of (CondBr taken not_taken kind) = record (only Control (kind.rs1 ∷ kind.rs2 ∷ [])) { targets = Branches taken not_taken }
+operands_of (BrTable index tmp1 tmp2 targets) = record (only Control (index ∷ tmp1.reg ∷ tmp2.reg ∷ [])) { table = targets; temporaries = number_of tmp1.reg ∷ number_of tmp2.reg ∷ [] }
+operands_of (Udf code) = only Control []
+operands_of (Jalr rd base offset) = only Control (rd.reg ∷ base ∷ [])
+operands_of (Popcnt info) = record (only Loop (info.sum.reg ∷ info.tmp.reg ∷ info.step.reg ∷ info.rs ∷ [])) { temporaries = number_of info.tmp.reg ∷ number_of info.step.reg ∷ [] }
+operands_of (Cltz leading info) = record (only Loop (info.sum.reg ∷ info.tmp.reg ∷ info.step.reg ∷ info.rs ∷ [])) { temporaries = number_of info.tmp.reg ∷ number_of info.step.reg ∷ [] }
+operands_of (Brev8 info) = record (only Loop (info.rs ∷ info.step.reg ∷ info.tmp.reg ∷ info.tmp2.reg ∷ info.rd.reg ∷ [])) { temporaries = number_of info.step.reg ∷ number_of info.tmp.reg ∷ number_of info.tmp2.reg ∷ [] }
+operands_of (StackProbeLoop guard_size probe_count tmp) = record (only Loop (tmp.reg ∷ [])) { temporaries = number_of tmp.reg ∷ [] }
+operands_of (LoadExtNameGot rd name) = only Symbols (rd.reg ∷ [])
+operands_of (LoadExtNameNear rd name offset) = only Symbols (rd.reg ∷ [])
+operands_of (LoadExtNameFar rd name offset) = only Symbols (rd.reg ∷ [])
+operands_of (Call info) = record (only Calls (use_registers info.uses ++ def_registers info.defs)) { floats = loads_float (loads_unless info.patchable info.defs); results = info.defs; try_call = info.try_call_info; returns = λ flags. returns_at 8 info.callee_pop_size (loads_unless info.patchable info.defs) }
+operands_of (CallInd info) = record (only Calls (info.dest ∷ use_registers info.uses ++ def_registers info.defs)) { floats = loads_float (result_loads info.defs); results = info.defs; try_call = info.try_call_info; returns = λ flags. returns_at (short_jalr flags 1 (number_of info.dest) (pos 0)).len info.callee_pop_size (result_loads info.defs) }
+operands_of (ReturnCall info) = record (only Calls (use_registers info.uses)) { tail_call = Some (record { stack_arg_size = info.new_stack_arg_size; by_register = false }) }
+operands_of (ReturnCallInd info) = record (only Calls (info.dest ∷ use_registers info.uses)) { tail_call = Some (record { stack_arg_size = info.new_stack_arg_size; by_register = true }) }
+operands_of inst = only (unit_of inst refl).family (registers_in (unit_of inst refl).places)
+
+abbrev pub family_of : Inst → Family
+family_of inst = (operands_of inst).family
 
 abbrev pub inst_registers : Inst → List Reg
 inst_registers inst = (operands_of inst).registers

@@ -23,6 +23,7 @@ use Rattle.rv_base.specs.declared.value_regs.ValueRegs.TheVariants.{One, Two}
 use Rattle.rv_base.specs.ValueRegs.{count_of}
 use Rattle.rv_base.specs.declared.constant.Constant.{Constant}
 use Rattle.rv_base.specs.AMode.{registers_of, own_offset, base_of}
+use Rattle.rv_base.specs.IrType.{bits_of}
 use Rattle.rv_base.specs.Regs.{class_of}
 use Rattle.mach_labels.specs.Table.{first_inner}
 use Rattle.rv_ops.specs.Memory.{load_class, store_class}
@@ -37,7 +38,7 @@ use Rattle.rv_inst.specs.declared.error.Rule.{Rule}
 use Rattle.rv_inst.specs.declared.error.Rule.TheVariants.{Virtual, Class, Reserved, Zero, Clash, BadType, Range, Rounding, Width, Constant as ConstantRule, EmptyTable, NoTarget, Label, TailArgs, DataSize}
 use Rattle.rv_inst.specs.Addresses.{is_distant}
 use Rattle.rv_inst.specs.Context.{Context}
-use Rattle.rv_inst.specs.Operands.{all_of, written_in, result_registers, inst_registers, inst_labels, tail_call_of, targets_of}
+use Rattle.rv_inst.specs.Operands.{all_of, is_float_class, written_in, result_registers, inst_registers, inst_labels, tail_call_of, targets_of}
 use Rattle.rv_inst.specs.Returns.{result_load}
 use Rattle.rv_inst.specs.UnitWords.{UnitWord, unit_of}
 use Rattle.rv_inst.specs.declared.units.PlacedReg.{PlacedReg}
@@ -74,12 +75,8 @@ is_vector_class Vector = true
 
 abbrev pub same_class : RegClass → RegClass → Bool
 same_class Int s = is_int_class s
-same_class Float Int = false
-same_class Float Float = true
-same_class Float Vector = false
-same_class Vector Int = false
-same_class Vector Float = false
-same_class Vector Vector = true
+same_class Float s = is_float_class s
+same_class Vector s = is_vector_class s
 
 -- whether a register is of another class than this
 abbrev pub is_not_of : RegClass → Reg → Bool
@@ -216,29 +213,17 @@ is_fifth r = is_real_x 5 r
 
 -- ---- types and numbers
 
-abbrev pub is_int_type : IrType → Bool
-is_int_type I8 = true
-is_int_type I16 = true
-is_int_type I32 = true
-is_int_type I64 = true
-is_int_type I128 = false
-is_int_type F16 = false
-is_int_type F32 = false
-is_int_type F64 = false
-is_int_type F128 = false
-is_int_type (VectorOf v) = false
+abbrev pub has_class : Option RegClass → RegClass → Bool
+has_class None class = false
+has_class (Some asked) class = same_class asked class
 
+-- an integer of at most 64 bits
+abbrev pub is_int_type : IrType → Bool
+is_int_type type = has_class (class_for type) Int
+
+-- a floating-point number of at most 64 bits
 abbrev pub is_float_type : IrType → Bool
-is_float_type I8 = false
-is_float_type I16 = false
-is_float_type I32 = false
-is_float_type I64 = false
-is_float_type I128 = false
-is_float_type F16 = true
-is_float_type F32 = true
-is_float_type F64 = true
-is_float_type F128 = false
-is_float_type (VectorOf v) = false
+is_float_type type = has_class (class_for type) Float
 
 -- whether a register of a class is moved as one of a type; vectors are moved by none
 abbrev pub is_movable : RegClass → IrType → Bool
@@ -258,18 +243,9 @@ is_loaded d = is_loaded_from d.location
 abbrev pub is_unloadable : CallRetPair → Bool
 is_unloadable d = is_stacked d && not (is_loaded d)
 
--- of 32 or 64 bits
+-- an integer of 32 or 64 bits
 abbrev pub is_word_type : IrType → Bool
-is_word_type I8 = false
-is_word_type I16 = false
-is_word_type I32 = true
-is_word_type I64 = true
-is_word_type I128 = false
-is_word_type F16 = false
-is_word_type F32 = false
-is_word_type F64 = false
-is_word_type F128 = false
-is_word_type (VectorOf v) = false
+is_word_type type = is_int_type type && nat_le 32 (bits_of type)
 
 abbrev pub is_beyond : Option ℕ → ℤ → Bool
 is_beyond None n = false
@@ -375,36 +351,6 @@ faults_of (ReturnCall info) = has_other_class (list_any (λ (p : CallArgPair). d
 faults_of (ReturnCallInd info) = has_other_class (not (is_fifth info.dest) || list_any (λ (p : CallArgPair). differ_in_class p.vreg p.preg) info.uses)
 faults_of inst = unit_faults (unit_of inst refl)
 
-abbrev pub is_misplaced : Inst → Bool
-is_misplaced inst = (faults_of inst).class
-
-abbrev pub has_zero : Inst → Bool
-has_zero inst = (faults_of inst).zeroed
-
-abbrev pub has_clash : Inst → Bool
-has_clash inst = (faults_of inst).clashing
-
-abbrev pub has_bad_type : Inst → Bool
-has_bad_type inst = (faults_of inst).type
-
-abbrev pub is_out_of_range : Inst → Bool
-is_out_of_range inst = (faults_of inst).range
-
-abbrev pub has_bad_rounding : Inst → Bool
-has_bad_rounding inst = (faults_of inst).rounding
-
-abbrev pub has_bad_width : Inst → Bool
-has_bad_width inst = (faults_of inst).width
-
-abbrev pub has_empty_table : Inst → Bool
-has_empty_table inst = (faults_of inst).table
-
-abbrev pub lacks_target : Inst → Bool
-lacks_target inst = (faults_of inst).target
-
-abbrev pub has_bad_size : Inst → Bool
-has_bad_size inst = (faults_of inst).size
-
 -- ---- constants
 
 -- whether a constant isn't among these, or has fewer bytes than so many
@@ -419,10 +365,6 @@ lacks_named constants (Jumps label) = false
 lacks_named constants (Branches taken not_taken) = false
 lacks_named constants (Refers label) = false
 lacks_named constants (RefersConstant constant read) = is_shorter (slice_get constants constant.number) read
-
--- whether an instruction names a constant that isn't there, or reads more bytes than it has
-abbrev pub lacks_constant : List Constant → Inst → Bool
-lacks_constant constants inst = lacks_named constants (targets_of inst)
 
 -- ---- frames
 
@@ -439,20 +381,20 @@ every_rule = Virtual ∷ Class ∷ Reserved ∷ Zero ∷ Clash ∷ BadType ∷ R
 -- whether an instruction breaks a rule, in its context
 abbrev pub breaks : Context → Inst → Rule → Bool
 breaks context inst Virtual = list_any is_virtual (inst_registers inst)
-breaks context inst Class = is_misplaced inst
+breaks context inst Class = (faults_of inst).class
 breaks context inst Reserved = list_any is_reserved (inst_registers inst)
-breaks context inst Zero = has_zero inst
-breaks context inst Clash = has_clash inst
-breaks context inst BadType = has_bad_type inst
-breaks context inst Range = is_out_of_range inst
-breaks context inst Rounding = has_bad_rounding inst
-breaks context inst Width = has_bad_width inst
-breaks context inst ConstantRule = lacks_constant context.constants inst
-breaks context inst EmptyTable = has_empty_table inst
-breaks context inst NoTarget = lacks_target inst
+breaks context inst Zero = (faults_of inst).zeroed
+breaks context inst Clash = (faults_of inst).clashing
+breaks context inst BadType = (faults_of inst).type
+breaks context inst Range = (faults_of inst).range
+breaks context inst Rounding = (faults_of inst).rounding
+breaks context inst Width = (faults_of inst).width
+breaks context inst ConstantRule = lacks_named context.constants (targets_of inst)
+breaks context inst EmptyTable = (faults_of inst).table
+breaks context inst NoTarget = (faults_of inst).target
 breaks context inst Label = list_any is_buffer_label (inst_labels inst)
 breaks context inst TailArgs = exceeds_arguments context.frame (tail_call_of inst)
-breaks context inst DataSize = has_bad_size inst
+breaks context inst DataSize = (faults_of inst).size
 
 -- ---- the first rule that is broken
 

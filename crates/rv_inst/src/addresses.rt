@@ -6,7 +6,8 @@ ghost use Rattle.rv_base.specs.AMode.{registers_of, own_offset};
 ghost use Rattle.rv_inst.specs.Addresses.{is_distant};
 ghost use Rattle.rv_inst.specs.Operands.{address_targets};
 ghost use Rattle.rv_inst.specs.RegisterTests.{test_of};
-ghost use Rattle.rv_inst.specs.Rules.{is_shorter, lacks_constant};
+ghost use Rattle.rv_inst.specs.Faults.{lacks_constant};
+ghost use Rattle.rv_inst.specs.Rules.{is_shorter};
 
 use crate::inst::Inst;
 use crate::registers::{RegisterTest, holds};

@@ -1,7 +1,8 @@
 //! Which rule a line breaks.
 
 ghost use Rattle.std.specs.Prelude.{◌≡◌, ◌++◌, map, option_copied};
-ghost use Rattle.rv_inst.specs.Rules.{is_buffer_label, is_misplaced, has_bad_type, is_out_of_range, lacks_target, is_fallthrough, every_rule, breaks, inst_rule, broken_rule};
+ghost use Rattle.rv_inst.specs.Faults.{is_misplaced, has_bad_type, is_out_of_range, lacks_target};
+ghost use Rattle.rv_inst.specs.Rules.{is_buffer_label, is_fallthrough, every_rule, breaks, inst_rule, broken_rule};
 ghost use Rattle.std.specs.List.{list_any, find};
 ghost use Rattle.rv_inst.specs.Operands.{handler_label as label_of_handler, inst_labels, labels_of, target_labels, targets_of, try_labels};
 ghost use Rattle.rv_inst.specs.Context.{context_by};

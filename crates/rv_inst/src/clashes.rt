@@ -3,7 +3,8 @@
 ghost use Rattle.std.specs.Prelude.{◌≡◌, [], ◌∷◌, ◌++◌};
 ghost use Rattle.std.specs.List.{list_any};
 ghost use Rattle.rv_inst.specs.Operands.{all_of};
-ghost use Rattle.rv_inst.specs.Rules.{is_zero, same_class, same_register, is_base, is_one_of, clash, is_uneven, select_clash, is_stack, has_zero, has_clash};
+ghost use Rattle.rv_inst.specs.Faults.{has_zero, has_clash};
+ghost use Rattle.rv_inst.specs.Rules.{is_zero, same_class, same_register, is_base, is_one_of, clash, is_uneven, select_clash, is_stack};
 
 use crate::inst::{CountInfo, Inst};
 use crate::registers::is_real_x;

@@ -401,7 +401,7 @@ pub enum Family {
 }
 
 impl Inst {
-    ghost use Rattle.rv_inst.specs.Families.{family_of};
+    ghost use Rattle.rv_inst.specs.Operands.{family_of};
 
     pub fn family(&self) -> Family
         ensures { result ≡ family_of self.now }

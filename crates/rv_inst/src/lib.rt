@@ -34,4 +34,4 @@ pub use job::Job;
 pub use label_use::LabelUse;
 pub use tail_calls::{TailCall, is_bad_frame, is_bad_frame_for, is_unrestorable_for};
 pub use targets::{Targets, handler_label};
-pub use units::PlacedReg;
+pub use units::{PlacedReg, UnitRegs};

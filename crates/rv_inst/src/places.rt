@@ -6,10 +6,10 @@ ghost use Rattle.rv_base.specs.declared.call.ArgPair.{ArgPair};
 ghost use Rattle.rv_base.specs.declared.call.RetPair.{RetPair};
 ghost use Rattle.rv_base.specs.declared.call.CallArgPair.{CallArgPair};
 ghost use Rattle.rv_base.specs.declared.call.CallRetPair.{CallRetPair};
-ghost use Rattle.rv_inst.specs.Rules.{differ_in_class, is_stack_or_frame, is_fifth, class_for, is_outside, location_differs, call_differs, is_misplaced, is_other_class, is_vector, differ_at_places, values_differ};
+ghost use Rattle.rv_inst.specs.Faults.{is_misplaced};
+ghost use Rattle.rv_inst.specs.Rules.{differ_in_class, is_stack_or_frame, is_fifth, class_for, is_outside, location_differs, call_differs, is_other_class, is_vector, differ_at_places, values_differ};
 ghost use Rattle.rv_inst.specs.declared.inst.Family.TheVariants.{Pseudo, Integer, Memory, Calls};
-ghost use Rattle.rv_inst.specs.Operands.{all_of, written_in};
-ghost use Rattle.rv_inst.specs.Families.{family_of};
+ghost use Rattle.rv_inst.specs.Operands.{family_of, all_of, written_in};
 
 use crate::addresses::address_has;
 use crate::clashes::same_class;

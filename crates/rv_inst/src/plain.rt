@@ -2,8 +2,7 @@
 
 ghost use Rattle.std.specs.Prelude.{◌≡◌, true, not, ◌&&◌, [], ◌∷◌, ◌++◌};
 ghost use Rattle.std.specs.List.{list_all, list_any};
-ghost use Rattle.rv_inst.specs.Families.{family_of};
-ghost use Rattle.rv_inst.specs.Operands.{target_labels};
+ghost use Rattle.rv_inst.specs.Operands.{family_of, target_labels};
 ghost use Rattle.rv_inst.specs.Rules.{is_buffer_label, is_fallthrough};
 ghost use Rattle.rv_inst.specs.declared.inst.Family.TheVariants.{Integer, Memory, Control};
 ghost use Rattle.rv_inst.specs.Plain.{is_usable, is_plain_address, is_plain, IsPlain};

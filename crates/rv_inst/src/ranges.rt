@@ -4,7 +4,8 @@ ghost use Rattle.std.specs.Prelude.{◌≡◌, ◌^◌, not, nat_le, ◌||◌};
 ghost use Rattle.std.specs.List.{list_any};
 ghost use Rattle.rv_base.specs.Regs.{class_of};
 ghost use Rattle.rv_ops.specs.Operations.{immediate_of, shift_limit};
-ghost use Rattle.rv_inst.specs.Rules.{is_float_type, is_high, is_int_type, is_movable, is_word_type, has_bad_type, is_beyond, is_out_of_range, has_empty_table, has_bad_size};
+ghost use Rattle.rv_inst.specs.Faults.{has_bad_type, is_out_of_range, has_empty_table, has_bad_size};
+ghost use Rattle.rv_inst.specs.Rules.{is_float_type, is_high, is_int_type, is_movable, is_word_type, is_beyond};
 
 use crate::addresses::is_distant;
 use crate::inst::Inst;

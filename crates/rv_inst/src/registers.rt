@@ -2,9 +2,8 @@
 
 ghost use Rattle.std.specs.Prelude.{◌≡◌, [], ◌∷◌, ◌++◌};
 ghost use Rattle.std.specs.List.{list_any};
-ghost use Rattle.rv_inst.specs.Operands.{arg_registers, ret_registers, use_registers, location_registers, def_registers, all_of, written_in, unwind_registers, inst_registers};
+ghost use Rattle.rv_inst.specs.Operands.{family_of, arg_registers, ret_registers, use_registers, location_registers, def_registers, all_of, written_in, unwind_registers, inst_registers};
 ghost use Rattle.rv_inst.specs.declared.inst.Family.TheVariants.{Pseudo, Integer, Memory, Control, Loop, Symbols, Calls};
-ghost use Rattle.rv_inst.specs.Families.{family_of};
 ghost use Rattle.rv_inst.specs.RegisterTests.{test_of};
 ghost use Rattle.rv_inst.specs.Rules.{is_x, is_real_x, is_reserved_x, is_stack_or_frame};
 

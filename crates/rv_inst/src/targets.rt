@@ -1,8 +1,7 @@
 //! The labels and constants that instructions name.
 
 ghost use Rattle.std.specs.Prelude.{◌≡◌, option_copied};
-ghost use Rattle.rv_inst.specs.Families.{family_of};
-ghost use Rattle.rv_inst.specs.Operands.{handler_label, table_of, targets_of, try_call_of};
+ghost use Rattle.rv_inst.specs.Operands.{family_of, handler_label, table_of, targets_of, try_call_of};
 ghost use Rattle.rv_inst.specs.declared.inst.Family.TheVariants.{Memory, Control};
 
 use crate::addresses::address_targets;

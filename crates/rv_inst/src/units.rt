@@ -1,24 +1,39 @@
-//! Instructions that are one word of a unit: their registers, each with the class that its place asks, their fields, and their traps.
+//! Instructions that are one word of a unit: their registers, each with the class that its place asks, their fields, their traps, and
+//! their words.
 
-ghost use Rattle.std.specs.Prelude.{◌≡◌};
+ghost use Rattle.std.specs.Prelude.{◌≡◌, IfSome, None, Some};
 ghost use Rattle.std.specs.List.{list_any};
-ghost use Rattle.rv_inst.specs.Families.{family_of};
-ghost use Rattle.rv_inst.specs.Operands.{inst_registers};
+ghost use Rattle.rv_base.specs.declared.flags.IsaFlags.{IsaFlags};
+ghost use Rattle.rv_machine.specs.Decode.{decode};
+ghost use Rattle.rv_inst.specs.Faults.{has_bad_rounding, has_bad_width, is_misplaced};
+ghost use Rattle.rv_inst.specs.Operands.{family_of, inst_registers};
 ghost use Rattle.rv_inst.specs.RegisterTests.{test_of, place_test};
-ghost use Rattle.rv_inst.specs.Rules.{is_not_of, is_misplaced, has_bad_rounding, has_bad_width};
-ghost use Rattle.rv_inst.specs.UnitWords.{conversion_trap, place, places_in, registers_in, trap_in, unit_word};
+ghost use Rattle.rv_inst.specs.Rules.{is_not_of};
+ghost use Rattle.rv_inst.specs.UnitWords.{IsFineUnit, UnitWord, all_replaced, conversion_trap, place, places_in, registers_in, regs, trap_in, unit_regs, unit_word, with_registers};
 ghost use Rattle.rv_inst.specs.declared.inst.Family.TheVariants.{Float};
 
 use crate::clashes::same_class;
 use crate::inst::Inst;
 use crate::registers::{RegisterTest, holds};
-use rv_base::{Reg, RegClass, TrapCode};
+use rv_base::{Reg, RegClass, TrapCode, WritableReg};
+use rv_encode::{
+    encode_csr_imm, encode_csr_reg, encode_fli, encode_fp_rr, encode_fp_rrr, encode_fp_rrrr,
+};
 
 /// A register of an instruction, and the class that its place asks.
 #[derive(Clone, Copy, Debug, PartialEq, Eq)]
 pub struct PlacedReg {
     pub class: RegClass,
     pub reg: Reg,
+}
+
+/// The registers of an instruction of a unit, those that it has: that of its result, and those that it reads.
+#[derive(Clone, Copy, Debug, PartialEq, Eq)]
+pub struct UnitRegs {
+    pub rd: Option<WritableReg>,
+    pub rs1: Option<Reg>,
+    pub rs2: Option<Reg>,
+    pub rs3: Option<Reg>,
 }
 
 /// What is asked of a register in its place.
@@ -157,6 +172,144 @@ impl Inst {
             _ => None,
         }
     }
+
+    /// The word of an instruction of a unit; of any other 0.
+    pub fn unit_bits(&self) -> u32
+        requires fine { IfSome (unit_word self.now) (λ (w : UnitWord). IsFineUnit w) }
+        ensures decodes { (w : UnitWord) → unit_word self.now ≡ Some w → (flags : IsaFlags) → decode flags result ≡ Some w.operation }
+        ensures others { unit_word self.now ≡ None → result ≡ 0 }
+    {
+        match self {
+            Inst::Fli { width, imm, rd } => encode_fli(*width, *imm, *rd),
+            Inst::FpuRR {
+                alu_op,
+                width,
+                frm,
+                rd,
+                rs,
+            } => encode_fp_rr(*alu_op, *width, *frm, *rd, *rs),
+            Inst::FpuRRR {
+                alu_op,
+                width,
+                frm,
+                rd,
+                rs1,
+                rs2,
+            } => encode_fp_rrr(*alu_op, *width, *frm, *rd, *rs1, *rs2),
+            Inst::FpuRRRR {
+                alu_op,
+                width,
+                frm,
+                rd,
+                rs1,
+                rs2,
+                rs3,
+            } => encode_fp_rrrr(*alu_op, *width, *frm, *rd, *rs1, *rs2, *rs3),
+            Inst::CsrReg { op, rd, rs, csr } => encode_csr_reg(*op, *rd, *rs, *csr),
+            Inst::CsrImm { op, rd, csr, imm } => encode_csr_imm(*op, *rd, *csr, *imm),
+            _ => 0,
+        }
+    }
+
+    /// The registers of an instruction of a unit; any other has none of these.
+    pub fn unit_regs(&self) -> UnitRegs
+        ensures { result ≡ unit_regs self.now }
+    {
+        match self {
+            Inst::Fli { rd, .. } => regs(Some(*rd), None, None, None),
+            Inst::FpuRR { rd, rs, .. } => regs(Some(*rd), Some(*rs), None, None),
+            Inst::FpuRRR { rd, rs1, rs2, .. } => regs(Some(*rd), Some(*rs1), Some(*rs2), None),
+            Inst::FpuRRRR {
+                rd,
+                rs1,
+                rs2,
+                rs3,
+                ..
+            } => regs(Some(*rd), Some(*rs1), Some(*rs2), Some(*rs3)),
+            Inst::CsrReg { rd, rs, .. } => regs(Some(*rd), Some(*rs), None, None),
+            Inst::CsrImm { rd, .. } => regs(Some(*rd), None, None, None),
+            _ => regs(None, None, None, None),
+        }
+    }
+
+    /// An instruction of a unit with these registers in the places that it has, where they are given; any other is as it was.
+    #[tactic(auto, using(crate::proofs::UnitWords::own_put_back, crate::proofs::UnitWords::registers_after))]
+    pub fn with_registers(self, registers: UnitRegs) -> Inst
+        ensures same_kind { result ≡ with_registers self registers }
+        ensures given { unit_regs result ≡ all_replaced registers (unit_regs self) }
+        ensures own { registers ≡ unit_regs self → result ≡ self }
+    {
+        match self {
+            Inst::Fli { width, imm, rd } => {
+                let rd = registers.rd.unwrap_or(rd);
+                Inst::Fli { width, imm, rd }
+            }
+            Inst::FpuRR {
+                alu_op,
+                width,
+                frm,
+                rd,
+                rs,
+            } => Inst::FpuRR {
+                alu_op,
+                width,
+                frm,
+                rd: registers.rd.unwrap_or(rd),
+                rs: registers.rs1.unwrap_or(rs),
+            },
+            Inst::FpuRRR {
+                alu_op,
+                width,
+                frm,
+                rd,
+                rs1,
+                rs2,
+            } => Inst::FpuRRR {
+                alu_op,
+                width,
+                frm,
+                rd: registers.rd.unwrap_or(rd),
+                rs1: registers.rs1.unwrap_or(rs1),
+                rs2: registers.rs2.unwrap_or(rs2),
+            },
+            Inst::FpuRRRR {
+                alu_op,
+                width,
+                frm,
+                rd,
+                rs1,
+                rs2,
+                rs3,
+            } => Inst::FpuRRRR {
+                alu_op,
+                width,
+                frm,
+                rd: registers.rd.unwrap_or(rd),
+                rs1: registers.rs1.unwrap_or(rs1),
+                rs2: registers.rs2.unwrap_or(rs2),
+                rs3: registers.rs3.unwrap_or(rs3),
+            },
+            Inst::CsrReg { op, rd, rs, csr } => Inst::CsrReg {
+                op,
+                rd: registers.rd.unwrap_or(rd),
+                rs: registers.rs1.unwrap_or(rs),
+                csr,
+            },
+            Inst::CsrImm { op, rd, csr, imm } => Inst::CsrImm {
+                op,
+                rd: registers.rd.unwrap_or(rd),
+                csr,
+                imm,
+            },
+            other => other,
+        }
+    }
+}
+
+fn regs(rd: Option<WritableReg>, rs1: Option<Reg>, rs2: Option<Reg>, rs3: Option<Reg>) -> UnitRegs
+    ensures { result ≡ regs rd rs1 rs2 rs3 }
+{
+    UnitRegs { rd, rs1, rs2, rs3 }
 }
 
 fn conversion_trap(converts: bool) -> Option<TrapCode>

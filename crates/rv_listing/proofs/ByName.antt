@@ -12,8 +12,8 @@ use Rattle.rv_ops.specs.declared.csr.CSR.{CSR}
 use Rattle.rv_ops.specs.declared.csr.CSR.TheVariants.{Frm}
 use Rattle.rv_ops.specs.Csr.{csr_reg_name, csr_imm_name, csr_name}
 use Rattle.rv_ops.specs.Fpu.{fpu_rr_listed, fpu_rrrr_listed}
-use Rattle.rv_listing.specs.Csr.{every_csr_reg, csr_reg, every_csr_imm, csr_imm, every_csr, csr}
-use Rattle.rv_listing.specs.Floats.{every_fpu_rr, fpu_rr, every_fpu_rrrr, fpu_rrrr}
+use Rattle.rv_listing.specs.Csr.{csr_reg, csr_imm, csr}
+use Rattle.rv_listing.specs.Floats.{every_fpu_rr, fpu_rr, fpu_rrrr}
 
 pub fpu_rr_found : (x : FpuOPRR) → fpu_rr (fpu_rr_listed x) ≡ Some x
 unfolding fpu_rr every_fpu_rr
@@ -21,20 +21,20 @@ fpu_rr_found Fsqrt = refl
 fpu_rr_found _ = refl
 
 pub fpu_rrrr_found : (x : FpuOPRRRR) → fpu_rrrr (fpu_rrrr_listed x) ≡ Some x
-unfolding fpu_rrrr every_fpu_rrrr
+unfolding fpu_rrrr
 fpu_rrrr_found Fmadd = refl
 fpu_rrrr_found _ = refl
 
 pub csr_reg_found : (x : CsrRegOP) → csr_reg (csr_reg_name x) ≡ Some x
-unfolding csr_reg every_csr_reg
+unfolding csr_reg
 csr_reg_found CsrRW = refl
 csr_reg_found _ = refl
 
 pub csr_imm_found : (x : CsrImmOP) → csr_imm (csr_imm_name x) ≡ Some x
-unfolding csr_imm every_csr_imm
+unfolding csr_imm
 csr_imm_found CsrRWI = refl
 csr_imm_found _ = refl
 
 pub csr_found : (x : CSR) → csr (csr_name x) ≡ Some x
-unfolding csr every_csr
+unfolding csr
 csr_found Frm = refl

@@ -29,18 +29,14 @@ use Rattle.rv_listing.specs.declared.comparisons.TheConstants.{SLOTS, FACTOR}
 use Rattle.rv_listing.specs.declared.operations.TheConstants.{RRR_SLOTS, RRR_FACTOR, RRI_SLOTS, RRI_FACTOR, LOAD_SLOTS, LOAD_FACTOR, STORE_SLOTS, STORE_FACTOR}
 use Rattle.rv_listing.specs.declared.floats.TheConstants.{FPU_RRR_SLOTS, FPU_RRR_FACTOR, WIDTH_SLOTS, WIDTH_FACTOR, FRM_SLOTS, FRM_FACTOR}
 use Rattle.rv_listing.specs.Floats.{every_fpu_rrr, fpu_rrr, every_width, fpu_width, every_frm, rounding_mode}
-use Rattle.rv_listing.specs.Slots.{candidate, slot, key}
+use Rattle.rv_listing.specs.Slots.{candidate, slot, key, checked}
 use Rattle.rv_listing.specs.declared.form_names.TheConstants.{FORM_SLOTS, FORM_FACTOR}
 use Rattle.rv_listing.specs.declared.form_names.Form.{Form}
 use Rattle.rv_listing.specs.declared.form_names.Form.TheVariants as forms
-use Rattle.rv_listing.specs.FormNames.{form_name, every_form, form_named}
+use Rattle.rv_listing.specs.declared.form_names.LoopForm.TheVariants as loops
+use Rattle.rv_listing.specs.declared.form_names.FloatForm.TheVariants as floats
+use Rattle.rv_listing.specs.Forms.{form_of, form_name, every_form, form_named}
 use Rattle.rv_listing.specs.Operations.{every_rrr, alu_rrr, every_rri, alu_rri, every_load, load_op, every_store, store_op}
-
--- where a name is found, a word that is this name gives what it names
-pub found_by_name : {A : Type 0} (named : List ℕ → Option A) (name : A → List ℕ) → ((a : A) → named (name a) ≡ Some a) → (w : List ℕ) (r : Option A) → r ≡ named w → (a : A) → w ≡ name a → r ≡ Some a
-found_by_name named name found w r reads a same = reads ∙ ap named same ∙ found a
-
--- ---- by slots
 
 find_passes : {A : Type 0} (p : A → Bool) (xs : List A) (a : A) → find p xs ≡ Some a → p a ≡ true
 find_passes p [] a e = absurd (cc)
@@ -50,15 +46,11 @@ find_passes {A} p (x ∷ xs) a e = on (p x) refl (find_passes p xs a) e
     on true passes later found = let same : x ≡ a = cc in ap p (sym same) ∙ passes
     on false fails later found = later found
 
--- the one that may have the name, where it has
-abbrev pub checked : {A : Type 0} → (A → List ℕ) → List ℕ → Option A → Option A
-checked name w None = None
-checked name w (Some a) = cond (bytes_eq w (name a)) (Some a) None
-
 -- Where each name's slot holds what it names, a word is found by its slot.
 pub by_slot : {A : Type 0} (name : A → List ℕ) (every : List A) (at : List ℕ → Option A)
     → ((a : A) → find (λ b. bytes_eq (name a) (name b)) every ≡ Some a) → ((a : A) → at (name a) ≡ Some a)
     → (w : List ℕ) → checked name w (at w) ≡ find (λ b. bytes_eq w (name b)) every
+unfolding checked
 by_slot {A} name every at found hit w = step (find (λ b. bytes_eq w (name b)) every) refl
   where
     same_name : (a : A) → bytes_eq w (name a) ≡ true → w ≡ name a
@@ -80,15 +72,6 @@ by_slot {A} name every at found hit w = step (find (λ b. bytes_eq w (name b)) e
         let passes : bytes_eq w (name a) ≡ true = find_passes (λ b. bytes_eq w (name b)) every a e in
         let here : at w ≡ Some a = ap at (same_name a passes) ∙ hit a in
         ap (checked name w) here ∙ ap (λ t. cond t (Some a) None) passes
-
-pub slot_none : {A : Type 0} (name : A → List ℕ) (w : List ℕ) (at r : Option A) → checked name w at ≡ r → at ≡ None → None ≡ r
-slot_none name w at r is none = ap (checked name w) (sym none) ∙ is
-
-pub slot_same : {A : Type 0} (name : A → List ℕ) (w : List ℕ) (at r : Option A) (a : A) → checked name w at ≡ r → at ≡ Some a → bytes_eq w (name a) ≡ true → Some a ≡ r
-slot_same name w at r a is some same = ap (λ t. cond t (Some a) None) (sym same) ∙ ap (checked name w) (sym some) ∙ is
-
-pub slot_other : {A : Type 0} (name : A → List ℕ) (w : List ℕ) (at r : Option A) (a : A) → checked name w at ≡ r → at ≡ Some a → bytes_eq w (name a) ≡ false → None ≡ r
-slot_other name w at r a is some other = ap (λ t. cond t (Some a) None) (sym other) ∙ ap (checked name w) (sym some) ∙ is
 
 -- ---- each table
 
@@ -164,13 +147,17 @@ unfolding cond_code
 cc_by_slot = by_slot name_of every (candidate every SLOTS FACTOR) cc_found cc_hit
 
 form_found : (form : Form) → form_named (form_name form) ≡ Some form
-unfolding form_named every_form
+unfolding form_named every_form form_of
 form_found forms.Nop0 = refl
+form_found (forms.Loop loops.Popcnt) = refl
+form_found (forms.Float floats.Fli) = refl
 form_found _ = refl
 
 form_hit : (form : Form) → candidate every_form FORM_SLOTS FORM_FACTOR (form_name form) ≡ Some form
-unfolding every_form candidate slot key
+unfolding every_form form_of candidate slot key
 form_hit forms.Nop0 = refl
+form_hit (forms.Loop loops.Popcnt) = refl
+form_hit (forms.Float floats.Fli) = refl
 form_hit _ = refl
 
 pub form_by_slot : (w : List ℕ) → checked form_name w (candidate every_form FORM_SLOTS FORM_FACTOR w) ≡ form_named w

@@ -10,23 +10,14 @@ use Rattle.rv_ops.specs.declared.csr.CSR.{CSR}
 use Rattle.rv_ops.specs.declared.csr.CSR.TheVariants.{Frm}
 use Rattle.rv_ops.specs.Csr.{csr_reg_name, csr_imm_name, csr_name}
 
-unfoldable pub every_csr_reg : List CsrRegOP
-every_csr_reg = CsrRW ∷ CsrRS ∷ CsrRC ∷ []
-
 -- the operation of a register that has this mnemonic
 unfoldable pub csr_reg : List ℕ → Option CsrRegOP
-csr_reg w = find (λ op. bytes_eq w (csr_reg_name op)) every_csr_reg
-
-unfoldable pub every_csr_imm : List CsrImmOP
-every_csr_imm = CsrRWI ∷ CsrRSI ∷ CsrRCI ∷ []
+csr_reg w = find (λ op. bytes_eq w (csr_reg_name op)) (CsrRW ∷ CsrRS ∷ CsrRC ∷ [])
 
 -- that of an immediate
 unfoldable pub csr_imm : List ℕ → Option CsrImmOP
-csr_imm w = find (λ op. bytes_eq w (csr_imm_name op)) every_csr_imm
-
-unfoldable pub every_csr : List CSR
-every_csr = Frm ∷ []
+csr_imm w = find (λ op. bytes_eq w (csr_imm_name op)) (CsrRWI ∷ CsrRSI ∷ CsrRCI ∷ [])
 
 -- the register of this name
 unfoldable pub csr : List ℕ → Option CSR
-csr w = find (λ register. bytes_eq w (csr_name register)) every_csr
+csr w = find (λ register. bytes_eq w (csr_name register)) (Frm ∷ [])

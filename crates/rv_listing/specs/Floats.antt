@@ -36,12 +36,9 @@ every_fpu_rrr =
 unfoldable pub fpu_rrr : List ℕ → Option FpuOPRRR
 fpu_rrr w = find (λ op. bytes_eq w (fpu_rrr_listed op)) every_fpu_rrr
 
-unfoldable pub every_fpu_rrrr : List FpuOPRRRR
-every_fpu_rrrr = rrrr.Fmadd ∷ rrrr.Fmsub ∷ rrrr.Fnmsub ∷ rrrr.Fnmadd ∷ []
-
 -- the operation of three that has this name
 unfoldable pub fpu_rrrr : List ℕ → Option FpuOPRRRR
-fpu_rrrr w = find (λ op. bytes_eq w (fpu_rrrr_listed op)) every_fpu_rrrr
+fpu_rrrr w = find (λ op. bytes_eq w (fpu_rrrr_listed op)) (rrrr.Fmadd ∷ rrrr.Fmsub ∷ rrrr.Fnmsub ∷ rrrr.Fnmadd ∷ [])
 
 unfoldable pub every_width : List FpuOPWidth
 every_width = H ∷ S ∷ D ∷ Q ∷ []

@@ -16,7 +16,6 @@ pub mod FlagsHeader
 pub mod FrameHeader
 pub mod ConstantHeader
 pub mod UnwindSteps
-pub mod FormNames
 pub mod Forms
 pub mod Reading
 pub mod CodeRanges

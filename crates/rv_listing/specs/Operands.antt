@@ -76,11 +76,8 @@ unfoldable pub leading : List ℕ → Option Bool
 leading = either (codes "1") (codes "0")
 
 -- a number of 64 bits, signed
-abbrev pub fits_i64 : ℤ → Bool
-fits_i64 n = int_le (negsuc (2 ^ 63 - 1)) n && int_le n (pos (2 ^ 63 - 1))
-
 unfoldable pub offset_of : ℤ → Option ℤ
-offset_of n = if fits_i64 n then Some n else None
+offset_of n = if int_le (negsuc (2 ^ 63 - 1)) n && int_le n (pos (2 ^ 63 - 1)) then Some n else None
 
 -- an offset in bytes, of either sign
 unfoldable pub offset : List ℕ → Option ℤ

@@ -1,13 +1,9 @@
 -- A whole listing: the job that it means, or its first bad line.
-use Rattle.std.specs.Prelude.{◌≡◌, ℕ, ◌+◌, Bool, not, ◌&&◌, List, [], ◌∷◌, ◌++◌, length, Option, Some, None, Result, Ok, Err, nat_lt, ◌==◌, if◌then◌else◌, codes}
+use Rattle.std.specs.Prelude.{◌≡◌, ℕ, ◌+◌, Bool, not, ◌&&◌, List, [], ◌∷◌, ◌++◌, length, Option, Some, None, Result, Ok, Err, nat_lt, nat_le, ◌==◌, if◌then◌else◌, codes}
 use Rattle.std.specs.List.{list_all}
 use Rattle.std.specs.Str.{bytes_eq}
-use Rattle.rv_base.specs.declared.constant.Constant.{Constant}
-use Rattle.rv_base.specs.declared.frame.FrameLayout.{FrameLayout}
-use Rattle.rv_base.specs.declared.flags.IsaFlags.{IsaFlags}
 use Rattle.rv_base.specs.Flags.{no_flags}
 use Rattle.rv_base.specs.Frame.{no_frame}
-use Rattle.rv_inst.specs.declared.inst.Line.{Line}
 use Rattle.rv_inst.specs.declared.job.Job.{Job}
 use Rattle.rv_listing.specs.Tokens.{◌>>=◌, starts, lines_of, words_of}
 use Rattle.rv_listing.specs.Forms.{line_form}
@@ -30,54 +26,34 @@ no_job = record { lines = []; flags = no_flags; frame = no_frame; constants = []
 abbrev pub no_draft : Draft
 no_draft = record { job = no_job; place = AtFlags }
 
-abbrev pub and_flags : Draft → IsaFlags → Draft
-and_flags draft flags = record { job = record draft.job { flags = flags }; place = AtFrame }
-
-abbrev pub and_frame : Draft → FrameLayout → Draft
-and_frame draft frame = record { job = record draft.job { frame = frame }; place = AtConstants }
-
-abbrev pub and_constant : Draft → Constant → Draft
-and_constant draft constant = record { job = record draft.job { constants = draft.job.constants ++ constant ∷ [] }; place = AtConstants }
-
-abbrev pub and_line : Draft → Line → Draft
-and_line draft line = record { job = record draft.job { lines = draft.job.lines ++ line ∷ [] }; place = AtLines }
-
 -- what a comment may have: ASCII, and no CR
 abbrev pub is_plain : ℕ → Bool
 is_plain c = nat_lt c 128 && not (c == 13)
 
--- the flags of these words, where their header line may stand
-abbrev pub flags_at : Place → List (List ℕ) → Option IsaFlags
-flags_at AtFlags ws = flags_form ws
-flags_at AtFrame ws = None
-flags_at AtConstants ws = None
-flags_at AtLines ws = None
+-- the places in the order of a listing
+abbrev pub order : Place → ℕ
+order AtFlags = 0
+order AtFrame = 1
+order AtConstants = 2
+order AtLines = 3
 
--- the frame of these words, where its header line may stand
-abbrev pub frame_at : Place → List (List ℕ) → Option FrameLayout
-frame_at AtFlags ws = frame_form ws
-frame_at AtFrame ws = frame_form ws
-frame_at AtConstants ws = None
-frame_at AtLines ws = None
-
--- the constant of these words, where the header line of one may stand
-abbrev pub constant_at : Place → List (List ℕ) → Option Constant
-constant_at AtFlags ws = constant_form ws
-constant_at AtFrame ws = constant_form ws
-constant_at AtConstants ws = constant_form ws
-constant_at AtLines ws = None
+-- what a header line says, where it may stand: up to the last place for its kind
+abbrev pub up_to : {A : Type 0} → Place → Place → Option A → Option A
+up_to last place said = if nat_le (order place) (order last) then said else None
 
 abbrev pub with_flags : Draft → List (List ℕ) → Option Draft
-with_flags draft ws = flags_at draft.place ws >>= λ flags. Some (and_flags draft flags)
+with_flags draft ws = up_to AtFlags draft.place (flags_form ws) >>= λ flags. Some (record { job = record draft.job { flags = flags }; place = AtFrame })
 
 abbrev pub with_frame : Draft → List (List ℕ) → Option Draft
-with_frame draft ws = frame_at draft.place ws >>= λ frame. Some (and_frame draft frame)
+with_frame draft ws = up_to AtFrame draft.place (frame_form ws) >>= λ frame. Some (record { job = record draft.job { frame = frame }; place = AtConstants })
 
 abbrev pub with_constant : Draft → List (List ℕ) → Option Draft
-with_constant draft ws = constant_at draft.place ws >>= λ constant. Some (and_constant draft constant)
+with_constant draft ws =
+    up_to AtConstants draft.place (constant_form ws) >>= λ constant.
+    Some (record { job = record draft.job { constants = draft.job.constants ++ constant ∷ [] }; place = AtConstants })
 
 abbrev pub with_form : Draft → List ℕ → List (List ℕ) → Option Draft
-with_form draft name ws = line_form name ws >>= λ line. Some (and_line draft line)
+with_form draft name ws = line_form name ws >>= λ line. Some (record { job = record draft.job { lines = draft.job.lines ++ line ∷ [] }; place = AtLines })
 
 -- a header line, or a line of the job
 unfoldable pub with_named : Draft → List ℕ → List (List ℕ) → Option Draft

@@ -1,5 +1,6 @@
 -- Names by a table of slots.
-use Rattle.std.specs.Prelude.{ℕ, ◌+◌, ◌-◌, ◌*◌, ◌/◌, ◌%◌, ◌^◌, List, Option, length, slice_get, slice_index}
+use Rattle.std.specs.Prelude.{ℕ, ◌+◌, ◌-◌, ◌*◌, ◌/◌, ◌%◌, ◌^◌, List, Option, Some, None, if◌then◌else◌, length, slice_get, slice_index}
+use Rattle.std.specs.Str.{bytes_eq}
 
 -- the number of a word: its first three bytes, its last two, where a byte that it lacks is 0, and how many it has
 unfoldable pub key : List ℕ → ℕ
@@ -12,3 +13,8 @@ slot factor w = key w * factor % 2 ^ 64 / 2 ^ 56
 -- what the word's slot names
 unfoldable pub candidate : {A : Type 0} → List A → List ℕ → ℕ → List ℕ → Option A
 candidate every slots factor w = slice_get every (slice_index slots (slot factor w))
+
+-- what may have this name, where it has
+unfoldable pub checked : {A : Type 0} → (A → List ℕ) → List ℕ → Option A → Option A
+checked name w None = None
+checked name w (Some a) = if bytes_eq w (name a) then Some a else None

@@ -9,25 +9,13 @@ use Rattle.rv_listing.specs.Fields.{done, ◌⊛◌, whole}
 use Rattle.rv_listing.specs.Registers.{register}
 use Rattle.rv_listing.specs.Operands.{natural_32}
 
-unfoldable pub push_form : List (List ℕ) → Option UnwindInst
-push_form = whole (done PushFrameRegs ⊛ natural_32)
-
-unfoldable pub new_frame_form : List (List ℕ) → Option UnwindInst
-new_frame_form = whole (done DefineNewFrame ⊛ natural_32 ⊛ natural_32)
-
-unfoldable pub alloc_form : List (List ℕ) → Option UnwindInst
-alloc_form = whole (done StackAlloc ⊛ natural_32)
-
-unfoldable pub save_form : List (List ℕ) → Option UnwindInst
-save_form = whole (done SaveReg ⊛ natural_32 ⊛ register)
-
 -- a step by its kind and the words after it
 unfoldable pub by_kind : List ℕ → List (List ℕ) → Option UnwindInst
 by_kind kind ws =
-    if bytes_eq kind (codes "push") then push_form ws else
-    if bytes_eq kind (codes "frame") then new_frame_form ws else
-    if bytes_eq kind (codes "alloc") then alloc_form ws else
-    if bytes_eq kind (codes "save") then save_form ws else None
+    if bytes_eq kind (codes "push") then whole (done PushFrameRegs ⊛ natural_32) ws else
+    if bytes_eq kind (codes "frame") then whole (done DefineNewFrame ⊛ natural_32 ⊛ natural_32) ws else
+    if bytes_eq kind (codes "alloc") then whole (done StackAlloc ⊛ natural_32) ws else
+    if bytes_eq kind (codes "save") then whole (done SaveReg ⊛ natural_32 ⊛ register) ws else None
 
 abbrev pub step_of : List (List ℕ) → Option UnwindInst
 step_of [] = None

@@ -5,8 +5,7 @@ ghost use Rattle.rv_base.specs.CondCodes.{name_of};
 ghost use Rattle.rv_listing.specs.Comparisons.{cond_code};
 
 use crate::fields::Token;
-use crate::slots::candidate;
-use crate::tokens::is;
+use crate::named::{Named, slot_named};
 use rv_base::IntCC;
 
 /// The ten comparisons.
@@ -37,18 +36,23 @@ const SLOTS: [u8; 256] = [
 
 const FACTOR: u64 = 10517972530174996981;
 
-fn find(w: &[u8]) -> Option<IntCC>
-    ensures { result ≡ cond_code w.now }
-{
-    let code = candidate(&EVERY, &SLOTS, FACTOR, w)?;
-    if is(code.to_static_str().as_bytes(), w) {
-        Some(code)
-    } else {
-        None
+impl Named for IntCC {
+    ghost named = { name_of };
+
+    fn name(self) -> &'static str {
+        self.to_static_str()
     }
 }
 
+#[tactic(auto, using(crate::proofs::BySlot::cc_by_slot), unfolding(crate::specs::Comparisons::every))]
+fn find(w: &[u8]) -> Option<IntCC>
+    ensures { result ≡ cond_code w.now }
+{
+    slot_named(&EVERY, &SLOTS, FACTOR, w)
+}
+
 /// The comparison of this name.
+#[tactic(auto, using(crate::proofs::BySlot::cc_found))]
 pub fn cc_named(w: &[u8]) -> Option<IntCC>
     ensures reads { result ≡ cond_code w.now }
     ensures named { (code : IntCC) → w.now ≡ name_of code → result ≡ Some code }

@@ -19,7 +19,7 @@ impl Named for CsrRegOP {
 }
 
 /// The operation of a register that has this mnemonic.
-#[tactic(auto, unfolding(crate::specs::Csr::csr_reg, crate::specs::Csr::every_csr_reg))]
+#[tactic(auto, using(crate::proofs::ByName::csr_reg_found), unfolding(crate::specs::Csr::csr_reg))]
 pub fn csr_reg_named(w: &[u8]) -> Option<CsrRegOP>
     ensures reads { result ≡ csr_reg w.now }
     ensures named { (x : CsrRegOP) → w.now ≡ csr_reg_name x → result ≡ Some x }
@@ -46,7 +46,7 @@ impl Named for CsrImmOP {
 }
 
 /// The operation of an immediate that has this mnemonic.
-#[tactic(auto, unfolding(crate::specs::Csr::csr_imm, crate::specs::Csr::every_csr_imm))]
+#[tactic(auto, using(crate::proofs::ByName::csr_imm_found), unfolding(crate::specs::Csr::csr_imm))]
 pub fn csr_imm_named(w: &[u8]) -> Option<CsrImmOP>
     ensures reads { result ≡ csr_imm w.now }
     ensures named { (x : CsrImmOP) → w.now ≡ csr_imm_name x → result ≡ Some x }
@@ -73,7 +73,7 @@ impl Named for CSR {
 }
 
 /// The register of this name.
-#[tactic(auto, unfolding(crate::specs::Csr::csr, crate::specs::Csr::every_csr))]
+#[tactic(auto, using(crate::proofs::ByName::csr_found), unfolding(crate::specs::Csr::csr))]
 pub fn csr_named(w: &[u8]) -> Option<CSR>
     ensures reads { result ≡ csr w.now }
     ensures named { (x : CSR) → w.now ≡ csr_name x → result ≡ Some x }

@@ -1,11 +1,14 @@
 //! The fields of a line: a token for each.
 
-ghost use Rattle.std.specs.Prelude.{◌≡◌, ℕ, List, Option};
+ghost use Rattle.std.specs.Prelude.{◌≡◌, ℕ, List, Option, Some};
+ghost use Rattle.rv_inst.specs.declared.inst.Line.TheVariants as kinds;
 ghost use Rattle.rv_listing.specs.Tokens.{words_after};
-ghost use Rattle.rv_listing.specs.Fields.{field, no_more, Takes, Makes};
+ghost use Rattle.rv_listing.specs.Fields.{field, no_more, Takes, TakesFirst, Makes};
 ghost use Rattle.rv_listing.specs.Operands.{either};
 
 use crate::tokens::{is, next_word};
+use rv_inst::{Boxed, Inst, Line};
+use std::alloc::Global;
 use thiserror::Error;
 
 /// What one word of a line stands for.
@@ -33,6 +36,17 @@ pub fn field<T: Token>(rest: &[u8]) -> Option<(T, &[u8])>
     let (w, rest) = next_word(rest)?;
     let x = T::read(w)?;
     Some((x, rest))
+}
+
+/// The same, of a line that is put together on the heap.
+#[inline(always)]
+pub fn next_field<T: Token>(rest: &[u8]) -> Result<(T, &[u8]), LineError>
+    ensures { TakesFirst result (field T.reads (words_after rest.now)) }
+{
+    match field(rest) {
+        Some(taken) => Ok(taken),
+        None => Err(LineError::NotAllowed),
+    }
 }
 
 /// The next word, as one of two: whether it is the first.
@@ -68,5 +82,24 @@ pub fn allowed<T: Drop>(made: Option<T>) -> Result<T, LineError>
     match made {
         Some(made) => Ok(made),
         None => Err(LineError::NotAllowed),
+    }
+}
+
+/// An instruction as a line, where no word is left.
+#[inline(always)]
+pub fn put(inst: Inst, rest: &[u8]) -> Option<Line>
+    ensures { result ≡ no_more (kinds.Inst inst, words_after rest.now) }
+{
+    whole(Line::Inst(inst), rest)
+}
+
+/// A value on the heap.
+#[inline(always)]
+pub fn boxed<T: Drop>(alloc: Global, value: T) -> Result<Boxed<T>, LineError>
+    ensures { Makes result (Some value) }
+{
+    match Boxed::new(alloc, value) {
+        Ok(value) => Ok(value),
+        Err(_) => Err(LineError::OutOfMemory),
     }
 }

@@ -6,9 +6,8 @@ ghost use Rattle.rv_ops.specs.Fpu.{fpu_rr_listed, fpu_rrr_listed, fpu_rrrr_liste
 ghost use Rattle.rv_listing.specs.Floats.{fpu_rr, fpu_rrr, fpu_rrrr, fpu_width, rounding_mode, fli_of, fli_constant};
 
 use crate::fields::Token;
-use crate::named::{Named, one_named};
-use crate::slots::candidate;
-use crate::tokens::{is, natural};
+use crate::named::{Named, one_named, slot_named};
+use crate::tokens::natural;
 use rv_ops::{FRM, FliConstant, FpuOPRR, FpuOPRRR, FpuOPRRRR, FpuOPWidth};
 
 const EVERY_FPU_RR: [FpuOPRR; 19] = [
@@ -42,7 +41,7 @@ impl Named for FpuOPRR {
 }
 
 /// The operation of one register that has this name.
-#[tactic(auto, unfolding(crate::specs::Floats::fpu_rr, crate::specs::Floats::every_fpu_rr))]
+#[tactic(auto, using(crate::proofs::ByName::fpu_rr_found), unfolding(crate::specs::Floats::fpu_rr, crate::specs::Floats::every_fpu_rr))]
 pub fn fpu_rr_named(w: &[u8]) -> Option<FpuOPRR>
     ensures reads { result ≡ fpu_rr w.now }
     ensures named { (x : FpuOPRR) → w.now ≡ fpu_rr_listed x → result ≡ Some x }
@@ -90,18 +89,23 @@ const FPU_RRR_SLOTS: [u8; 256] = [
 
 const FPU_RRR_FACTOR: u64 = 10517972530174996981;
 
-fn find_fpu_rrr(w: &[u8]) -> Option<FpuOPRRR>
-    ensures { result ≡ fpu_rrr w.now }
-{
-    let op = candidate(&EVERY_FPU_RRR, &FPU_RRR_SLOTS, FPU_RRR_FACTOR, w)?;
-    if is(op.listed_name().as_bytes(), w) {
-        Some(op)
-    } else {
-        None
+impl Named for FpuOPRRR {
+    ghost named = { fpu_rrr_listed };
+
+    fn name(self) -> &'static str {
+        self.listed_name()
     }
 }
 
+#[tactic(auto, using(crate::proofs::BySlot::fpu_rrr_by_slot), unfolding(crate::specs::Floats::every_fpu_rrr))]
+fn find_fpu_rrr(w: &[u8]) -> Option<FpuOPRRR>
+    ensures { result ≡ fpu_rrr w.now }
+{
+    slot_named(&EVERY_FPU_RRR, &FPU_RRR_SLOTS, FPU_RRR_FACTOR, w)
+}
+
 /// The operation of two floating-point registers that has this name.
+#[tactic(auto, using(crate::proofs::BySlot::fpu_rrr_found))]
 pub fn fpu_rrr_named(w: &[u8]) -> Option<FpuOPRRR>
     ensures reads { result ≡ fpu_rrr w.now }
     ensures named { (op : FpuOPRRR) → w.now ≡ fpu_rrr_listed op → result ≡ Some op }
@@ -133,7 +137,7 @@ impl Named for FpuOPRRRR {
 }
 
 /// The operation of three registers that has this name.
-#[tactic(auto, unfolding(crate::specs::Floats::fpu_rrrr, crate::specs::Floats::every_fpu_rrrr))]
+#[tactic(auto, using(crate::proofs::ByName::fpu_rrrr_found), unfolding(crate::specs::Floats::fpu_rrrr))]
 pub fn fpu_rrrr_named(w: &[u8]) -> Option<FpuOPRRRR>
     ensures reads { result ≡ fpu_rrrr w.now }
     ensures named { (x : FpuOPRRRR) → w.now ≡ fpu_rrrr_listed x → result ≡ Some x }
@@ -165,18 +169,23 @@ const WIDTH_SLOTS: [u8; 256] = [
 
 const WIDTH_FACTOR: u64 = 10517972530174996981;
 
-fn find_width(w: &[u8]) -> Option<FpuOPWidth>
-    ensures { result ≡ fpu_width w.now }
-{
-    let width = candidate(&EVERY_WIDTH, &WIDTH_SLOTS, WIDTH_FACTOR, w)?;
-    if is(width.to_static_str().as_bytes(), w) {
-        Some(width)
-    } else {
-        None
+impl Named for FpuOPWidth {
+    ghost named = { width_name };
+
+    fn name(self) -> &'static str {
+        self.to_static_str()
     }
 }
 
+#[tactic(auto, using(crate::proofs::BySlot::width_by_slot), unfolding(crate::specs::Floats::every_width))]
+fn find_width(w: &[u8]) -> Option<FpuOPWidth>
+    ensures { result ≡ fpu_width w.now }
+{
+    slot_named(&EVERY_WIDTH, &WIDTH_SLOTS, WIDTH_FACTOR, w)
+}
+
 /// The format of this name.
+#[tactic(auto, using(crate::proofs::BySlot::width_found))]
 pub fn width_named(w: &[u8]) -> Option<FpuOPWidth>
     ensures reads { result ≡ fpu_width w.now }
     ensures named { (width : FpuOPWidth) → w.now ≡ width_name width → result ≡ Some width }
@@ -208,18 +217,23 @@ const FRM_SLOTS: [u8; 256] = [
 
 const FRM_FACTOR: u64 = 10517972530174996981;
 
-fn find_frm(w: &[u8]) -> Option<FRM>
-    ensures { result ≡ rounding_mode w.now }
-{
-    let frm = candidate(&EVERY_FRM, &FRM_SLOTS, FRM_FACTOR, w)?;
-    if is(frm.to_static_str().as_bytes(), w) {
-        Some(frm)
-    } else {
-        None
+impl Named for FRM {
+    ghost named = { frm_name };
+
+    fn name(self) -> &'static str {
+        self.to_static_str()
     }
 }
 
+#[tactic(auto, using(crate::proofs::BySlot::frm_by_slot), unfolding(crate::specs::Floats::every_frm))]
+fn find_frm(w: &[u8]) -> Option<FRM>
+    ensures { result ≡ rounding_mode w.now }
+{
+    slot_named(&EVERY_FRM, &FRM_SLOTS, FRM_FACTOR, w)
+}
+
 /// The rounding mode of this name.
+#[tactic(auto, using(crate::proofs::BySlot::frm_found))]
 pub fn frm_named(w: &[u8]) -> Option<FRM>
     ensures reads { result ≡ rounding_mode w.now }
     ensures named { (frm : FRM) → w.now ≡ frm_name frm → result ≡ Some frm }

@@ -1,10 +1,9 @@
 //! The forms of lines, by the names that begin them.
 
 ghost use Rattle.std.specs.Prelude.{◌≡◌};
-ghost use Rattle.rv_listing.specs.FormNames.{form_name, form_named};
+ghost use Rattle.rv_listing.specs.Forms.{form_name, form_named};
 
-use crate::slots::candidate;
-use crate::tokens::is;
+use crate::named::{Named, slot_named};
 
 /// The form of a line.
 #[derive(Clone, Copy, Debug, PartialEq, Eq)]
@@ -39,10 +38,7 @@ pub enum Form {
     BrTable,
     Udf,
     Jalr,
-    Popcnt,
-    Cltz,
-    Brev8,
-    StackProbeLoop,
+    Loop(LoopForm),
     LoadExtNameGot,
     LoadExtNameNear,
     LoadExtNameFar,
@@ -50,20 +46,35 @@ pub enum Form {
     CallInd,
     ReturnCall,
     ReturnCallInd,
+    Float(FloatForm),
+    Bind,
+}
+
+/// That of a line that computes by a loop.
+#[derive(Clone, Copy, Debug, PartialEq, Eq)]
+pub enum LoopForm {
+    Popcnt,
+    Cltz,
+    Brev8,
+    StackProbeLoop,
+}
+
+/// That of a line that computes with floating-point numbers, or reads and writes their control register.
+#[derive(Clone, Copy, Debug, PartialEq, Eq)]
+pub enum FloatForm {
     Fli,
     FpuRR,
     FpuRRR,
     FpuRRRR,
     CsrReg,
     CsrImm,
-    Bind,
 }
 
-impl Form {
-    /// The word that begins a line of this form.
-    pub fn name(self) -> &'static str
-        ensures { result.now ≡ form_name self }
-    {
+impl Named for Form {
+    ghost named = { form_name };
+
+    #[tactic(auto, unfolding(crate::specs::Forms::form_of))]
+    fn name(self) -> &'static str {
         match self {
             Self::Nop0 => "Nop0",
             Self::Nop4 => "Nop4",
@@ -95,10 +106,10 @@ impl Form {
             Self::BrTable => "BrTable",
             Self::Udf => "Udf",
             Self::Jalr => "Jalr",
-            Self::Popcnt => "Popcnt",
-            Self::Cltz => "Cltz",
-            Self::Brev8 => "Brev8",
-            Self::StackProbeLoop => "StackProbeLoop",
+            Self::Loop(LoopForm::Popcnt) => "Popcnt",
+            Self::Loop(LoopForm::Cltz) => "Cltz",
+            Self::Loop(LoopForm::Brev8) => "Brev8",
+            Self::Loop(LoopForm::StackProbeLoop) => "StackProbeLoop",
             Self::LoadExtNameGot => "LoadExtNameGot",
             Self::LoadExtNameNear => "LoadExtNameNear",
             Self::LoadExtNameFar => "LoadExtNameFar",
@@ -106,12 +117,12 @@ impl Form {
             Self::CallInd => "CallInd",
             Self::ReturnCall => "ReturnCall",
             Self::ReturnCallInd => "ReturnCallInd",
-            Self::Fli => "Fli",
-            Self::FpuRR => "FpuRR",
-            Self::FpuRRR => "FpuRRR",
-            Self::FpuRRRR => "FpuRRRR",
-            Self::CsrReg => "CsrReg",
-            Self::CsrImm => "CsrImm",
+            Self::Float(FloatForm::Fli) => "Fli",
+            Self::Float(FloatForm::FpuRR) => "FpuRR",
+            Self::Float(FloatForm::FpuRRR) => "FpuRRR",
+            Self::Float(FloatForm::FpuRRRR) => "FpuRRRR",
+            Self::Float(FloatForm::CsrReg) => "CsrReg",
+            Self::Float(FloatForm::CsrImm) => "CsrImm",
             Self::Bind => "Bind",
         }
     }
@@ -148,10 +159,10 @@ const EVERY_FORM: [Form; 48] = [
     Form::BrTable,
     Form::Udf,
     Form::Jalr,
-    Form::Popcnt,
-    Form::Cltz,
-    Form::Brev8,
-    Form::StackProbeLoop,
+    Form::Loop(LoopForm::Popcnt),
+    Form::Loop(LoopForm::Cltz),
+    Form::Loop(LoopForm::Brev8),
+    Form::Loop(LoopForm::StackProbeLoop),
     Form::LoadExtNameGot,
     Form::LoadExtNameNear,
     Form::LoadExtNameFar,
@@ -159,12 +170,12 @@ const EVERY_FORM: [Form; 48] = [
     Form::CallInd,
     Form::ReturnCall,
     Form::ReturnCallInd,
-    Form::Fli,
-    Form::FpuRR,
-    Form::FpuRRR,
-    Form::FpuRRRR,
-    Form::CsrReg,
-    Form::CsrImm,
+    Form::Float(FloatForm::Fli),
+    Form::Float(FloatForm::FpuRR),
+    Form::Float(FloatForm::FpuRRR),
+    Form::Float(FloatForm::FpuRRRR),
+    Form::Float(FloatForm::CsrReg),
+    Form::Float(FloatForm::CsrImm),
     Form::Bind,
 ];
 
@@ -184,13 +195,9 @@ const FORM_SLOTS: [u8; 256] = [
 const FORM_FACTOR: u64 = 3520123815354508619;
 
 /// The form of the lines that begin with this word.
+#[tactic(auto, using(crate::proofs::BySlot::form_by_slot), unfolding(crate::specs::Forms::every_form))]
 pub fn form_named(w: &[u8]) -> Option<Form>
     ensures { result ≡ form_named w.now }
 {
-    let form = candidate(&EVERY_FORM, &FORM_SLOTS, FORM_FACTOR, w)?;
-    if is(form.name().as_bytes(), w) {
-        Some(form)
-    } else {
-        None
-    }
+    slot_named(&EVERY_FORM, &FORM_SLOTS, FORM_FACTOR, w)
 }

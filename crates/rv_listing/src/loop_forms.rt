@@ -3,56 +3,25 @@
 ghost use Rattle.std.specs.Prelude.{◌≡◌};
 ghost use Rattle.rv_listing.specs.Tokens.{words_after};
 ghost use Rattle.rv_listing.specs.Fields.{Makes};
-ghost use Rattle.rv_listing.specs.Forms.{popcnt_info_form, popcnt_form, cltz_info_form, cltz_form, brev8_info_form, brev8_form, stack_probe_loop_form};
+ghost use Rattle.rv_listing.specs.Forms.{by_form};
+ghost use Rattle.rv_listing.specs.declared.form_names.Form.TheVariants as forms;
+ghost use Rattle.rv_listing.specs.declared.form_names.LoopForm.TheVariants as loops;
 
-use crate::fields::{LineError, field, flag, whole};
-use rv_inst::{Boxed, Brev8Info, CountInfo, Inst};
+use crate::fields::{LineError, allowed, boxed, flag, next_field, put};
+use crate::form_names::LoopForm;
+use rv_inst::{Brev8Info, CountInfo, Inst, Line};
 use std::alloc::Global;
 
-#[tactic(auto, unfolding(crate::specs::Forms::popcnt_info_form))]
-fn popcnt_info(rest: &[u8]) -> Option<CountInfo>
-    ensures { result ≡ popcnt_info_form (words_after rest.now) }
+#[tactic(auto, unfolding(crate::specs::Forms::form_of))]
+#[inline(never)]
+fn popcnt(alloc: Global, rest: &[u8]) -> Result<Line, LineError>
+    ensures { Makes result (by_form (forms.Loop loops.Popcnt) (words_after rest.now)) }
 {
-    let (sum, rest) = field(rest)?;
-    let (tmp, rest) = field(rest)?;
-    let (step, rest) = field(rest)?;
-    let (rs, rest) = field(rest)?;
-    let (ty, rest) = field(rest)?;
-    whole(
-        CountInfo {
-            sum,
-            tmp,
-            step,
-            rs,
-            ty,
-        },
-        rest,
-    )
-}
-
-#[tactic(auto, unfolding(crate::specs::Forms::popcnt_form))]
-pub(crate) fn popcnt(alloc: Global, rest: &[u8]) -> Result<Inst, LineError>
-    ensures { Makes result (popcnt_form (words_after rest.now)) }
-{
-    let Some(info) = popcnt_info(rest) else {
-        return Err(LineError::NotAllowed);
-    };
-    match Boxed::new(alloc, info) {
-        Ok(info) => Ok(Inst::Popcnt { info }),
-        Err(_) => Err(LineError::OutOfMemory),
-    }
-}
-
-#[tactic(auto, unfolding(crate::specs::Forms::cltz_info_form, crate::specs::Operands::leading))]
-fn cltz_info(rest: &[u8]) -> Option<(bool, CountInfo)>
-    ensures { result ≡ cltz_info_form (words_after rest.now) }
-{
-    let (sum, rest) = field(rest)?;
-    let (tmp, rest) = field(rest)?;
-    let (step, rest) = field(rest)?;
-    let (rs, rest) = field(rest)?;
-    let (leading, rest) = flag(b"1", b"0", rest)?;
-    let (ty, rest) = field(rest)?;
+    let (sum, rest) = next_field(rest)?;
+    let (tmp, rest) = next_field(rest)?;
+    let (step, rest) = next_field(rest)?;
+    let (rs, rest) = next_field(rest)?;
+    let (ty, rest) = next_field(rest)?;
     let info = CountInfo {
         sum,
         tmp,
@@ -60,72 +29,81 @@ fn cltz_info(rest: &[u8]) -> Option<(bool, CountInfo)>
         rs,
         ty,
     };
-    whole((leading, info), rest)
+    let info = boxed(alloc, info)?;
+    allowed(put(Inst::Popcnt { info }, rest))
 }
 
-#[tactic(auto, unfolding(crate::specs::Forms::cltz_form))]
-pub(crate) fn cltz(alloc: Global, rest: &[u8]) -> Result<Inst, LineError>
-    ensures { Makes result (cltz_form (words_after rest.now)) }
+#[tactic(auto, unfolding(crate::specs::Forms::form_of, crate::specs::Operands::leading))]
+#[inline(never)]
+fn cltz(alloc: Global, rest: &[u8]) -> Result<Line, LineError>
+    ensures { Makes result (by_form (forms.Loop loops.Cltz) (words_after rest.now)) }
 {
-    let Some(parts) = cltz_info(rest) else {
-        return Err(LineError::NotAllowed);
+    let (sum, rest) = next_field(rest)?;
+    let (tmp, rest) = next_field(rest)?;
+    let (step, rest) = next_field(rest)?;
+    let (rs, rest) = next_field(rest)?;
+    let (leading, rest) = allowed(flag(b"1", b"0", rest))?;
+    let (ty, rest) = next_field(rest)?;
+    let info = CountInfo {
+        sum,
+        tmp,
+        step,
+        rs,
+        ty,
     };
-    let (leading, info) = parts;
-    match Boxed::new(alloc, info) {
-        Ok(info) => Ok(Inst::Cltz { leading, info }),
-        Err(_) => Err(LineError::OutOfMemory),
-    }
+    let info = boxed(alloc, info)?;
+    allowed(put(Inst::Cltz { leading, info }, rest))
 }
 
-#[tactic(auto, unfolding(crate::specs::Forms::brev8_info_form))]
-fn brev8_info(rest: &[u8]) -> Option<Brev8Info>
-    ensures { result ≡ brev8_info_form (words_after rest.now) }
+#[tactic(auto, unfolding(crate::specs::Forms::form_of))]
+#[inline(never)]
+fn brev8(alloc: Global, rest: &[u8]) -> Result<Line, LineError>
+    ensures { Makes result (by_form (forms.Loop loops.Brev8) (words_after rest.now)) }
 {
-    let (rs, rest) = field(rest)?;
-    let (ty, rest) = field(rest)?;
-    let (step, rest) = field(rest)?;
-    let (tmp, rest) = field(rest)?;
-    let (tmp2, rest) = field(rest)?;
-    let (rd, rest) = field(rest)?;
-    whole(
-        Brev8Info {
-            rs,
-            ty,
-            step,
-            tmp,
-            tmp2,
-            rd,
-        },
-        rest,
-    )
-}
-
-#[tactic(auto, unfolding(crate::specs::Forms::brev8_form))]
-pub(crate) fn brev8(alloc: Global, rest: &[u8]) -> Result<Inst, LineError>
-    ensures { Makes result (brev8_form (words_after rest.now)) }
-{
-    let Some(info) = brev8_info(rest) else {
-        return Err(LineError::NotAllowed);
+    let (rs, rest) = next_field(rest)?;
+    let (ty, rest) = next_field(rest)?;
+    let (step, rest) = next_field(rest)?;
+    let (tmp, rest) = next_field(rest)?;
+    let (tmp2, rest) = next_field(rest)?;
+    let (rd, rest) = next_field(rest)?;
+    let info = Brev8Info {
+        rs,
+        ty,
+        step,
+        tmp,
+        tmp2,
+        rd,
     };
-    match Boxed::new(alloc, info) {
-        Ok(info) => Ok(Inst::Brev8 { info }),
-        Err(_) => Err(LineError::OutOfMemory),
-    }
+    let info = boxed(alloc, info)?;
+    allowed(put(Inst::Brev8 { info }, rest))
 }
 
-#[tactic(auto, unfolding(crate::specs::Forms::stack_probe_loop_form))]
-pub(crate) fn stack_probe_loop(rest: &[u8]) -> Option<Inst>
-    ensures { result ≡ stack_probe_loop_form (words_after rest.now) }
+#[tactic(auto, unfolding(crate::specs::Forms::form_of))]
+#[inline(never)]
+fn stack_probe_loop(rest: &[u8]) -> Result<Line, LineError>
+    ensures { Makes result (by_form (forms.Loop loops.StackProbeLoop) (words_after rest.now)) }
 {
-    let (guard_size, rest) = field(rest)?;
-    let (probe_count, rest) = field(rest)?;
-    let (tmp, rest) = field(rest)?;
-    whole(
+    let (guard_size, rest) = next_field(rest)?;
+    let (probe_count, rest) = next_field(rest)?;
+    let (tmp, rest) = next_field(rest)?;
+    allowed(put(
         Inst::StackProbeLoop {
             guard_size,
             probe_count,
             tmp,
         },
         rest,
-    )
+    ))
+}
+
+/// The words after the name of one of these.
+pub(crate) fn loop_line(alloc: Global, form: LoopForm, rest: &[u8]) -> Result<Line, LineError>
+    ensures { Makes result (by_form (forms.Loop form) (words_after rest.now)) }
+{
+    match form {
+        LoopForm::Popcnt => popcnt(alloc, rest),
+        LoopForm::Cltz => cltz(alloc, rest),
+        LoopForm::Brev8 => brev8(alloc, rest),
+        LoopForm::StackProbeLoop => stack_probe_loop(rest),
+    }
 }

@@ -6,8 +6,7 @@ ghost use Rattle.rv_ops.specs.Memory.{load_name, store_name};
 ghost use Rattle.rv_listing.specs.Operations.{alu_rri, alu_rrr, load_op, store_op};
 
 use crate::fields::Token;
-use crate::slots::candidate;
-use crate::tokens::is;
+use crate::named::{Named, slot_named};
 use rv_ops::{AluOPRRI, AluOPRRR, LoadOP, StoreOP};
 
 const EVERY_RRR: [AluOPRRR; 54] = [
@@ -131,18 +130,23 @@ const RRI_SLOTS: [u8; 256] = [
 
 const RRI_FACTOR: u64 = 14169574957954419077;
 
-fn find_rrr(w: &[u8]) -> Option<AluOPRRR>
-    ensures { result ≡ alu_rrr w.now }
-{
-    let op = candidate(&EVERY_RRR, &RRR_SLOTS, RRR_FACTOR, w)?;
-    if is(op.op_name().as_bytes(), w) {
-        Some(op)
-    } else {
-        None
+impl Named for AluOPRRR {
+    ghost named = { rrr_name };
+
+    fn name(self) -> &'static str {
+        self.op_name()
     }
 }
 
+#[tactic(auto, using(crate::proofs::BySlot::rrr_by_slot), unfolding(crate::specs::Operations::every_rrr))]
+fn find_rrr(w: &[u8]) -> Option<AluOPRRR>
+    ensures { result ≡ alu_rrr w.now }
+{
+    slot_named(&EVERY_RRR, &RRR_SLOTS, RRR_FACTOR, w)
+}
+
 /// The operation of two registers that has this name.
+#[tactic(auto, using(crate::proofs::BySlot::rrr_found))]
 pub fn rrr_named(w: &[u8]) -> Option<AluOPRRR>
     ensures reads { result ≡ alu_rrr w.now }
     ensures named { (op : AluOPRRR) → w.now ≡ rrr_name op → result ≡ Some op }
@@ -158,18 +162,23 @@ impl Token for AluOPRRR {
     }
 }
 
-fn find_rri(w: &[u8]) -> Option<AluOPRRI>
-    ensures { result ≡ alu_rri w.now }
-{
-    let op = candidate(&EVERY_RRI, &RRI_SLOTS, RRI_FACTOR, w)?;
-    if is(op.op_name().as_bytes(), w) {
-        Some(op)
-    } else {
-        None
+impl Named for AluOPRRI {
+    ghost named = { rri_name };
+
+    fn name(self) -> &'static str {
+        self.op_name()
     }
 }
 
+#[tactic(auto, using(crate::proofs::BySlot::rri_by_slot), unfolding(crate::specs::Operations::every_rri))]
+fn find_rri(w: &[u8]) -> Option<AluOPRRI>
+    ensures { result ≡ alu_rri w.now }
+{
+    slot_named(&EVERY_RRI, &RRI_SLOTS, RRI_FACTOR, w)
+}
+
 /// The operation of a register and an immediate that has this name.
+#[tactic(auto, using(crate::proofs::BySlot::rri_found))]
 pub fn rri_named(w: &[u8]) -> Option<AluOPRRI>
     ensures reads { result ≡ alu_rri w.now }
     ensures named { (op : AluOPRRI) → w.now ≡ rri_name op → result ≡ Some op }
@@ -212,18 +221,23 @@ const LOAD_SLOTS: [u8; 256] = [
 
 const LOAD_FACTOR: u64 = 10517972530174996981;
 
-fn find_load(w: &[u8]) -> Option<LoadOP>
-    ensures { result ≡ load_op w.now }
-{
-    let op = candidate(&EVERY_LOAD, &LOAD_SLOTS, LOAD_FACTOR, w)?;
-    if is(op.op_name().as_bytes(), w) {
-        Some(op)
-    } else {
-        None
+impl Named for LoadOP {
+    ghost named = { load_name };
+
+    fn name(self) -> &'static str {
+        self.op_name()
     }
 }
 
+#[tactic(auto, using(crate::proofs::BySlot::load_by_slot), unfolding(crate::specs::Operations::every_load))]
+fn find_load(w: &[u8]) -> Option<LoadOP>
+    ensures { result ≡ load_op w.now }
+{
+    slot_named(&EVERY_LOAD, &LOAD_SLOTS, LOAD_FACTOR, w)
+}
+
 /// The load of this mnemonic.
+#[tactic(auto, using(crate::proofs::BySlot::load_found))]
 pub fn load_named(w: &[u8]) -> Option<LoadOP>
     ensures reads { result ≡ load_op w.now }
     ensures named { (op : LoadOP) → w.now ≡ load_name op → result ≡ Some op }
@@ -263,18 +277,23 @@ const STORE_SLOTS: [u8; 256] = [
 
 const STORE_FACTOR: u64 = 10517972530174996981;
 
-fn find_store(w: &[u8]) -> Option<StoreOP>
-    ensures { result ≡ store_op w.now }
-{
-    let op = candidate(&EVERY_STORE, &STORE_SLOTS, STORE_FACTOR, w)?;
-    if is(op.op_name().as_bytes(), w) {
-        Some(op)
-    } else {
-        None
+impl Named for StoreOP {
+    ghost named = { store_name };
+
+    fn name(self) -> &'static str {
+        self.op_name()
     }
 }
 
+#[tactic(auto, using(crate::proofs::BySlot::store_by_slot), unfolding(crate::specs::Operations::every_store))]
+fn find_store(w: &[u8]) -> Option<StoreOP>
+    ensures { result ≡ store_op w.now }
+{
+    slot_named(&EVERY_STORE, &STORE_SLOTS, STORE_FACTOR, w)
+}
+
 /// The store of this mnemonic.
+#[tactic(auto, using(crate::proofs::BySlot::store_found))]
 pub fn store_named(w: &[u8]) -> Option<StoreOP>
     ensures reads { result ≡ store_op w.now }
     ensures named { (op : StoreOP) → w.now ≡ store_name op → result ≡ Some op }

@@ -4,7 +4,9 @@ ghost use Rattle.std.specs.Prelude.{◌≡◌, ℕ, IfErr};
 ghost use Rattle.rv_listing.specs.Tokens.{words_after, words_of, lines_of};
 ghost use Rattle.std.specs.List.{list_all};
 ghost use Rattle.rv_listing.specs.Fields.{Makes};
-ghost use Rattle.rv_listing.specs.Reading.{no_draft, is_plain, with_flags, with_frame, constant_at, with_constant, with_form, with_named, with_line, reading, Becomes, reads, Reads, IsBadLine};
+ghost use Rattle.rv_listing.specs.ConstantHeader.{constant_form};
+ghost use Rattle.rv_listing.specs.declared.reading.Place.TheVariants.{AtConstants};
+ghost use Rattle.rv_listing.specs.Reading.{no_draft, is_plain, up_to, with_flags, with_frame, with_constant, with_form, with_named, with_line, reading, Becomes, reads, Reads, IsBadLine};
 
 use crate::fields::{LineError, allowed};
 use crate::tokens::{first_word, is, next_line};
@@ -93,7 +95,7 @@ fn take_frame(alloc: Global, draft: &mut Draft, rest: &[u8]) -> Result<(), LineE
 }
 
 fn constant_at(alloc: Global, place: Place, rest: &[u8]) -> Result<Constant, LineError>
-    ensures { Makes result (constant_at place (words_after rest.now)) }
+    ensures { Makes result (up_to AtConstants place (constant_form (words_after rest.now))) }
 {
     match place {
         Place::AtFlags | Place::AtFrame | Place::AtConstants => {

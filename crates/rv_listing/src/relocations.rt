@@ -39,6 +39,7 @@ fn find(w: &[u8]) -> Option<Reloc>
 }
 
 /// The kind of this name.
+#[tactic(auto, using(crate::proofs::RecordLines::kind_found))]
 pub fn reloc_named(w: &[u8]) -> Option<Reloc>
     ensures reads { result ≡ kind_named w.now }
     ensures named { (kind : Reloc) → w.now ≡ kind_name kind → result ≡ Some kind }

@@ -1,16 +1,16 @@
 //! Steps in the making of a frame.
 
-ghost use Rattle.std.specs.Prelude.{◌≡◌};
+ghost use Rattle.std.specs.Prelude.{◌≡◌, codes};
 ghost use Rattle.rv_listing.specs.Tokens.{words_after};
-ghost use Rattle.rv_listing.specs.UnwindSteps.{alloc_form, by_kind, new_frame_form, push_form, save_form, step_of};
+ghost use Rattle.rv_listing.specs.UnwindSteps.{by_kind, step_of};
 
 use crate::fields::{field, whole};
 use crate::tokens::{is, next_word};
 use rv_base::UnwindInst;
 
-#[tactic(auto, unfolding(crate::specs::UnwindSteps::push_form))]
+#[tactic(auto, unfolding(crate::specs::UnwindSteps::by_kind))]
 fn push(rest: &[u8]) -> Option<UnwindInst>
-    ensures { result ≡ push_form (words_after rest.now) }
+    ensures { result ≡ by_kind (codes "push") (words_after rest.now) }
 {
     let (offset_upward_to_caller_sp, rest) = field(rest)?;
     whole(
@@ -21,9 +21,9 @@ fn push(rest: &[u8]) -> Option<UnwindInst>
     )
 }
 
-#[tactic(auto, unfolding(crate::specs::UnwindSteps::new_frame_form))]
+#[tactic(auto, unfolding(crate::specs::UnwindSteps::by_kind))]
 fn new_frame(rest: &[u8]) -> Option<UnwindInst>
-    ensures { result ≡ new_frame_form (words_after rest.now) }
+    ensures { result ≡ by_kind (codes "frame") (words_after rest.now) }
 {
     let (offset_upward_to_caller_sp, rest) = field(rest)?;
     let (offset_downward_to_clobbers, rest) = field(rest)?;
@@ -36,17 +36,17 @@ fn new_frame(rest: &[u8]) -> Option<UnwindInst>
     )
 }
 
-#[tactic(auto, unfolding(crate::specs::UnwindSteps::alloc_form))]
+#[tactic(auto, unfolding(crate::specs::UnwindSteps::by_kind))]
 fn alloc(rest: &[u8]) -> Option<UnwindInst>
-    ensures { result ≡ alloc_form (words_after rest.now) }
+    ensures { result ≡ by_kind (codes "alloc") (words_after rest.now) }
 {
     let (size, rest) = field(rest)?;
     whole(UnwindInst::StackAlloc { size }, rest)
 }
 
-#[tactic(auto, unfolding(crate::specs::UnwindSteps::save_form))]
+#[tactic(auto, unfolding(crate::specs::UnwindSteps::by_kind))]
 fn save(rest: &[u8]) -> Option<UnwindInst>
-    ensures { result ≡ save_form (words_after rest.now) }
+    ensures { result ≡ by_kind (codes "save") (words_after rest.now) }
 {
     let (clobber_offset, rest) = field(rest)?;
     let (reg, rest) = field(rest)?;

@@ -5,3 +5,4 @@ pub mod RulesKept
 pub mod Temporaries
 pub mod Parts
 pub mod ClearRegisters
+pub mod Units

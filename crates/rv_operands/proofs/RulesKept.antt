@@ -26,7 +26,8 @@ use Rattle.rv_inst.specs.declared.inst.SelectInfo.{SelectInfo}
 use Rattle.rv_inst.specs.declared.inst.Inst.{Inst}
 use Rattle.rv_inst.specs.declared.inst.Inst.TheVariants.{Nop0, Nop4, EBreak, SequencePoint, Args, Rets, DummyUse, Unwind, EmitIsland, RawData, Lui, Auipc, LoadInlineConst, AluRRR, AluRRImm12, Mov, MovFromPReg, Extend, Select, Load, Store, LoadAddr, LabelAddress, Ret, TrapIf, Jal, CondBr, BrTable, Udf, Jalr, Popcnt, Cltz, Brev8, StackProbeLoop, LoadExtNameGot, LoadExtNameNear, LoadExtNameFar, Call, CallInd, ReturnCall, ReturnCallInd}
 use Rattle.rv_inst.specs.Operands.{all_of, written_in}
-use Rattle.rv_inst.specs.Rules.{is_virtual, is_reserved, is_misplaced, is_out_of_place, has_zero, has_clash, is_uneven, values_differ, select_clash, clash, is_fifth, is_stack_or_frame, results_clash}
+use Rattle.rv_inst.specs.Faults.{is_misplaced, has_zero, has_clash}
+use Rattle.rv_inst.specs.Rules.{is_virtual, is_reserved, is_out_of_place, is_uneven, values_differ, select_clash, clash, is_fifth, is_stack_or_frame, results_clash}
 use Rattle.rv_inst.specs.UnitWords.{unit_of}
 use Rattle.rv_inst.specs.declared.units.PlacedReg.{PlacedReg}
 use Rattle.rv_operands.specs.Operand.{reads_at, writes_at, constraint_of}

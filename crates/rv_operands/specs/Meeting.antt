@@ -9,7 +9,8 @@ use Rattle.rv_base.specs.Operands.{registers_of}
 use Rattle.rv_base.specs.Regs.{class_of}
 use Rattle.rv_inst.specs.declared.inst.Inst.{Inst}
 use Rattle.rv_inst.specs.Operands.{inst_registers}
-use Rattle.rv_inst.specs.Rules.{is_virtual, is_zero, is_stack, is_real_x, is_reserved, is_misplaced, has_zero, has_clash}
+use Rattle.rv_inst.specs.Faults.{is_misplaced, has_zero, has_clash}
+use Rattle.rv_inst.specs.Rules.{is_virtual, is_zero, is_stack, is_real_x, is_reserved}
 use Rattle.rv_operands.specs.Operand.{Access, Reads, ReadsLate, ReadsIn, Writes, WritesEarly, Scratches, WritesIn, WritesAnywhere, Operand}
 use Rattle.rv_operands.specs.Operands.{row_of, operands_of, constraints_of}
 

@@ -1,6 +1,6 @@
 -- The table of operands: the registers of an instruction that are chosen for it, in the order in which a register allocator is asked for
 -- them, and what it is told beside.
-use Rattle.std.specs.Prelude.{Bool, false, not, List, [], ◌∷◌, ◌++◌, map, Some, None}
+use Rattle.std.specs.Prelude.{Bool, false, not, List, [], ◌∷◌, ◌++◌, map, Option, Some, None}
 use Rattle.std.proofs.Common.{lit<, refl}
 use Rattle.rv_base.specs.declared.amode.AMode.{AMode}
 use Rattle.rv_base.specs.declared.amode.AMode.TheVariants.{RegOffset, SPOffset, FPOffset, SlotOffset, IncomingArg, Const, Label}
@@ -11,7 +11,7 @@ use Rattle.rv_base.specs.declared.call.CallRetPair.{CallRetPair}
 use Rattle.rv_base.specs.declared.call.RetLocation.{RetLocation}
 use Rattle.rv_base.specs.declared.call.RetLocation.TheVariants.{Reg as InReg, Stack as OnStack}
 use Rattle.rv_base.specs.declared.constraint.Constraint.{Constraint}
-use Rattle.rv_base.specs.declared.constraint.Constraint.TheVariants.{RegClobbers}
+use Rattle.rv_base.specs.declared.constraint.Constraint.TheVariants.{RegClobbers, RegDef, RegUse}
 use Rattle.rv_base.specs.declared.regs.Reg.{Reg}
 use Rattle.rv_base.specs.declared.regs.Reg.TheVariants.{Real}
 use Rattle.rv_base.specs.declared.regs.Writable.{Writable}
@@ -23,6 +23,7 @@ use Rattle.rv_inst.specs.declared.inst.Inst.{Inst}
 use Rattle.rv_inst.specs.declared.inst.Inst.TheVariants.{Nop0, Nop4, EBreak, SequencePoint, Args, Rets, DummyUse, Unwind, EmitIsland, RawData, Lui, Auipc, LoadInlineConst, AluRRR, AluRRImm12, Mov, MovFromPReg, Extend, Select, Load, Store, LoadAddr, LabelAddress, Ret, TrapIf, Jal, CondBr, BrTable, Udf, Jalr, Popcnt, Cltz, Brev8, StackProbeLoop, LoadExtNameGot, LoadExtNameNear, LoadExtNameFar, Call, CallInd, ReturnCall, ReturnCallInd}
 use Rattle.rv_inst.specs.declared.inst.SelectInfo.{SelectInfo}
 use Rattle.rv_inst.specs.declared.units.PlacedReg.{PlacedReg}
+use Rattle.rv_inst.specs.declared.units.UnitRegs.{UnitRegs}
 use Rattle.rv_inst.specs.Operands.{unwind_registers, all_of, written_in}
 use Rattle.rv_inst.specs.Rules.{class_for, is_stack_or_frame, is_uneven, values_differ}
 use Rattle.rv_inst.specs.UnitWords.{place, unit_of}
@@ -80,6 +81,18 @@ fifth = int_reg 5 (lit< tt)
 abbrev pub unit_operands : List PlacedReg → List Operand
 unit_operands [] = []
 unit_operands (result ∷ sources) = map reads_at sources ++ writes_at result ∷ []
+
+-- what is asked for them, as they are taken out of it
+abbrev pub read_request : Option Reg → List Constraint
+read_request None = []
+read_request (Some r) = RegUse r ∷ []
+
+abbrev pub written_request : Option (Writable Reg) → List Constraint
+written_request None = []
+written_request (Some w) = RegDef w ∷ []
+
+abbrev pub unit_requests : UnitRegs → List Constraint
+unit_requests r = read_request r.rs1 ++ (read_request r.rs2 ++ (read_request r.rs3 ++ written_request r.rd))
 
 -- ---- the table
 

@@ -1,6 +1,6 @@
 -- What a register allocator leaves of an instruction: all but the registers of its operands, of which it keeps the class.
-use Rattle.std.specs.Prelude.{map}
-use Rattle.std.proofs.Common.{lit<}
+use Rattle.std.specs.Prelude.{map, option_map}
+use Rattle.std.proofs.Common.{lit<, refl}
 use Rattle.rv_base.specs.declared.amode.AMode.{AMode}
 use Rattle.rv_base.specs.declared.amode.AMode.TheVariants.{RegOffset, SPOffset, FPOffset, SlotOffset, IncomingArg, Const, Label}
 use Rattle.rv_base.specs.declared.call.ArgPair.{ArgPair}
@@ -21,7 +21,9 @@ use Rattle.rv_inst.specs.declared.inst.Brev8Info.{Brev8Info}
 use Rattle.rv_inst.specs.declared.inst.CountInfo.{CountInfo}
 use Rattle.rv_inst.specs.declared.inst.SelectInfo.{SelectInfo}
 use Rattle.rv_inst.specs.declared.inst.Inst.{Inst}
-use Rattle.rv_inst.specs.declared.inst.Inst.TheVariants.{Nop0, Nop4, EBreak, SequencePoint, Args, Rets, DummyUse, Unwind, EmitIsland, RawData, Lui, Auipc, LoadInlineConst, AluRRR, AluRRImm12, Mov, MovFromPReg, Extend, Select, Load, Store, LoadAddr, LabelAddress, Ret, TrapIf, Jal, CondBr, BrTable, Udf, Jalr, Popcnt, Cltz, Brev8, StackProbeLoop, LoadExtNameGot, LoadExtNameNear, LoadExtNameFar, Call, CallInd, ReturnCall, ReturnCallInd, Fli, FpuRR, FpuRRR, FpuRRRR, CsrReg, CsrImm}
+use Rattle.rv_inst.specs.declared.inst.Inst.TheVariants.{Nop0, Nop4, EBreak, SequencePoint, Args, Rets, DummyUse, Unwind, EmitIsland, RawData, Lui, Auipc, LoadInlineConst, AluRRR, AluRRImm12, Mov, MovFromPReg, Extend, Select, Load, Store, LoadAddr, LabelAddress, Ret, TrapIf, Jal, CondBr, BrTable, Udf, Jalr, Popcnt, Cltz, Brev8, StackProbeLoop, LoadExtNameGot, LoadExtNameNear, LoadExtNameFar, Call, CallInd, ReturnCall, ReturnCallInd}
+use Rattle.rv_inst.specs.UnitWords.{UnitWord, in_order, registers_in, regs, unit_of}
+use Rattle.rv_inst.specs.declared.units.UnitRegs.{UnitRegs}
 
 -- ---- parts of instructions
 
@@ -89,6 +91,13 @@ tail_call_shape info = record info { uses = map use_shape info.uses }
 abbrev pub tail_call_through_shape : ReturnCallInfo Reg → ReturnCallInfo Reg
 tail_call_through_shape info = record (tail_call_shape info) { dest = blank info.dest }
 
+-- of a word of a unit
+abbrev pub blank_regs : UnitRegs → UnitRegs
+blank_regs r = regs (option_map blanked r.rd) (option_map blank r.rs1) (option_map blank r.rs2) (option_map blank r.rs3)
+
+abbrev pub unit_shape : UnitWord → Inst
+unit_shape w = w.with_registers (blank_regs (in_order (registers_in w.places)))
+
 -- ---- instructions
 
 abbrev pub shape_of : Inst → Inst
@@ -133,9 +142,4 @@ shape_of (Call info) = Call (call_shape info)
 shape_of (CallInd info) = CallInd (call_through_shape info)
 shape_of (ReturnCall info) = ReturnCall (tail_call_shape info)
 shape_of (ReturnCallInd info) = ReturnCallInd (tail_call_through_shape info)
-shape_of (Fli width imm rd) = Fli width imm (blanked rd)
-shape_of (FpuRR op width frm rd rs) = FpuRR op width frm (blanked rd) (blank rs)
-shape_of (FpuRRR op width frm rd rs1 rs2) = FpuRRR op width frm (blanked rd) (blank rs1) (blank rs2)
-shape_of (FpuRRRR op width frm rd rs1 rs2 rs3) = FpuRRRR op width frm (blanked rd) (blank rs1) (blank rs2) (blank rs3)
-shape_of (CsrReg op rd rs csr) = CsrReg op (blanked rd) (blank rs) csr
-shape_of (CsrImm op rd csr imm) = CsrImm op (blanked rd) csr imm
+shape_of inst = unit_shape (unit_of inst refl)

@@ -2,7 +2,7 @@
 //! over, and it is put together of those that were given.
 
 ghost use Rattle.std.specs.Prelude.{◌≡◌};
-ghost use Rattle.rv_inst.specs.Families.{family_of};
+ghost use Rattle.rv_inst.specs.Operands.{family_of};
 ghost use Rattle.rv_inst.specs.declared.inst.Family.TheVariants.{Pseudo, Integer, Memory, Control, Loop, Symbols, Calls, Float};
 ghost use Rattle.rv_operands.specs.Visits.{AreHandedOver};
 ghost use Rattle.rv_operands.specs.Operands.{constraints_of};
@@ -11,7 +11,7 @@ ghost use Rattle.rv_operands.specs.Shapes.{shape_of};
 use crate::calls::{calls, calls_through, tail_calls_through};
 use crate::groups::{
     addresses_and_reads, addresses_and_writes, addresses_and_writes_early, chooses, compares,
-    counts, reads_and_writes, reads_and_writes_two_early, reads_one, reads_three_and_writes,
+    counts, reads_and_writes, reads_and_writes_two_early, reads_one, reads_sources_and_writes,
     reads_two_and_writes, reverses, writes_one,
 };
 use crate::pairs::hand_all;
@@ -306,99 +306,14 @@ fn call_operands<V: OperandVisitor>(inst: Inst, collector: &mut V) -> Handed
     }
 }
 
-/// Of one that computes with floating-point registers, or reads and writes their control register.
-fn float_operands<V: OperandVisitor>(inst: Inst, collector: &mut V) -> Handed
+/// Of one word of a unit.
+fn unit_operands<V: OperandVisitor>(inst: Inst, collector: &mut V) -> Handed
     ensures handed { family_of inst ≡ Float → AreHandedOver V.recorded V.given result.1 collector.old collector.new (constraints_of inst) (constraints_of result.0) }
     ensures same { family_of inst ≡ Float → shape_of result.0 ≡ shape_of inst }
 {
-    match inst {
-        Inst::Fli { width, imm, mut rd } => {
-            let handed = writes_one(&mut rd, collector);
-            (Inst::Fli { width, imm, rd }, handed)
-        }
-        Inst::FpuRR {
-            alu_op,
-            width,
-            frm,
-            mut rd,
-            mut rs,
-        } => {
-            let handed = reads_and_writes(&mut rs, &mut rd, collector);
-            (
-                Inst::FpuRR {
-                    alu_op,
-                    width,
-                    frm,
-                    rd,
-                    rs,
-                },
-                handed,
-            )
-        }
-        Inst::FpuRRR {
-            alu_op,
-            width,
-            frm,
-            mut rd,
-            mut rs1,
-            mut rs2,
-        } => {
-            let handed = reads_two_and_writes(&mut rs1, &mut rs2, &mut rd, collector);
-            (
-                Inst::FpuRRR {
-                    alu_op,
-                    width,
-                    frm,
-                    rd,
-                    rs1,
-                    rs2,
-                },
-                handed,
-            )
-        }
-        Inst::FpuRRRR {
-            alu_op,
-            width,
-            frm,
-            mut rd,
-            mut rs1,
-            mut rs2,
-            mut rs3,
-        } => {
-            let handed = reads_three_and_writes(&mut rs1, &mut rs2, &mut rs3, &mut rd, collector);
-            (
-                Inst::FpuRRRR {
-                    alu_op,
-                    width,
-                    frm,
-                    rd,
-                    rs1,
-                    rs2,
-                    rs3,
-                },
-                handed,
-            )
-        }
-        Inst::CsrReg {
-            op,
-            mut rd,
-            mut rs,
-            csr,
-        } => {
-            let handed = reads_and_writes(&mut rs, &mut rd, collector);
-            (Inst::CsrReg { op, rd, rs, csr }, handed)
-        }
-        Inst::CsrImm {
-            op,
-            mut rd,
-            csr,
-            imm,
-        } => {
-            let handed = writes_one(&mut rd, collector);
-            (Inst::CsrImm { op, rd, csr, imm }, handed)
-        }
-        other => (other, Ok(())),
-    }
+    let mut registers = inst.unit_regs();
+    let handed = reads_sources_and_writes(&mut registers, collector);
+    (inst.with_registers(registers), handed)
 }
 
 /// Hands over the registers of an instruction, which comes back with those that were given.
@@ -414,6 +329,6 @@ pub fn handed_over<V: OperandVisitor>(inst: Inst, collector: &mut V) -> Handed
         Family::Loop => loop_operands(inst, collector),
         Family::Symbols => symbol_operands(inst, collector),
         Family::Calls => call_operands(inst, collector),
-        Family::Float => float_operands(inst, collector),
+        Family::Float => unit_operands(inst, collector),
     }
 }

@@ -1,16 +1,16 @@
 //! Registers of several places, which are handed over one after the other.
 
-ghost use Rattle.std.specs.Prelude.{◌≡◌, [], ◌∷◌, ◌++◌, map};
+ghost use Rattle.std.specs.Prelude.{◌≡◌, [], ◌∷◌, ◌++◌, map, option_map};
 ghost use Rattle.rv_base.specs.Regs.{class_of};
 ghost use Rattle.rv_base.specs.declared.constraint.Constraint.TheVariants.{RegUse, RegLateUse, RegDef, RegEarlyDef};
 ghost use Rattle.rv_operands.specs.Visits.{AreHandedOver};
 ghost use Rattle.rv_operands.specs.Operand.{constraint_of};
-ghost use Rattle.rv_operands.specs.Operands.{address_operands, read_operands, written_operands, select_operands};
-ghost use Rattle.rv_operands.specs.Shapes.{address_shape, compare_shape, count_shape, brev8_shape, read_shape, written_shape, select_shape};
+ghost use Rattle.rv_operands.specs.Operands.{address_operands, read_operands, written_operands, select_operands, read_request, written_request, unit_requests};
+ghost use Rattle.rv_operands.specs.Shapes.{address_shape, blank, blanked, blank_regs, compare_shape, count_shape, brev8_shape, read_shape, written_shape, select_shape};
 
 use crate::visits::{reads, reads_late, writes, writes_early};
 use rv_base::{AMode, OperandVisitor, OutOfMemory, Reg, ValueRegs, WritableReg};
-use rv_inst::{Brev8Info, CountInfo, SelectInfo};
+use rv_inst::{Brev8Info, CountInfo, SelectInfo, UnitRegs};
 use rv_ops::IntegerCompare;
 
 /// One that is read.
@@ -74,24 +74,6 @@ pub fn reads_two_and_writes<V: OperandVisitor>(
 {
     reads(rs1, collector)?;
     reads_and_writes(rs2, rd, collector)
-}
-
-/// Three that are read, and one that is written.
-pub fn reads_three_and_writes<V: OperandVisitor>(
-    rs1: &mut Reg,
-    rs2: &mut Reg,
-    rs3: &mut Reg,
-    rd: &mut WritableReg,
-    collector: &mut V,
-) -> Result<(), OutOfMemory>
-    ensures handed { AreHandedOver V.recorded V.given result collector.old collector.new (RegUse rs1.old ∷ RegUse rs2.old ∷ RegUse rs3.old ∷ RegDef rd.old ∷ []) (RegUse rs1.new ∷ RegUse rs2.new ∷ RegUse rs3.new ∷ RegDef rd.new ∷ []) }
-    ensures class_of_rs1 { class_of rs1.new ≡ class_of rs1.old }
-    ensures class_of_rs2 { class_of rs2.new ≡ class_of rs2.old }
-    ensures class_of_rs3 { class_of rs3.new ≡ class_of rs3.old }
-    ensures class_of_rd { class_of rd.new.reg ≡ class_of rd.old.reg }
-{
-    reads(rs1, collector)?;
-    reads_two_and_writes(rs2, rs3, rd, collector)
 }
 
 /// Two that are written before all are read.
@@ -331,4 +313,51 @@ pub fn chooses<V: OperandVisitor>(
 {
     reads_two_late(&mut info.condition.rs1, &mut info.condition.rs2, collector)?;
     chooses_between(&mut info.x, &mut info.y, &mut info.dst, collector)
+}
+
+/// One that is read, where there is one.
+fn reads_any<V: OperandVisitor>(rs: &mut Option<Reg>, collector: &mut V) -> Result<(), OutOfMemory>
+    ensures handed { AreHandedOver V.recorded V.given result collector.old collector.new (read_request rs.old) (read_request rs.new) }
+    ensures same { option_map blank rs.new ≡ option_map blank rs.old }
+{
+    match *rs {
+        Some(mut r) => {
+            let handed = reads_one(&mut r, collector);
+            *rs = Some(r);
+            handed
+        }
+        None => Ok(()),
+    }
+}
+
+/// One that is written, where there is one.
+fn writes_any<V: OperandVisitor>(
+    rd: &mut Option<WritableReg>,
+    collector: &mut V,
+) -> Result<(), OutOfMemory>
+    ensures handed { AreHandedOver V.recorded V.given result collector.old collector.new (written_request rd.old) (written_request rd.new) }
+    ensures same { option_map blanked rd.new ≡ option_map blanked rd.old }
+{
+    match *rd {
+        Some(mut w) => {
+            let handed = writes_one(&mut w, collector);
+            *rd = Some(w);
+            handed
+        }
+        None => Ok(()),
+    }
+}
+
+/// The registers of a word of a unit: those that it reads, and then that of its result.
+pub fn reads_sources_and_writes<V: OperandVisitor>(
+    registers: &mut UnitRegs,
+    collector: &mut V,
+) -> Result<(), OutOfMemory>
+    ensures handed { AreHandedOver V.recorded V.given result collector.old collector.new (unit_requests registers.old) (unit_requests registers.new) }
+    ensures same { blank_regs registers.new ≡ blank_regs registers.old }
+{
+    reads_any(&mut registers.rs1, collector)?;
+    reads_any(&mut registers.rs2, collector)?;
+    reads_any(&mut registers.rs3, collector)?;
+    writes_any(&mut registers.rd, collector)
 }

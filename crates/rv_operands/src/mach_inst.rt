@@ -9,7 +9,7 @@ ghost use Rattle.rv_operands.specs.Roles.{is_regular, end_by, roles_of};
 ghost use Rattle.rv_operands.specs.Shapes.{shape_of};
 ghost use Rattle.rv_operands.specs.Visits.{IsStopped};
 ghost use Rattle.rv_inst.specs.Generators.{canonical_type};
-ghost use Rattle.rv_inst.specs.Families.{family_of};
+ghost use Rattle.rv_inst.specs.Operands.{family_of};
 ghost use Rattle.rv_inst.specs.declared.inst.Family.TheVariants.{Pseudo, Control, Calls};
 
 use crate::get_operands::handed_over;

@@ -1,4 +1,4 @@
--- Integer operations: the machine's operation of each, and what it takes of its sources or its immediate.
+-- Integer operations: the machine's operation of each, what it takes of its sources or its immediate, and in which way it may stand in sixteen bits.
 use Rattle.std.specs.Prelude.{ℕ, ◌%◌, ◌^◌, ℤ, pos, Bool, true, false, Option, Some, None}
 use Rattle.rv_imms.specs.Bits.{low_bits}
 use Rattle.rv_ops.specs.declared.alu.AluOPRRR.{AluOPRRR}
@@ -13,37 +13,48 @@ use Rattle.rv_machine.specs.declared.ops.BitOp.TheVariants as bit
 
 -- ---- two registers
 
--- the machine's operation, and whether it takes the two sources exchanged
+-- The ways in which operations of two registers stand in sixteen bits: as c.add; as c.and, c.or, c.xor and c.addw, whose destination is
+-- either source; as c.sub and c.subw, whose destination is the first; as c.mul, whose destination is either, under flags of its own; and
+-- as c.zext.w.
+pub data RegisterForm : Type 0 where
+  AddForm : RegisterForm
+  EitherForm : RegisterForm
+  FirstForm : RegisterForm
+  MulForm : RegisterForm
+  ZextWForm : RegisterForm
+
+-- the machine's operation, whether it takes the two sources exchanged, and in which way it may stand in sixteen bits
 pub record RegisterOperation : Type 0 where
   pub op : AluOp
   pub is_exchanged : Bool
+  pub short : Option RegisterForm
 
 abbrev pub straight : AluOp → RegisterOperation
-straight op = record { op = op; is_exchanged = false }
+straight op = record { op = op; is_exchanged = false; short = None }
 
 abbrev pub exchanged : AluOp → RegisterOperation
-exchanged op = record { op = op; is_exchanged = true }
+exchanged op = record { op = op; is_exchanged = true; short = None }
 
 -- sgt and sgtu are slt and sltu with the sources exchanged
 abbrev pub rrr_operation : AluOPRRR → RegisterOperation
-rrr_operation rrr.Add = straight (Int int.Add)
-rrr_operation rrr.Sub = straight (Int int.Sub)
+rrr_operation rrr.Add = record (straight (Int int.Add)) { short = Some AddForm }
+rrr_operation rrr.Sub = record (straight (Int int.Sub)) { short = Some FirstForm }
 rrr_operation rrr.Sll = straight (Int int.Sll)
 rrr_operation rrr.Slt = straight (Int int.Slt)
 rrr_operation rrr.Sgt = exchanged (Int int.Slt)
 rrr_operation rrr.SltU = straight (Int int.Sltu)
 rrr_operation rrr.Sgtu = exchanged (Int int.Sltu)
-rrr_operation rrr.Xor = straight (Int int.Xor)
+rrr_operation rrr.Xor = record (straight (Int int.Xor)) { short = Some EitherForm }
 rrr_operation rrr.Srl = straight (Int int.Srl)
 rrr_operation rrr.Sra = straight (Int int.Sra)
-rrr_operation rrr.Or = straight (Int int.Or)
-rrr_operation rrr.And = straight (Int int.And)
-rrr_operation rrr.Addw = straight (Int int.Addw)
-rrr_operation rrr.Subw = straight (Int int.Subw)
+rrr_operation rrr.Or = record (straight (Int int.Or)) { short = Some EitherForm }
+rrr_operation rrr.And = record (straight (Int int.And)) { short = Some EitherForm }
+rrr_operation rrr.Addw = record (straight (Int int.Addw)) { short = Some EitherForm }
+rrr_operation rrr.Subw = record (straight (Int int.Subw)) { short = Some FirstForm }
 rrr_operation rrr.Sllw = straight (Int int.Sllw)
 rrr_operation rrr.Srlw = straight (Int int.Srlw)
 rrr_operation rrr.Sraw = straight (Int int.Sraw)
-rrr_operation rrr.Mul = straight (Mul mul.Mul)
+rrr_operation rrr.Mul = record (straight (Mul mul.Mul)) { short = Some MulForm }
 rrr_operation rrr.Mulh = straight (Mul mul.Mulh)
 rrr_operation rrr.Mulhsu = straight (Mul mul.Mulhsu)
 rrr_operation rrr.Mulhu = straight (Mul mul.Mulhu)
@@ -56,7 +67,7 @@ rrr_operation rrr.Divw = straight (Mul mul.Divw)
 rrr_operation rrr.Divuw = straight (Mul mul.Divuw)
 rrr_operation rrr.Remw = straight (Mul mul.Remw)
 rrr_operation rrr.Remuw = straight (Mul mul.Remuw)
-rrr_operation rrr.Adduw = straight (Bit bit.AddUw)
+rrr_operation rrr.Adduw = record (straight (Bit bit.AddUw)) { short = Some ZextWForm }
 rrr_operation rrr.Andn = straight (Bit bit.Andn)
 rrr_operation rrr.Bclr = straight (Bit bit.Bclr)
 rrr_operation rrr.Bext = straight (Bit bit.Bext)
@@ -98,30 +109,44 @@ pub data Immediate : Type 0 where
   -- nothing: it has one source
   Without : Immediate
 
+-- The ways in which operations of a register and an immediate stand in sixteen bits: as c.mv, c.addi16sp, c.addi4spn, c.li or c.addi; as
+-- c.mv alone; as c.addiw; as c.slli; as c.srli or c.srai; as c.zext.b or c.andi; as c.not; and as c.sext.b, c.sext.h or c.zext.h.
+pub data ImmediateForm : Type 0 where
+  AddiForm : ImmediateForm
+  OriForm : ImmediateForm
+  AddiwForm : ImmediateForm
+  SlliForm : ImmediateForm
+  RightShiftForm : ImmediateForm
+  AndiForm : ImmediateForm
+  NotForm : ImmediateForm
+  ExtendForm : ImmediateForm
+
+-- the machine's operation, what it takes of an immediate, and in which way it may stand in sixteen bits
 pub record ImmediateOperation : Type 0 where
   pub op : AluOp
   pub immediate : Immediate
+  pub short : Option ImmediateForm
 
 abbrev pub whole : AluOp → ImmediateOperation
-whole op = record { op = op; immediate = Whole }
+whole op = record { op = op; immediate = Whole; short = None }
 
 abbrev pub amount : ℕ → AluOp → ImmediateOperation
-amount bits op = record { op = op; immediate = Amount bits }
+amount bits op = record { op = op; immediate = Amount bits; short = None }
 
 abbrev pub alone : AluOp → ImmediateOperation
-alone op = record { op = op; immediate = Without }
+alone op = record { op = op; immediate = Without; short = None }
 
 abbrev pub rri_operation : AluOPRRI → ImmediateOperation
-rri_operation rri.Addi = whole (Int int.Addi)
+rri_operation rri.Addi = record (whole (Int int.Addi)) { short = Some AddiForm }
 rri_operation rri.Slti = whole (Int int.Slti)
 rri_operation rri.SltiU = whole (Int int.Sltiu)
-rri_operation rri.Xori = whole (Int int.Xori)
-rri_operation rri.Ori = whole (Int int.Ori)
-rri_operation rri.Andi = whole (Int int.Andi)
-rri_operation rri.Slli = amount 6 (Int int.Slli)
-rri_operation rri.Srli = amount 6 (Int int.Srli)
-rri_operation rri.Srai = amount 6 (Int int.Srai)
-rri_operation rri.Addiw = whole (Int int.Addiw)
+rri_operation rri.Xori = record (whole (Int int.Xori)) { short = Some NotForm }
+rri_operation rri.Ori = record (whole (Int int.Ori)) { short = Some OriForm }
+rri_operation rri.Andi = record (whole (Int int.Andi)) { short = Some AndiForm }
+rri_operation rri.Slli = record (amount 6 (Int int.Slli)) { short = Some SlliForm }
+rri_operation rri.Srli = record (amount 6 (Int int.Srli)) { short = Some RightShiftForm }
+rri_operation rri.Srai = record (amount 6 (Int int.Srai)) { short = Some RightShiftForm }
+rri_operation rri.Addiw = record (whole (Int int.Addiw)) { short = Some AddiwForm }
 rri_operation rri.Slliw = amount 5 (Int int.Slliw)
 rri_operation rri.SrliW = amount 5 (Int int.Srliw)
 rri_operation rri.Sraiw = amount 5 (Int int.Sraiw)
@@ -139,9 +164,9 @@ rri_operation rri.Cpopw = alone (Bit bit.Cpopw)
 rri_operation rri.Ctz = alone (Bit bit.Ctz)
 rri_operation rri.Ctzw = alone (Bit bit.Ctzw)
 rri_operation rri.Rev8 = alone (Bit bit.Rev8)
-rri_operation rri.Sextb = alone (Bit bit.SextB)
-rri_operation rri.Sexth = alone (Bit bit.SextH)
-rri_operation rri.Zexth = alone (Bit bit.ZextH)
+rri_operation rri.Sextb = record (alone (Bit bit.SextB)) { short = Some ExtendForm }
+rri_operation rri.Sexth = record (alone (Bit bit.SextH)) { short = Some ExtendForm }
+rri_operation rri.Zexth = record (alone (Bit bit.ZextH)) { short = Some ExtendForm }
 rri_operation rri.Orcb = alone (Bit bit.OrcB)
 
 abbrev pub rri_op : AluOPRRI → AluOp

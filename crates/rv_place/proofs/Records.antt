@@ -8,7 +8,7 @@ use Rattle.std.proofs.lemmas.Grind.{flat_map-append}
 use Rattle.std.proofs.lemmas.List.Folds.{list_any-append}
 use Rattle.std.proofs.lemmas.Option.{same_Some, slice_get_within}
 use Rattle.std.proofs.lemmas.List.{length-take, length-take-le}
-use Rattle.mach_records.specs.Records.{record_relocs, relocs_in}
+use Rattle.{mach_records.proofs.OfRecords.record_relocs, mach_records.specs.Records.relocs_in}
 use Rattle.mach_records.specs.declared.records.MachRecord.{MachRecord}
 use Rattle.mach_records.specs.declared.records.MachReloc.{MachReloc}
 use Rattle.mach_records.specs.declared.records.FinalizedRelocTarget.{FinalizedRelocTarget}

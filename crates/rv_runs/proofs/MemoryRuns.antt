@@ -6,7 +6,7 @@ use Rattle.rv_runs.proofs.Words.{StandsIn, State, Store, StoreOP, TrapCode, Unit
 use Rattle.rv_runs.proofs.Words.{full_at, goes_at_least, goes_second, half_load_slots, half_store_slots, integer_run, is_among, is_near, jump_size, label_base, load_bytes, load_fits, load_op, load_result, load_same, load_slots, location_of, low64, lower_of_distance, nat_tests, number_of}
 use Rattle.rv_runs.proofs.Words.{or_parts, placed_after, plus_none, put, put_bytes, put_same, put_values, reads_back, reads_other, reg, row_next, set_reg, shorter, size_append, size_of, slots_alone, spare_set, stands_split, step_at, store_slots, temporary_set, to_le_bytes, unit_row, w32, w64, wrap}
 use Rattle.{mach_uses.specs.Labels.constant_label, rv_base.specs.declared.ir_type.IrType.TheVariants.I32, rv_base.specs.declared.ir_type.IrType.TheVariants.I64}
-use Rattle.rv_code.proofs.Courses.{IsApartAt, IsRealAt, address_even, address_fits, address_goes, address_same, inline_goes, inline_size, label_address, lower_sums, sets_comes, upper_goes, upper_sum}
+use Rattle.rv_code.proofs.Courses.{IsApartAt, IsRealAt, address_even, address_fits, address_goes, address_same, in_three, inline_goes, inline_size, label_address, lower_sums, sets_comes, upper_goes, upper_sum}
 use Rattle.rv_code.proofs.OperationActs.{has_integer_load, has_integer_store, integer_load, integer_store, load_sized, short_load_either, short_store_either, store_sized}
 use Rattle.rv_code.{proofs.Registers.own_set as set_beside, proofs.StackRuns.stored_bytes, proofs.StackRuns.stored_length, specs.InstParts.inline_slots, specs.InstParts.label_load_slots, specs.Slots.Aim}
 use Rattle.{rv_encode.specs.Operations.decoded_store, rv_encode.specs.Operations.load_row, rv_encode.specs.Operations.store_op, rv_encode.specs.Operations.store_row, rv_inst.specs.Addresses.AtConstant, rv_inst.specs.Forms.short_load, rv_inst.specs.Forms.short_store, rv_inst.specs.Rules.is_word_type}
@@ -314,7 +314,7 @@ inline_out : {site : Site} {start after : ℕ} {s : State} {v : Values} (n size 
 inline_out {site} n size x op bytes integer some usable fits filled little long reads e =
     let slots = inline_slots site.context.flags n op size bytes in
     sets_out slots (8 + jump_size site.context.flags + size) n x usable fits e (sym (inline_size site.context.flags n size op bytes long))
-    (inline_goes e.stands.0 n size x op bytes integer some (omega arith) little long reads filled e.is_state (starts_at slots e) e.stands.1)
+    (in_three (inline_goes e.stands.0 n size x op bytes integer some (omega arith) little long reads filled e.is_state (starts_at slots e) e.stands.1))
 
 pub constant_runs : (site : Site) (setting : EmitVState) (start after : ℕ) (s : State) (v : Values) (rd : Writable Reg) (type : IrType) (imm : ℕ) → IsUsable rd.reg → 0 < number_of rd.reg → is_word_type type ≡ true → RunsHere site setting (LoadInlineConst rd type imm) start after s v
 constant_runs site setting start after s v rd I32 imm h some word e clear =

@@ -6,10 +6,10 @@ use Rattle.rv_runs.proofs.Words.{LoadExtNameFar, LoadExtNameGot, Lui, MachLabel,
 use Rattle.rv_runs.proofs.Words.{complement_of, decoded, decoded_addi, decoded_load, eight_there, evaluate, goes_at_least, goes_none, holds, jalr_acts, jalr_sized, jump_acts, jump_size, jump_to, least_steps, load_fits, load_op, load_result, load_same, low64, lower_of_distance, lui_acts, lui_sized}
 use Rattle.rv_runs.proofs.Words.{move_pieces, number_of, plus_none, point, reads_back, reg, rri_op, set_at, set_own, set_reg, short_jalr, short_jump, short_lui, short_rri, short_rrr, shorter, signed_below, size_of, slots_alone, slots_of, step_at, symbol_address, to_le_bytes, w64, window_some, wrap}
 use Rattle.rv_base.specs.declared.condcodes.IntCC.TheVariants.{SignedGreaterThanOrEqual, SignedLessThanOrEqual, UnsignedGreaterThanOrEqual, UnsignedLessThanOrEqual}
-use Rattle.rv_code.proofs.{Courses.over_goes, Courses.parts_sum, Courses.sets_both, Courses.sets_one, LineSlots.far_long, OperationActs.branch_acts, OperationActs.low64_small, OperationActs.rri_acts, OperationActs.rri_sized, OperationActs.rrr_acts, OperationActs.rrr_fits, OperationActs.rrr_sized}
+use Rattle.rv_code.proofs.{Courses.{in_three, over_goes, parts_sum, sets_both, sets_one}, LineSlots.far_long, OperationActs.branch_acts, OperationActs.low64_small, OperationActs.rri_acts, OperationActs.rri_sized, OperationActs.rrr_acts, OperationActs.rrr_fits, OperationActs.rrr_sized}
 use Rattle.rv_code.{proofs.Steps.aims_at, specs.Immediates.upper_of_distance, specs.InstParts.branch_to, specs.InstParts.far_slots, specs.InstParts.got_slots, specs.InstParts.near_slots, specs.Sites.FillsFrom, specs.Slots.SlotOf, specs.Slots.Symbol, specs.Slots.Target, specs.Traps.trap_if_pieces}
 use Rattle.{rv_encode.specs.Operations.decoded_branch, rv_imms.specs.declared.imm12.Imm12.Imm12, rv_imms.specs.declared.imm20.Imm20.Imm20}
-use Rattle.rv_inst.specs.{Forms.jump_kind, LabelUse.has_veneer_of, Meaning.Trap, Meaning.target_exit, Rules.is_fallthrough, Rules.is_out_of_range, declared.inst.CondBrTarget.CondBrTarget, declared.inst.CondBrTarget.TheVariants.Fallthrough, declared.inst.CondBrTarget.TheVariants.Label as ToLabel}
+use Rattle.rv_inst.specs.{Forms.jump_kind, LabelUse.has_veneer_of, Meaning.Trap, Meaning.target_exit, Rules.is_fallthrough, Faults.is_out_of_range, declared.inst.CondBrTarget.CondBrTarget, declared.inst.CondBrTarget.TheVariants.Fallthrough, declared.inst.CondBrTarget.TheVariants.Label as ToLabel}
 use Rattle.{rv_inst.specs.declared.label_use.LabelUse.TheVariants.B12, rv_ops.specs.declared.alu.AluOPRRR.AluOPRRR}
 use Rattle.rv_runs.proofs.{Exits.RunsHere, Exits.SlotsOut, Exits.comes_out, Exits.goes_out, Exits.label_out, Exits.pieces_out, Exits.pieces_trap, Exits.same_but, Exits.starts_at, Exits.starts_beside, Exits.writes_beside, MemoryRuns.sets_out}
 use Rattle.rv_machine.specs.declared.ops.BaseOp.TheVariants as base
@@ -234,5 +234,5 @@ far_runs site setting start after s v rd name offset h some e clear =
     let stands = e.stands.1 in
     let whole : wrap x ≡ x = omega arith in
     sets_out slots (8 + jump_size site.context.flags + 8) n x h.1 (omega arith) e (omega arith)
-    (over_goes e.stands.0 n 8 x Ld (to_le_bytes w64 x) refl some (omega arith) (lit< tt) refl (λ mem a there. eight_there mem a x there ∙ whole) (lit< tt) e.is_state
-    (shorter (8 + jump_size site.context.flags + 8) (starts_at slots e) (omega arith)) (stands.0, (stands.1.0, (stands.1.1.0, tt))) (stands.1.1.1.0 s.values.mem e.placed))
+    (in_three (over_goes e.stands.0 n 8 x Ld (to_le_bytes w64 x) refl some (omega arith) (lit< tt) refl (λ mem a there. eight_there mem a x there ∙ whole) (lit< tt) e.is_state
+    (shorter (8 + jump_size site.context.flags + 8) (starts_at slots e) (omega arith)) (stands.0, (stands.1.0, (stands.1.1.0, tt))) (stands.1.1.1.0 s.values.mem e.placed)))

@@ -13,10 +13,9 @@ use Rattle.rv_inst.specs.declared.inst.Inst.{Inst}
 use Rattle.rv_inst.specs.declared.inst.Inst.TheVariants.{Load, Store, Mov, Select}
 use Rattle.rv_inst.specs.declared.inst.Line.{Line}
 use Rattle.rv_inst.specs.declared.inst.Line.TheVariants.{Inst as Put}
-use Rattle.rv_inst.specs.Families.{family_of}
 use Rattle.rv_inst.specs.Meaning.{Environment, address_of, addresses_from, writes_of, inst_effect}
 use Rattle.rv_inst.specs.declared.inst.SelectInfo.{SelectInfo}
-use Rattle.rv_inst.specs.Operands.{is_float, operands_of, Return, return_of, tail_call_of}
+use Rattle.rv_inst.specs.Operands.{family_of, is_float, operands_of, Return, return_of, tail_call_of}
 use Rattle.rv_inst.specs.Sizes.{operation_of}
 use Rattle.rv_inst.specs.declared.tail_calls.TailCall.{TailCall}
 use Rattle.rv_machine.specs.declared.decoding.Decoded.{Decoded}

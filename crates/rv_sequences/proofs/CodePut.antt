@@ -1,9 +1,9 @@
 -- A sequence's code is put, piece by piece.
-use Rattle.{rv_base.specs.declared.regs.RegClass.TheVariants.Int, rv_sequences.proofs.{BufferAfterSlots.puts_bytes, SlotsPut.{alone, puts_after}, Terms.{◌≡◌, true, refl, subst, ◌≢◌, ℕ, suc, ◌+◌, ◌^◌, ◌<◌, ◌≤◌, ℤ, Bool, false, nat_eq, [], ◌∷◌, ◌++◌, List, length, drop, None, Some, get_or}}}
+use Rattle.{rv_base.specs.declared.regs.RegClass.TheVariants.Int, rv_sequences.proofs.{BufferAfterSlots.puts_bytes, PlainSlots.plain_keeps, SlotsPut.{alone, puts_after}, Terms.{◌≡◌, true, refl, subst, ◌≢◌, ℕ, suc, ◌+◌, ◌^◌, ◌<◌, ◌≤◌, ℤ, Bool, false, nat_eq, [], ◌∷◌, ◌++◌, List, length}}}
 use Rattle.rv_sequences.proofs.Terms.{drop-cons, append_assoc, arith, sym, ap, ◌∙◌, unwrap_or, if◌then◌else◌, IrType, F16, F32, F64, Reg, Real, Virtual, Float, class_of, number_of, IsIntRegister, D, is_width, width_of, is_float_type, is_movable, IsMove, drop_of_length-le, or_parts, nat_tests}
 use Rattle.rv_sequences.proofs.Terms.{IsaFlags, MachLabel, branch_of, is_reversed, IntegerCompare, Decoded, Base, decoded, decoded_branch, branch_op, is_among, use_at, LabelUse, B12, first_inner, inner_count, shape_of, allocated_of, Shape, with_bytes, with_use, Buffer, IsSoundBuffer, PutsAlone}
 use Rattle.rv_sequences.proofs.Terms.{PutsSlots, branch_to, Puts, IsPatchable, Label, own_label, RegClass, move_action, move_pieces, Action, Rri, Piece, Do, Branch, branches, slots_for, slots_of, pieces_most, shown, pieces_of, AreSound, IsLabelled, IsBaseFor, IsNext, CodePiece, OwnLabels}
-use Rattle.rv_sequences.proofs.Terms.{pieces_few, pieces_long}
+use Rattle.rv_sequences.proofs.Terms.{canonical_type, cast_signed, code_most, drop, get_or, lit≤, None, Some, IsPlain, most_of, number_by, number_pieces, number_slots, pieces_few, pieces_long, w64}
 use Rattle.rv_sequences.specs.declared.code.CodePiece.TheVariants as code
 
 -- ---- the class of an integer register, and the format of a floating-point register that is moved
@@ -41,15 +41,25 @@ branch_puts flags kind label base k allocated old new number is p =
 
 -- ---- a move
 
--- what an operation's bytes don't change is the same after a move
-move_kept : (flags : IsaFlags) (allocated : ℕ) {A : Type 0} (f : Shape LabelUse → A) → ((bytes : List ℕ) (s : Shape LabelUse) → f (with_bytes bytes s) ≡ f s) → (s t : Shape LabelUse) (own : Bool) (a : Action) → Puts flags allocated (slots_of flags (if own then [] else Do a ∷ [])) s t → f t ≡ f s
-move_kept flags allocated f kept s t true a put = ap f put
-move_kept flags allocated f kept s t false a put = ap f (put.2 ∙ put.1.3) ∙ kept put.1.0 s
+-- it binds no label
+move_plain : (flags : IsaFlags) (own : Bool) (a : Action) → IsPlain (slots_of flags (if own then [] else Do a ∷ []))
+move_plain flags true a = tt
+move_plain flags false a = tt
 
 -- whatever labels were allocated before
 pub move_puts : {flags : IsaFlags} (allocated : ℕ) (class : RegClass) (type : IrType) (rd rs : ℕ) (old new : Buffer) → PutsAlone flags (slots_of flags (move_pieces class type rd rs)) old new → Puts flags allocated (slots_of flags (move_pieces class type rd rs)) (shape_of old) (shape_of new)
 move_puts {flags} allocated class type rd rs old new p = subst (λ (b : Buffer). Puts flags allocated (slots_of flags (move_pieces class type rd rs)) (shape_of old) (shape_of b)) (sym p.2)
     ((elim (nat_eq rd rs) as (λ own. Puts flags (allocated_of old) (slots_of flags (if own then [] else Do (move_action class type rd rs) ∷ [])) (shape_of old) (shape_of p.0) → Puts flags allocated (slots_of flags (if own then [] else Do (move_action class type rd rs) ∷ [])) (shape_of old) (shape_of p.0)) [ true ↦ λ put. put | false ↦ λ put. put ]) p.1.puts)
+
+-- ---- a number
+
+number_plain : (flags : IsaFlags) (rd : ℕ) (z : ℤ) → IsPlain (slots_of flags (number_pieces rd z))
+number_plain flags rd z = number_by (λ ps. IsPlain (slots_of flags ps)) rd z (λ low. tt) (λ fits none. tt) (λ fits. tt) (λ far. tt)
+
+-- whatever labels were allocated before
+pub number_puts : {flags : IsaFlags} (allocated rd : ℕ) (z : ℤ) (old new : Buffer) → PutsAlone flags (number_slots flags rd z) old new → Puts flags allocated (slots_of flags (number_pieces rd z)) (shape_of old) (shape_of new)
+number_puts {flags} allocated rd z old new p = subst (λ (b : Buffer). Puts flags allocated (slots_of flags (number_pieces rd z)) (shape_of old) (shape_of b)) (sym p.2)
+    (number_by (λ ps. Puts flags (allocated_of old) (slots_of flags ps) (shape_of old) (shape_of p.0) → Puts flags allocated (slots_of flags ps) (shape_of old) (shape_of p.0)) rd z (λ low put. put) (λ fits none put. put) (λ fits put. put) (λ far put. put) p.1.puts)
 
 -- ---- pieces, and others after them
 
@@ -57,9 +67,11 @@ slots_both : (flags : IsaFlags) (ps qs : List Piece) → slots_of flags (ps ++ q
 slots_both flags [] qs = refl
 slots_both flags (p ∷ ps) qs = ap (λ slots. slots_for flags p ++ slots) (slots_both flags ps qs) ∙ sym (append_assoc (slots_for flags p) (slots_of flags ps) (slots_of flags qs))
 
-most_both : (ps qs : List Piece) → pieces_most (ps ++ qs) ≡ pieces_most ps + pieces_most qs
-most_both [] qs = omega arith
-most_both (p ∷ ps) qs = let e = most_both ps qs in omega arith
+-- a piece has no more bytes than that
+most_shown : (x : CodePiece) → pieces_most (shown x) ≤ most_of x
+most_shown (code.Move rd rs) = elim (nat_eq (number_of rd.reg) (number_of rs)) as (λ own. pieces_most (if own then [] else Do (move_action (class_of rd.reg) (canonical_type (class_of rd.reg)) (number_of rd.reg) (number_of rs)) ∷ []) ≤ 4) [ true ↦ lit≤ tt | false ↦ lit≤ tt ]
+most_shown (code.Number rd value) = number_by (λ ps. pieces_most ps ≤ 20) (number_of rd.reg) (cast_signed w64 value) (λ low. lit≤ tt) (λ fits none. lit≤ tt) (λ fits. lit≤ tt) (λ far. lit≤ tt)
+most_shown x = lit≤ tt
 
 puts_more : (flags : IsaFlags) (allocated : ℕ) (s t u : Shape LabelUse) (x : CodePiece) (left : List CodePiece) → Puts flags allocated (slots_of flags (shown x)) s t → Puts flags allocated (slots_of flags (pieces_of left)) t u → Puts flags allocated (slots_of flags (pieces_of (x ∷ left))) s u
 puts_more flags allocated s t u x left put more = subst (λ slots. Puts flags allocated slots s u) (sym (slots_both flags (shown x) (pieces_of left))) (puts_after flags allocated (slots_of flags (shown x)) (slots_of flags (pieces_of left)) s t u put more)
@@ -76,7 +88,7 @@ pub record Putting (flags : IsaFlags) (all : List CodePiece) (start : Shape Labe
   pub sound : AreSound left
   pub labelled : IsLabelled own.count bound left
   pub puts : (t : Shape LabelUse) → Puts flags start.allocated (slots_of flags (pieces_of left)) now t → Puts flags start.allocated (slots_of flags (pieces_of all)) start t
-  pub room : length now.bytes + pieces_most (pieces_of left) ≤ length start.bytes + pieces_most (pieces_of all)
+  pub room : length now.bytes + code_most left ≤ length start.bytes + code_most all
 
 -- the piece that is next
 pub first_left : (xs : List CodePiece) (i : ℕ) (x : CodePiece) → x ≡ get_or xs i x → i < length xs → drop i xs ≡ x ∷ drop (i + 1) xs
@@ -89,31 +101,35 @@ known_base (code.Jump label) k = let lt = k.labelled.0 in k.base (omega arith)
 known_base (code.Bind label) k = let lt = k.labelled.0 in k.base (omega arith)
 known_base x k = tt
 
--- a piece has at most so many bytes
-room_left : {flags : IsaFlags} {all left : List CodePiece} {start now : Shape LabelUse} {own : OwnLabels} (next_shape : Shape LabelUse) (x : CodePiece) → Putting flags all start (x ∷ left) own now → Puts flags start.allocated (slots_of flags (shown x)) now next_shape → length next_shape.bytes + pieces_most (pieces_of left) ≤ length start.bytes + pieces_most (pieces_of all)
-room_left {flags} {left = left} {start = start} {now = now} next_shape x k put = omega (arith, puts_bytes flags start.allocated (slots_of flags (shown x)) now next_shape put, pieces_long flags (shown x), pieces_few flags (shown x), most_both (shown x) (pieces_of left), k.room)
+-- a piece leaves room for the others
+room_left : {flags : IsaFlags} {all left : List CodePiece} {start now : Shape LabelUse} {own : OwnLabels} (next_shape : Shape LabelUse) (x : CodePiece) → Putting flags all start (x ∷ left) own now → Puts flags start.allocated (slots_of flags (shown x)) now next_shape → length next_shape.bytes + code_most left ≤ length start.bytes + code_most all
+room_left {flags} {start = start} {now = now} next_shape x k put = omega (arith, puts_bytes flags start.allocated (slots_of flags (shown x)) now next_shape put, pieces_long flags (shown x), pieces_few flags (shown x), most_shown x, k.room)
 
 -- after a piece that leaves all labels as they were
-same_labels : {flags : IsaFlags} {all left : List CodePiece} {start now next_shape : Shape LabelUse} {own next : OwnLabels} (x : CodePiece) (k : Putting flags all start (x ∷ left) own now) → IsLabelled own.count k.bound left → next_shape.allocated ≡ now.allocated → next_shape.place ≡ now.place → next ≡ own → Puts flags start.allocated (slots_of flags (shown x)) now next_shape → Putting flags all start left next next_shape
-same_labels {flags} {all} {left} {start} {now} {next_shape} {own} {next} x k labelled allocated place same put = subst (λ o. Putting flags all start left o next_shape) (sym same) (record {
-  bound = k.bound;
-  count = k.count ∙ sym allocated;
-  base = k.base;
-  low = k.low;
-  unbound = λ j lt other. ap (λ (p : ℕ → _). p (first_inner + (start.allocated + j))) place ∙ k.unbound j lt other;
-  sound = k.sound.1;
-  labelled = labelled;
-  puts = λ t p. k.puts t (puts_more flags start.allocated now next_shape t x left put p);
-  room = room_left next_shape x k put;
-})
+same_labels : {flags : IsaFlags} {all left : List CodePiece} {start now next_shape : Shape LabelUse} {own next : OwnLabels} (x : CodePiece) (k : Putting flags all start (x ∷ left) own now) → IsLabelled own.count k.bound left → IsPlain (slots_of flags (shown x)) → next ≡ own → Puts flags start.allocated (slots_of flags (shown x)) now next_shape → Putting flags all start left next next_shape
+same_labels {flags} {all} {left} {start} {now} {next_shape} {own} {next} x k labelled plain same put =
+    let kept = plain_keeps flags start.allocated (slots_of flags (shown x)) now next_shape plain put in
+    subst (λ o. Putting flags all start left o next_shape) (sym same) (record {
+      bound = k.bound;
+      count = k.count ∙ sym kept.2;
+      base = k.base;
+      low = k.low;
+      unbound = λ j lt other. ap (λ (p : ℕ → _). p (first_inner + (start.allocated + j))) kept.0 ∙ k.unbound j lt other;
+      sound = k.sound.1;
+      labelled = labelled;
+      puts = λ t p. k.puts t (puts_more flags start.allocated now next_shape t x left put p);
+      room = room_left next_shape x k put;
+    })
 
 goes_on : {flags : IsaFlags} {all left : List CodePiece} {start now next_shape : Shape LabelUse} {own next : OwnLabels} (x : CodePiece) → start.allocated < inner_count → Putting flags all start (x ∷ left) own now → IsNext own next x now next_shape → Puts flags start.allocated (slots_of flags (shown x)) now next_shape → Putting flags all start left next next_shape
-goes_on (code.Rrr op rd rs1 rs2) few k same put = same_labels (code.Rrr op rd rs1 rs2) k k.labelled (ap (λ s. s.allocated) (put.2 ∙ put.1.3)) (ap (λ s. s.place) (put.2 ∙ put.1.3)) same put
-goes_on (code.Rri op rd rs imm) few k same put = same_labels (code.Rri op rd rs imm) k k.labelled (ap (λ s. s.allocated) (put.2 ∙ put.1.3)) (ap (λ s. s.place) (put.2 ∙ put.1.3)) same put
-goes_on {flags} {start = start} {now = now} {next_shape = next_shape} (code.Move rd rs) few k same put = same_labels (code.Move rd rs) k k.labelled (move_kept flags start.allocated (λ s. s.allocated) (λ bytes s. refl) now next_shape (nat_eq (number_of rd.reg) (number_of rs)) _ put) (move_kept flags start.allocated (λ s. s.place) (λ bytes s. refl) now next_shape (nat_eq (number_of rd.reg) (number_of rs)) _ put) same put
-goes_on (code.Branch kind label) few k same put = same_labels (code.Branch kind label) k k.labelled.1 (ap (λ s. s.allocated) (put.2 ∙ put.1.2)) (ap (λ s. s.place) (put.2 ∙ put.1.2)) same put
-goes_on (code.Jump label) few k same put = same_labels (code.Jump label) k k.labelled.1 (ap (λ s. s.allocated) (put.2 ∙ put.1.2)) (ap (λ s. s.place) (put.2 ∙ put.1.2)) same put
-goes_on (code.Trap trap) few k same put = same_labels (code.Trap trap) k k.labelled (ap (λ s. s.allocated) (put.2.2 ∙ put.2.1 ∙ ap (with_bytes _) put.1.1)) (ap (λ s. s.place) (put.2.2 ∙ put.2.1 ∙ ap (with_bytes _) put.1.1)) same put
+goes_on (code.Rrr op rd rs1 rs2) few k same put = same_labels (code.Rrr op rd rs1 rs2) k k.labelled tt same put
+goes_on (code.Rri op rd rs imm) few k same put = same_labels (code.Rri op rd rs imm) k k.labelled tt same put
+goes_on (code.Store op base src offset) few k same put = same_labels (code.Store op base src offset) k k.labelled tt same put
+goes_on {flags} (code.Number rd value) few k same put = same_labels (code.Number rd value) k k.labelled (number_plain flags (number_of rd.reg) (cast_signed w64 value)) same put
+goes_on {flags} (code.Move rd rs) few k same put = same_labels (code.Move rd rs) k k.labelled (move_plain flags (nat_eq (number_of rd.reg) (number_of rs)) _) same put
+goes_on (code.Branch kind label) few k same put = same_labels (code.Branch kind label) k k.labelled.1 tt same put
+goes_on (code.Jump label) few k same put = same_labels (code.Jump label) k k.labelled.1 tt same put
+goes_on (code.Trap trap) few k same put = same_labels (code.Trap trap) k k.labelled tt same put
 goes_on {flags} {all} {left} {start} {now} {next_shape} {own} {next} code.New few k n put =
     let base : next.base ≡ first_inner + start.allocated = omega (arith, k.count, n.1) in
     record {

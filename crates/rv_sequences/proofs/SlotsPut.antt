@@ -2,7 +2,7 @@
 use Rattle.rv_sequences.proofs.{BufferAfterSlots.{lasts_after_slots, puts_bytes}, Encoded.{word_encodes, half_jump_patchable, half_encodes}, OwnForms.own_word, PlainSlots.plain_keeps, Terms.{Ld, Lw, Trap, ◌≡◌, ◌≢◌, ℕ, ◌+◌, true, false, nat_eq, List, [], ◌∷◌, length, ℤ, IsPatchable, Some, refl, ap}}
 use Rattle.rv_sequences.proofs.Terms.{sym, ◌∙◌, subst, arith, inl, inr, ◌++◌, ◌<◌, if◌then◌else◌, ◌%◌, ◌^◌, to_le_bytes, w16, w32, w64, length-append, nat_tests, IsaFlags, MachLabel, Decoded, decode, compressed, Base, Jal, decoded_jump, IntegerCompare, LabelUse, Jal20, RVCJump, word_bytes, half_at}
 use Rattle.rv_sequences.proofs.Terms.{use_at, shape_of, bytes_of, allocated_of, with_bytes, with_use, Shape, IsUsable, with_record, Buffer, IsSoundBuffer, PutsAlone, PutsSlots, Label, Slot, Op, Aim, Data, size_of, PutsSlot, Puts, jump_to, wide_jump_to, branch_to, trap_bytes, trap_slots}
-use Rattle.rv_sequences.proofs.Terms.{inline_slots, constant_slots, IrType, RegClass, move_op, move_pieces, move_by, slots_of, bits_of, TrapCode, label_kinds, Lasts, IsPlain, decode_half, IsOwnForm, Encoded, Half, Word, Holds, IsHalf, IsSizeOf}
+use Rattle.rv_sequences.proofs.Terms.{inline_slots, constant_slots, IrType, RegClass, move_op, move_pieces, move_by, slots_of, bits_of, TrapCode, label_kinds, Lasts, IsPlain, decode_half, IsOwnForm, IsHalf}
 
 -- ---- one call
 
@@ -102,7 +102,7 @@ constant_double {flags} rd type imm old new other p =
     let e : nat_eq (bits_of type) 32 ≡ false = grind (arith, nat_tests) in
     rw e p
 
--- ---- instructions of sixteen bits, and how long an instruction is
+-- ---- instructions of sixteen bits
 
 -- its bytes
 half_back : (half : ℕ) → half < 2 ^ 16 → half_at (to_le_bytes w16 half) ≡ half
@@ -112,10 +112,3 @@ pub half_put : (flags : IsaFlags) (old new : Buffer) (half : ℕ) (d : Decoded) 
 half_put flags old new half d is own fits put sound =
     let back = half_back half fits in
     alone (slot_put (Op d) old new (to_le_bytes w16 half, sym is.long, half_encodes flags (to_le_bytes w16 half) d refl (subst (λ n. n < 2 ^ 16) (sym back) fits) (ap (λ n. nat_eq (n % 4) 3) back ∙ is.narrow) (ap (decode_half flags) back ∙ is.decodes), put, subst (IsOwnForm d) (sym back) own) sound)
-
--- how long it is
-pub half_sized : {half : ℕ} (e : Encoded) → e ≡ Half half → (flags : IsaFlags) (d : Decoded) → Holds flags e d → IsSizeOf d 2
-half_sized e is flags d h = let held = rw is at h in record { is = sym held.long; even = refl; few = omega arith }
-
-pub word_sized : {word : ℕ} (e : Encoded) → e ≡ Word word → (flags : IsaFlags) (d : Decoded) → Holds flags e d → IsSizeOf d 4
-word_sized e is flags d h = let held = rw is at h in record { is = sym held.long; even = refl; few = omega arith }

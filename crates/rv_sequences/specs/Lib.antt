@@ -3,6 +3,5 @@ pub mod Emitted
 pub mod Images
 pub mod NewConstants
 pub mod Places
-pub mod ProbeTurns
 pub mod Puts
 pub mod Parts

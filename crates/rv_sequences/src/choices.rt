@@ -13,7 +13,7 @@ ghost use Rattle.rv_inst.specs.Sizes as sizes;
 ghost use Rattle.rv_code.specs.Choices.{choice_pieces, chosen_pieces, extend_pieces, same_numbers};
 ghost use Rattle.rv_code.specs.Pieces.{Rri, Do, slots_of};
 ghost use Rattle.rv_code.specs.Usable.{IsFineChoice, IsMove};
-ghost use Rattle.rv_sequences.specs.Code.{pieces_of, AreSound, IsLabelled};
+ghost use Rattle.rv_sequences.specs.Code.{code_most, pieces_of, AreSound, IsLabelled};
 ghost use Rattle.rv_sequences.specs.Emitted.{IsSoundBuffer};
 ghost use Rattle.rv_sequences.specs.Parts.{PutsAlone};
 
@@ -72,6 +72,7 @@ fn byte_code(rd: WritableReg, rn: Reg) -> [CodePiece; 1]
     ensures pieces { pieces_of result ≡ Do (Rri Andi (number_of rd.reg) (number_of rn) (pos 255)) ∷ [] }
     ensures registers { AreSound result }
     ensures labels { IsLabelled 0 [] result }
+    ensures few { code_most result ≡ 4 }
 {
     [rri(AluOPRRI::Andi, rd, rn, low_byte())]
 }
@@ -89,6 +90,7 @@ fn shifts_code(rd: WritableReg, rn: Reg, back: AluOPRRI, amount: Imm12) -> [Code
     ensures pieces { pieces_of result ≡ Do (Rri Slli (number_of rd.reg) (number_of rn) amount.value) ∷ Do (Rri back (number_of rd.reg) (number_of rd.reg) amount.value) ∷ [] }
     ensures registers { AreSound result }
     ensures labels { IsLabelled 0 [] result }
+    ensures few { code_most result ≡ 8 }
 {
     [
         rri(AluOPRRI::Slli, rd, rn, amount),
@@ -191,6 +193,7 @@ fn choice_of_one(rd: WritableReg, skip: IntegerCompare, r: Reg, s: Reg) -> [Code
     ensures pieces { pieces_of result ≡ choice_pieces (rd.reg ∷ []) (r ∷ []) (s ∷ []) skip.kind (number_of skip.rs1) (number_of skip.rs2) }
     ensures registers { AreSound result }
     ensures labels { IsLabelled 0 [] result }
+    ensures few { code_most result ≡ 12 }
 {
     [
         CodePiece::New,
@@ -219,6 +222,7 @@ fn choice_of_two(
     ensures pieces { pieces_of result ≡ choice_pieces (rd.reg ∷ sd.reg ∷ []) (r ∷ s ∷ []) (t ∷ u ∷ []) skip.kind (number_of skip.rs1) (number_of skip.rs2) }
     ensures registers { AreSound result }
     ensures labels { IsLabelled 0 [] result }
+    ensures few { code_most result ≡ 20 }
 {
     [
         CodePiece::New,

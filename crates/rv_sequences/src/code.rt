@@ -1,6 +1,6 @@
 //! The code of an instruction as a value, and the one function that puts it into a buffer.
 
-ghost use Rattle.std.specs.Prelude.{◌≡◌, ℕ, [], ◌∷◌, ◌+◌, ◌<◌, ◌≤◌, ◌^◌, length, None, IfOk, OnOk, OnErr, true};
+ghost use Rattle.std.specs.Prelude.{◌≡◌, ℕ, [], ◌∷◌, ◌+◌, ◌<◌, ◌≤◌, ◌^◌, length, false, None, IfOk, OnOk, OnErr, true};
 ghost use Rattle.rv_base.specs.declared.flags.IsaFlags.{IsaFlags};
 ghost use Rattle.rv_base.specs.LabelUse.{code_limit};
 ghost use Rattle.rv_base.specs.Regs.{class_of, number_of};
@@ -9,28 +9,30 @@ ghost use Rattle.mach_labels.specs.Table.{first_inner};
 ghost use Rattle.mach_uses.specs.Labels.{inner_count};
 ghost use Rattle.mach_buffer.specs.Buffer.{shape_of, bytes_of, allocated_of, spoiled_of};
 ghost use Rattle.mach_buffer.specs.Shape.{IsKnown, with_allocated, with_label};
-ghost use Rattle.rv_sequences.specs.Code.{shown, pieces_of, IsSound, AreSound, IsLabelled, IsUsableAt, IsBaseFor, IsNext};
+ghost use Rattle.rv_sequences.specs.Code.{shown, pieces_of, most_of, code_most, IsSound, AreSound, IsLabelled, IsUsableAt, IsBaseFor, IsNext};
 ghost use Rattle.rv_sequences.specs.Emitted.{IsSoundBuffer};
 ghost use Rattle.rv_sequences.specs.Parts.{PutsAlone, PutsSlots};
 ghost use Rattle.rv_inst.specs.Generators.{canonical_type};
 ghost use Rattle.rv_code.specs.Choices.{move_pieces};
 ghost use Rattle.rv_code.specs.Usable.{IsMove};
 ghost use Rattle.rv_code.specs.InstParts.{jump_to};
-ghost use Rattle.rv_code.specs.Pieces.{slots_of, pieces_most};
+ghost use Rattle.rv_code.specs.Pieces.{slots_of};
+ghost use Rattle.rv_ops.specs.Memory.{is_float_store};
 ghost use Rattle.rv_sequences.specs.Puts.{Puts};
 ghost use Rattle.rv_code.specs.Slots.{Label};
 ghost use Rattle.rv_sequences.specs.declared.code.CodePiece.TheVariants as code;
 
 use crate::expansions::put_trap;
 use crate::moves::put_move;
-use crate::shortest::{put_rri, put_rrr};
+use crate::numbers::put_number;
+use crate::shortest::{put_rri, put_rrr, put_store_word};
 use crate::words::{put_compare, put_wide_jump};
 use mach_buffer::MachBuffer;
 use rv_base::{IsaFlags, MachLabel, OutOfMemory, Reg, TrapCode, WritableReg};
 use rv_encode::encode_cj_type;
 use rv_imms::Imm12;
 use rv_inst::{Inst, LabelUse};
-use rv_ops::{AluOPRRI, AluOPRRR, CjOp, IntegerCompare};
+use rv_ops::{AluOPRRI, AluOPRRR, CjOp, IntegerCompare, StoreOP};
 
 /// A piece of an instruction's code. A label is one of the sequence's own, by its number among those.
 #[derive(Clone, Copy)]
@@ -46,6 +48,17 @@ pub(crate) enum CodePiece {
         rd: WritableReg,
         rs: Reg,
         imm: Imm12,
+    },
+    Store {
+        op: StoreOP,
+        base: Reg,
+        src: Reg,
+        offset: Imm12,
+    },
+    /// By immediates, or from among the code.
+    Number {
+        rd: WritableReg,
+        value: u64,
     },
     /// Of a whole register to another of its class; none to the same one.
     Move {
@@ -77,7 +90,7 @@ pub(crate) fn put_code(
     requires registers { AreSound code.now }
     requires labels { IsLabelled 0 [] code.now }
     requires few { allocated_of sink.old + length code.now < inner_count }
-    requires room { length (bytes_of sink.old) + pieces_most (pieces_of code.now) + 4 < code_limit }
+    requires room { length (bytes_of sink.old) + code_most code.now < code_limit }
     requires sound { IsSoundBuffer sink.old }
     ensures slots { OnOk result (PutsAlone flags (slots_of flags (pieces_of code.now)) sink.old sink.new) }
     ensures refused { OnErr result (spoiled_of sink.new ≡ true) }
@@ -108,7 +121,7 @@ fn put_next(
     requires base { own.base < 2 ^ 31 }
     requires count { own.count ≤ allocated_of sink.old }
     requires few { allocated_of sink.old < inner_count }
-    requires room { length (bytes_of sink.old) + 4 < code_limit }
+    requires room { length (bytes_of sink.old) + most_of piece < code_limit }
     requires sound { IsSoundBuffer sink.old }
     ensures slot { OnOk result ((allocated : ℕ) → IsBaseFor own.base allocated piece → Puts flags allocated (slots_of flags (shown piece)) (shape_of sink.old) (shape_of sink.new)) }
     ensures next { IfOk result (λ next. IsNext own next piece (shape_of sink.old) (shape_of sink.new)) }
@@ -145,27 +158,34 @@ fn put_new(sink: &mut MachBuffer<LabelUse>, own: OwnLabels) -> Result<OwnLabels,
 fn put_piece(
     sink: &mut MachBuffer<LabelUse>,
     flags: IsaFlags,
-    base: u32,
+    first: u32,
     piece: CodePiece,
 ) -> Result<(), OutOfMemory>
     requires piece { IsSound piece }
-    requires usable { IsUsableAt base piece (shape_of sink.old) }
-    requires base { base < 2 ^ 31 }
+    requires usable { IsUsableAt first piece (shape_of sink.old) }
+    requires base { first < 2 ^ 31 }
     requires few { allocated_of sink.old < inner_count }
-    requires room { length (bytes_of sink.old) + 4 < code_limit }
+    requires room { length (bytes_of sink.old) + most_of piece < code_limit }
     requires sound { IsSoundBuffer sink.old }
-    ensures slot { OnOk result ((allocated : ℕ) → IsBaseFor base allocated piece → Puts flags allocated (slots_of flags (shown piece)) (shape_of sink.old) (shape_of sink.new)) }
+    ensures slot { OnOk result ((allocated : ℕ) → IsBaseFor first allocated piece → Puts flags allocated (slots_of flags (shown piece)) (shape_of sink.old) (shape_of sink.new)) }
     ensures sound { OnOk result (IsSoundBuffer sink.new) }
     ensures refused { OnErr result (spoiled_of sink.new ≡ true) }
 {
     match piece {
         CodePiece::Rrr { op, rd, rs1, rs2 } => put_rrr(sink, flags, op, rd, rs1, rs2),
         CodePiece::Rri { op, rd, rs, imm } => put_rri(sink, flags, op, rd, rs, imm),
+        CodePiece::Store {
+            op,
+            base,
+            src,
+            offset,
+        } => put_store_word(sink, flags, op, base, src, offset),
+        CodePiece::Number { rd, value } => put_number(sink, flags, rd, value),
         CodePiece::Move { rd, rs } => put_whole_move(sink, flags, rd, rs),
-        CodePiece::Branch { kind, label } => put_compare(sink, kind, own_label(base, label)),
-        CodePiece::Jump { label } => put_own_jump(sink, flags, own_label(base, label)),
+        CodePiece::Branch { kind, label } => put_compare(sink, kind, own_label(first, label)),
+        CodePiece::Jump { label } => put_own_jump(sink, flags, own_label(first, label)),
         CodePiece::New => put_unused(sink),
-        CodePiece::Bind { label } => put_bind(sink, own_label(base, label)),
+        CodePiece::Bind { label } => put_bind(sink, own_label(first, label)),
         CodePiece::Trap { code } => put_trap(sink, flags, code),
     }
 }
@@ -286,6 +306,29 @@ pub(crate) fn rrr(op: AluOPRRR, rd: WritableReg, rs1: Reg, rs2: Reg) -> CodePiec
     ensures sound { IsSound result }
 {
     CodePiece::Rrr { op, rd, rs1, rs2 }
+}
+
+pub(crate) fn store(op: StoreOP, base: Reg, src: Reg, offset: Imm12) -> CodePiece
+    requires op { is_float_store op ≡ false }
+    requires base { IsIntRegister base }
+    requires src { IsIntRegister src }
+    ensures is { result ≡ code.Store op base src offset }
+    ensures sound { IsSound result }
+{
+    CodePiece::Store {
+        op,
+        base,
+        src,
+        offset,
+    }
+}
+
+pub(crate) fn number(rd: WritableReg, value: u64) -> CodePiece
+    requires rd { IsIntRegister rd.reg }
+    ensures is { result ≡ code.Number rd value }
+    ensures sound { IsSound result }
+{
+    CodePiece::Number { rd, value }
 }
 
 /// A move of one whole register to another of its class; none to itself.

@@ -10,7 +10,7 @@ ghost use Rattle.rv_inst.specs.Rules.{is_int_type};
 ghost use Rattle.mach_buffer.specs.Buffer.{bytes_of, allocated_of, spoiled_of};
 ghost use Rattle.rv_code.specs.Counts.{ones_pieces, zeros_pieces};
 ghost use Rattle.rv_code.specs.Pieces.{slots_of};
-ghost use Rattle.rv_sequences.specs.Code.{pieces_of, AreSound, IsLabelled};
+ghost use Rattle.rv_sequences.specs.Code.{code_most, pieces_of, AreSound, IsLabelled};
 ghost use Rattle.rv_sequences.specs.Emitted.{IsSoundBuffer};
 ghost use Rattle.rv_sequences.specs.Parts.{PutsAlone};
 
@@ -66,6 +66,7 @@ fn popcnt_code(
     ensures pieces { pieces_of result ≡ ones_pieces (number_of sum.reg) (number_of tmp.reg) (number_of step.reg) (number_of rs) (bits_of ty) }
     ensures registers { AreSound result }
     ensures labels { IsLabelled 0 [] result }
+    ensures few { code_most result ≡ 44 }
 {
     [
         CodePiece::New,
@@ -135,6 +136,7 @@ fn leading_zeros_code(
     ensures pieces { pieces_of result ≡ zeros_pieces true (number_of sum.reg) (number_of tmp.reg) (number_of step.reg) (number_of rs) (bits_of ty) }
     ensures registers { AreSound result }
     ensures labels { IsLabelled 0 [] result }
+    ensures few { code_most result ≡ 44 }
 {
     [
         CodePiece::New,
@@ -170,6 +172,7 @@ fn trailing_zeros_code(
     ensures pieces { pieces_of result ≡ zeros_pieces false (number_of sum.reg) (number_of tmp.reg) (number_of step.reg) (number_of rs) (bits_of ty) }
     ensures registers { AreSound result }
     ensures labels { IsLabelled 0 [] result }
+    ensures few { code_most result ≡ 40 }
 {
     [
         CodePiece::New,

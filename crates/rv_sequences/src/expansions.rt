@@ -17,7 +17,7 @@ ghost use Rattle.rv_sequences.specs.Parts.{PutsAlone};
 ghost use Rattle.rv_code.specs.Slots.{Data};
 ghost use Rattle.rv_code.specs.Pieces.{slots_of};
 ghost use Rattle.rv_code.specs.Traps.{trap_if_pieces};
-ghost use Rattle.rv_sequences.specs.Code.{pieces_of, AreSound, IsLabelled};
+ghost use Rattle.rv_sequences.specs.Code.{code_most, pieces_of, AreSound, IsLabelled};
 ghost use Rattle.rv_code.specs.InstParts.{trap_slots, load_over, inline_slots, constant_slots};
 
 use crate::code::{CodePiece, bind, branch, put_code};
@@ -87,6 +87,7 @@ fn trap_if_code(cmp: IntegerCompare, code: TrapCode) -> [CodePiece; 4]
     ensures pieces { pieces_of result ≡ trap_if_pieces cmp code }
     ensures registers { AreSound result }
     ensures labels { IsLabelled 0 [] result }
+    ensures few { code_most result ≡ 8 }
 {
     [
         CodePiece::New,

@@ -11,7 +11,7 @@ ghost use Rattle.rv_inst.specs.Rules.{is_int_type};
 ghost use Rattle.mach_buffer.specs.Buffer.{bytes_of, allocated_of, spoiled_of};
 ghost use Rattle.rv_code.specs.Pieces.{slots_of};
 ghost use Rattle.rv_code.specs.Reversals.{reverse_pieces};
-ghost use Rattle.rv_sequences.specs.Code.{pieces_of, AreSound, IsLabelled};
+ghost use Rattle.rv_sequences.specs.Code.{code_most, pieces_of, AreSound, IsLabelled};
 ghost use Rattle.rv_sequences.specs.Emitted.{IsSoundBuffer};
 ghost use Rattle.rv_sequences.specs.Parts.{PutsAlone};
 
@@ -70,6 +70,7 @@ fn reverse_code(
     ensures pieces { pieces_of result ≡ reverse_pieces (number_of rd.reg) (number_of tmp.reg) (number_of tmp2.reg) (number_of step.reg) (number_of rs) (bits_of ty) }
     ensures registers { AreSound result }
     ensures labels { IsLabelled 0 [] result }
+    ensures few { code_most result ≡ 76 }
 {
     [
         CodePiece::New,

@@ -8,11 +8,11 @@ ghost use Rattle.rv_base.specs.Regs.{number_of};
 ghost use Rattle.rv_encode.specs.Registers.{IsIntRegister, IsRealRegister};
 ghost use Rattle.rv_encode.specs.Layouts.{IsEven};
 ghost use Rattle.rv_encode.specs.Operations.{has_load, has_store};
-ghost use Rattle.rv_inst.specs.Forms.{IsOwnForm, jump_size, short_rrr, short_rri, short_lui, short_jalr, short_ebreak, short_load, short_store};
+ghost use Rattle.rv_inst.specs.Forms.{IsOwnForm, short_rrr, short_rri, short_lui, short_jalr, short_ebreak, short_load, short_store};
 ghost use Rattle.mach_buffer.specs.Buffer.{bytes_of, spoiled_of};
 ghost use Rattle.rv_sequences.specs.Emitted.{IsSoundBuffer};
 ghost use Rattle.rv_sequences.specs.Parts.{PutsAlone};
-ghost use Rattle.rv_compress.specs.Encoded.{Holds, IsHalf, IsSizeOf, WhereHalf};
+ghost use Rattle.rv_compress.specs.Encoded.{Holds, IsHalf, WhereHalf};
 ghost use Rattle.rv_code.specs.Operations.{short_jump};
 ghost use Rattle.rv_code.specs.Slots.{Op};
 
@@ -27,25 +27,6 @@ use rv_encode::{encode_cj_type, encode_jal};
 use rv_imms::{Imm12, Imm20};
 use rv_inst::LabelUse;
 use rv_ops::{AluOPRRI, AluOPRRR, CjOp, LoadOP, StoreOP};
-
-/// The size of the shortest operation.
-pub(crate) fn jump_size_of(flags: IsaFlags) -> u8
-    ensures value { result ≡ jump_size flags }
-    ensures even { result % 2 ≡ 0 }
-    ensures few { result ≤ 4 }
-{
-    if flags.has_zca { 2 } else { 4 }
-}
-
-/// How many bytes an instruction has.
-pub(crate) fn length_of(encoded: Encoded) -> u8
-    ensures { (flags : IsaFlags) (d : Decoded) → Holds flags encoded d → IsSizeOf d result }
-{
-    match encoded {
-        Encoded::Half(_) => 2,
-        Encoded::Word(_) => 4,
-    }
-}
 
 /// Puts an instruction.
 pub(crate) fn put_encoded(

@@ -4,7 +4,7 @@ ghost use Rattle.std.specs.Prelude.{◌≡◌, ◌++◌, OnOk, string_bytes, cod
 ghost use Rattle.std.specs.List.{flat_map};
 ghost use Rattle.std.specs.Fmt.{decimal};
 ghost use Rattle.rv_base.specs.RegNames.{name_of};
-ghost use Rattle.rv_inst.specs.Families.{family_of};
+ghost use Rattle.rv_inst.specs.Operands.{family_of};
 ghost use Rattle.rv_inst.specs.declared.inst.Family.TheVariants.{Calls};
 ghost use Rattle.rv_text.specs.Operands.{label_text, use_text, handler_text, try_text, listed, after_comma};
 ghost use Rattle.rv_text.specs.Texts.{text_of, symbol_text};

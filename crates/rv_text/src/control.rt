@@ -6,7 +6,7 @@ ghost use Rattle.std.specs.Fmt.{decimal, signed_decimal};
 ghost use Rattle.rv_base.specs.RegNames.{name_of};
 ghost use Rattle.rv_base.specs.Trap.{name_of as trap_name};
 ghost use Rattle.rv_ops.specs.Compare.{branch_name};
-ghost use Rattle.rv_inst.specs.Families.{family_of};
+ghost use Rattle.rv_inst.specs.Operands.{family_of};
 ghost use Rattle.rv_inst.specs.declared.inst.Family.TheVariants.{Control};
 ghost use Rattle.rv_text.specs.Operands.{two, three, compare_text, table_label, table_up_to, table_text};
 ghost use Rattle.rv_text.specs.Texts.{text_of, both_text, sides_text};

@@ -3,7 +3,7 @@
 ghost use Rattle.std.specs.Prelude.{◌≡◌, ◌++◌, OnOk, string_bytes};
 ghost use Rattle.rv_base.specs.RegNames.{name_of};
 ghost use Rattle.rv_ops.specs.Fpu.{name_with_width};
-ghost use Rattle.rv_inst.specs.Families.{family_of};
+ghost use Rattle.rv_inst.specs.Operands.{family_of};
 ghost use Rattle.rv_inst.specs.declared.inst.Family.TheVariants.{Float};
 ghost use Rattle.rv_text.specs.Operands.{three};
 ghost use Rattle.rv_text.specs.Texts.{text_of, mode_text, constant_text, fpu_rr_text, plain_fpu_rrr_text, same_source_text, fpu_rrr_text, fpu_rrrr_text, csr_reg_text, csr_imm_text};

@@ -3,7 +3,7 @@
 ghost use Rattle.std.specs.Prelude.{◌≡◌, ◌++◌, OnOk, string_bytes, codes};
 ghost use Rattle.std.specs.Fmt.{decimal};
 ghost use Rattle.rv_base.specs.RegNames.{name_of};
-ghost use Rattle.rv_inst.specs.Families.{family_of};
+ghost use Rattle.rv_inst.specs.Operands.{family_of};
 ghost use Rattle.rv_inst.specs.declared.inst.Family.TheVariants.{Integer};
 ghost use Rattle.rv_ops.specs.Alu.{rri_name, rri_numbers, funct12_of};
 ghost use Rattle.rv_text.specs.Operands.{three, hex, value_text, written};

@@ -3,7 +3,7 @@
 ghost use Rattle.std.specs.Prelude.{◌≡◌, ◌++◌, OnOk, string_bytes, codes};
 ghost use Rattle.rv_base.specs.AMode.{text_of as amode_text};
 ghost use Rattle.rv_base.specs.RegNames.{name_of};
-ghost use Rattle.rv_inst.specs.Families.{family_of};
+ghost use Rattle.rv_inst.specs.Operands.{family_of};
 ghost use Rattle.rv_inst.specs.declared.inst.Family.TheVariants.{Memory};
 ghost use Rattle.rv_text.specs.Operands.{two, label_text};
 ghost use Rattle.rv_text.specs.Texts.{text_of};

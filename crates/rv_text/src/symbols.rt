@@ -3,7 +3,7 @@
 ghost use Rattle.std.specs.Prelude.{◌≡◌, ◌++◌, OnOk, string_bytes};
 ghost use Rattle.rv_base.specs.RegNames.{name_of};
 ghost use Rattle.rv_imms.specs.Bits.{text_with_sign};
-ghost use Rattle.rv_inst.specs.Families.{family_of};
+ghost use Rattle.rv_inst.specs.Operands.{family_of};
 ghost use Rattle.rv_inst.specs.declared.inst.Family.TheVariants.{Symbols};
 ghost use Rattle.rv_text.specs.Operands.{two};
 ghost use Rattle.rv_text.specs.Texts.{text_of, symbol_text};

@@ -1,10 +1,14 @@
-use Rattle.rv_sequences.proofs.{CodePut.{branch_puts, move_puts}, Terms.{sym, subst, ℕ, on_ok_weaker, shape_of, slots_of, shown, IsBaseFor, Puts, CodePiece}}
+use Rattle.rv_sequences.proofs.{CodePut.{branch_puts, move_puts, number_puts}, Terms.{cast_signed, number_of, w64, sym, subst, ℕ, on_ok_weaker, shape_of, slots_of, shown, IsBaseFor, Puts, CodePiece}}
 use Rattle.rv_sequences.proofs.code.put_piece.Goals as goal
 
 pub returns-in-Branch-clause-slot : goal.returns-in-Branch-clause-slot
-returns-in-Branch-clause-slot c = on_ok_weaker c.put_compare.result (λ puts. subst (λ (p : CodePiece). (allocated : ℕ) → IsBaseFor c.args.base allocated p → Puts c.args.flags allocated (slots_of c.args.flags (shown p)) (shape_of c.args.sink.now) (shape_of c.put_compare.new.sink)) (sym c.in-Branch.is)
+returns-in-Branch-clause-slot c = on_ok_weaker c.put_compare.result (λ puts. subst (λ (p : CodePiece). (allocated : ℕ) → IsBaseFor c.args.first allocated p → Puts c.args.flags allocated (slots_of c.args.flags (shown p)) (shape_of c.args.sink.now) (shape_of c.put_compare.new.sink)) (sym c.in-Branch.is)
     (λ allocated base. branch_puts _ _ _ _ _ _ _ _ c.own_label.ensures base (puts c.args.flags))) c.put_compare.ensures.slot
 
 pub returns-in-Move-clause-slot : goal.returns-in-Move-clause-slot
-returns-in-Move-clause-slot c = on_ok_weaker c.put_whole_move.result (λ put. subst (λ (p : CodePiece). (allocated : ℕ) → IsBaseFor c.args.base allocated p → Puts c.args.flags allocated (slots_of c.args.flags (shown p)) (shape_of c.args.sink.now) (shape_of c.put_whole_move.new.sink)) (sym c.in-Move.is)
+returns-in-Move-clause-slot c = on_ok_weaker c.put_whole_move.result (λ put. subst (λ (p : CodePiece). (allocated : ℕ) → IsBaseFor c.args.first allocated p → Puts c.args.flags allocated (slots_of c.args.flags (shown p)) (shape_of c.args.sink.now) (shape_of c.put_whole_move.new.sink)) (sym c.in-Move.is)
     (λ allocated base. move_puts _ _ _ _ _ _ _ put)) c.put_whole_move.ensures.slots
+
+pub returns-in-Number-clause-slot : goal.returns-in-Number-clause-slot
+returns-in-Number-clause-slot c = on_ok_weaker c.put_number.result (λ put. subst (λ (p : CodePiece). (allocated : ℕ) → IsBaseFor c.args.first allocated p → Puts c.args.flags allocated (slots_of c.args.flags (shown p)) (shape_of c.args.sink.now) (shape_of c.put_number.new.sink)) (sym c.in-Number.is)
+    (λ allocated base. number_puts allocated (number_of c.in-Number.rd.reg) (cast_signed w64 c.in-Number.value) _ _ put)) c.put_number.ensures.slots
