@@ -2,7 +2,7 @@
 use Rattle.{rv_asm.proofs.AfterLastIsland.{constants_left, uses_waiting}, rv_asm.proofs.Images.{data_there, fields_after, fields_within, is_filled, keeps_outside, placed_at, puts_split, reloc_ends, trap_if_there, trap_reported, trap_there}, rv_asm.proofs.LabelNames.{bound_place, finished_short}}
 use Rattle.{rv_asm.proofs.LineRecords.{LineSpread, constants_unfilled, fields_apart, fields_in_lines, handlers_reported, lines_save}, rv_asm.proofs.LinesInBuffer.{gap_within, outside_more}, rv_asm.proofs.LinesJoin.{full_runs, IsThreaded, Known, LineIn, site_of, threaded_runs}}
 use Rattle.{rv_asm.proofs.RefusalOrder.{accepted_frame, accepted_lines, AllBound, bind_at, names_bound, no_rule_broken, none_stuck, parts, sum_small}, rv_asm.proofs.Spans.line_at}
-use Rattle.rv_asm.proofs.Words.{[], access_slots, Addresses, adds_end, AddsConstants, AfterLastIsland, Aim, AllByRecursion, AllBytes, ap, AreWindows, arith, B12, backward_of, Base, Bind, binding_line, binds_from, branch_to, broken_rule, Buffer, bytes_of, calls_in, cases_eq, Code, code_limit}
+use Rattle.rv_asm.proofs.Words.{[], access_slots, Addresses, adds_end, AddsConstants, AfterLastIsland, Fixup, AllByRecursion, AllBytes, ap, AreWindows, arith, B12, backward_of, Base, Bind, binding_line, binds_from, branch_to, broken_rule, Buffer, bytes_of, calls_in, cases_eq, Code, code_limit}
 use Rattle.rv_asm.proofs.Words.{CodeFits, comes_from, cond, cond_both, CondBr, CondBrTarget, Constant, constants_end, constants_of, constants_taken, constants_waiting, ConstPlace, context_of, core, Decoded, decoded_branch, EmitVState, end_before, end_of, Fallthrough, false, fetch, Finishes}
 use Rattle.rv_asm.proofs.Words.{forward_of, from_of, FullRuns, Gap, gap_is, gap_stands, GapAsked, GapIn, GoesToLabel, GoStraight, has_operation, has_veneer_of, HasConstants, HasFullOperations, HasOperations, HasTail, InReach, Inst, integer_decodes, IntegerCompare, is_bound, is_integer, is_reached}
 use Rattle.rv_asm.proofs.Words.{is_stuck, IsaFlags, IsApart, IsFilled, IsFinished, IsFinishedTo, IsGap, IsGapOf, IsIn, IsOutside, IsOwnForm, IsPlaced, IsPlacedAt, IsSpan, IsTrapAt, Jal, Jal20, Job, jump_kind, KeepsOutside, Kinds, Label, label_kinds, label_reached, label_start, LabelUse, Lasts}
@@ -225,11 +225,11 @@ module _ (job : Job) (code : Code) (gaps : List Gap) (b : Buffer) (built : Lines
     jump_keeps = keeps_outside code base symbols slots mem (context_of job) fin.finishes.put.place (records_of b) relocs placed
 
     -- of a line, after other slots
-    goes : (i : ℕ) (inst : Inst) (front : List Slot) (kind : LabelUse) (label : MachLabel) (operation : ℤ → Decoded) (more : List Slot) (at k end : ℕ) → ((d : ℤ) → is_integer (operation d).op ≡ true) → slice_get job.lines i ≡ Some (Put inst) → SlotsIn job.flags (front ++ Aim kind (Label label) (λ d. operation d ∷ []) ∷ more) (shape_of b) (start_of code.lines i) end → start_of code.lines i + size_of front ≡ at → slice_get (uses_in (context_of job) (start_of code.lines i) (end_of code.lines i) inst) k ≡ Some (use_at at label kind) → has_veneer_of kind ≡ true → is_bound job.lines label.number ≡ true → GoesTo job code gaps base mem i at kind operation label
+    goes : (i : ℕ) (inst : Inst) (front : List Slot) (kind : LabelUse) (label : MachLabel) (operation : ℤ → Decoded) (more : List Slot) (at k end : ℕ) → ((d : ℤ) → is_integer (operation d).op ≡ true) → slice_get job.lines i ≡ Some (Put inst) → SlotsIn job.flags (front ++ Fixup kind (Label label) (λ d. operation d ∷ []) ∷ more) (shape_of b) (start_of code.lines i) end → start_of code.lines i + size_of front ≡ at → slice_get (uses_in (context_of job) (start_of code.lines i) (end_of code.lines i) inst) k ≡ Some (use_at at label kind) → has_veneer_of kind ≡ true → is_bound job.lines label.number ≡ true → GoesTo job code gaps base mem i at kind operation label
     goes i inst front kind label operation more at k end integer listed q sized own served bound =
         let to = label_start code.lines job.lines label.number in
         let u : Use LabelUse = use_at at label kind in
-        let p = puts_split job.flags (shape_of b) code.bytes fin q.old.allocated front (Aim kind (Label label) (λ d. operation d ∷ []) ∷ more) q.old q.new q.puts in
+        let p = puts_split job.flags (shape_of b) code.bytes fin q.old.allocated front (Fixup kind (Label label) (λ d. operation d ∷ []) ∷ more) q.old q.new q.puts in
         let m : Shape LabelUse = p.0 in
         let lasts : Lasts label_kinds p.2.0 (shape_of b) = lasts_more (lasts_after_slots job.flags q.old.allocated more p.2.0 q.new p.2.2) q.lasts in
         let here : length m.bytes ≡ at = let long = puts_bytes job.flags q.old.allocated front q.old m p.1 in let starts = q.starts in omega (arith, long, starts, sized) in

@@ -2,7 +2,7 @@
 use Rattle.{mach_records.specs.declared.records.FinalizedRelocTarget.FinalizedRelocTarget, rv_asm.proofs.Spans.{get_after, of_cond}}
 use Rattle.rv_asm.proofs.Words.{[], Abs8, address_of_name, Addresses, AddressOf, Aims, aligned, AllClear, AllEnd, ap, arith, bits_back, Buffer, byte, bytes_from, call_event, clear_there, Code, complement_of, Context, context_of, distance_to, end_of, ends_later, EndsWithin, Event, event_recorded}
 use Rattle.rv_asm.proofs.Words.{ExternalName, field_size, FieldsEnd, FieldsStand, flat_map, Gap, Here, HoldsDistance, inl, inr, IntegerCompare, IsaFlags, IsFilled, IsFilledAt, IsFilledWith, IsFinishedTo, IsLinkedWith, IsOutside, IsPlaced, IsPlacedAt, IsRecorded, IsTrapAt, Job, KeepsOutside}
-use Rattle.rv_asm.proofs.Words.{label_kinds, LabelUse, Lasts, lasts_after_slots, lasts_more, length, length-append, LinesStand, List, locate, low64, lower_event, MachRecord, MachReloc, marks_of, Memory, no_offsets, None, Notes, number_of, Option, parts_of, PartsIn, PCRel32, PCRelHi20, PCRelLo12I}
+use Rattle.rv_asm.proofs.Words.{label_kinds, LabelUse, Lasts, lasts_after_slots, lasts_more, length, length-append, LinesStand, List, locate, low64, lower_event, MachRecord, MachReloc, marks_of, Memory, no_offsets, None, Records, number_of, Option, parts_of, PartsIn, PCRel32, PCRelHi20, PCRelLo12I}
 use Rattle.rv_asm.proofs.Words.{piece_finished, pos, Put, Puts, puts_bytes, puts_ends, RawData, record_relocs, record_traps, records_of, refl, Reloc, relocs_in, RiscvCallPlt, RiscvGotHi20, RiscvPCRelHi20, RiscvPCRelLo12I, same_number_lists, same_Some, SameOutside, Shape, shape_of, Site, size_of}
 use Rattle.rv_asm.proofs.Words.{slice_get, slice_get-append, slice_index, Slot, slot_fields_end, SlotOf, SlotsIn, Some, Stands, start_of, subst, suc, sym, Symbol, Trap, trap_bytes, trap_size, TrapCode, TrapIf, traps_in, Udf, unwrap_or, upper_event, window, window_byte, window_length, wrap, zero}
 use Rattle.{rv_asm.proofs.Words.{zeros, ℕ, ℤ, ⊎_elim, ◌++◌, ◌+◌, ◌-ℤ◌, ◌-◌, ◌<◌, ◌^◌, ◌∙◌, ◌∷◌, ◌≡◌, ◌≤◌}, rv_code.specs.Pieces.{Branch, New, slots_of}, rv_code.specs.Slots.Data, std.specs.Int.{to_le_bytes, w64}, std.specs.Option.option_map}
@@ -264,7 +264,7 @@ module _ (job : Job) (code : Code) (gaps : List Gap) (b : Buffer) (built : Lines
   trap_there i cause e =
       let stood = (built.each i (Put (Udf cause)) e).there in
       let parts : PartsIn job.flags (parts_of (context_of job) stood.0 (Udf cause)) (shape_of b) (start_of code.lines i) (end_of code.lines i) = stood.1 in
-      let slots = Notes (event.Trap cause) ∷ [] in
+      let slots = Records (event.Trap cause) ∷ [] in
       subst (Stands code (start_of code.lines i)) (trap_zeros job.flags)
       (found (start_of code.lines i + size_of slots) (start_of code.lines i) (trap_bytes job.flags) (omega arith) (data_found job.flags (shape_of b) code.bytes fin slots (trap_bytes job.flags) [] (start_of code.lines i) parts.0 parts.1))
 
@@ -272,6 +272,6 @@ module _ (job : Job) (code : Code) (gaps : List Gap) (b : Buffer) (built : Lines
   trap_if_there i cmp cause e =
       let stood = (built.each i (Put (TrapIf cmp cause)) e).there in
       let parts : PartsIn job.flags (parts_of (context_of job) stood.0 (TrapIf cmp cause)) (shape_of b) (start_of code.lines i) (end_of code.lines i) = stood.1 in
-      let slots = slots_of job.flags (New ∷ Branch (complement_of cmp.kind) (number_of cmp.rs1) (number_of cmp.rs2) 0 ∷ []) ++ Notes (event.Trap cause) ∷ [] in
+      let slots = slots_of job.flags (New ∷ Branch (complement_of cmp.kind) (number_of cmp.rs1) (number_of cmp.rs2) 0 ∷ []) ++ Records (event.Trap cause) ∷ [] in
       subst (Stands code (start_of code.lines i + 4)) (trap_zeros job.flags)
       (found (start_of code.lines i + size_of slots) (start_of code.lines i + 4) (trap_bytes job.flags) (omega arith) (data_found job.flags (shape_of b) code.bytes fin slots (trap_bytes job.flags) (Here 0 ∷ []) (start_of code.lines i) parts.0 parts.1))

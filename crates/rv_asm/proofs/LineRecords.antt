@@ -5,7 +5,7 @@ use Rattle.rv_asm.proofs.Words.{FpuRR, FrameLayout, from_of, Gap, GapAsked, hand
 use Rattle.rv_asm.proofs.Words.{LoadExtNameFar, LoadExtNameGot, LoadExtNameNear, locate, MachLabel, MachRecord, MachReloc, map, named_labels, None, offset_or_zero, Option, patch_records, place_of, Put, record_relocs, record_unwinds, records_from, refl, Reloc, relocs_in, Request, request_of}
 use Rattle.rv_asm.proofs.Words.{return_records, ReturnCall, ReturnCallInd, same_Some, SavesReal, Shape, slice_get, slice_get_within, Some, sp_to_fp_of, SpansIn, StandOutside, start_of, StepSaves, Store, subst, suc, sym, to_of, TrapCode, tries_in, true, try_labels, TryCallInfo, Unwind, unwinds_in}
 use Rattle.{rv_asm.proofs.Words.{unwrap_or, UserStackMap, Virtual, zero, ℕ, ⊎_elim, ◌++◌, ◌+◌, ◌-◌, ◌<◌, ◌∙◌, ◌∷◌, ◌≡◌, ◌≢◌, ◌≤◌, ◌⊎◌}, rv_base.specs.declared.call.CallInfo.CallInfo, rv_base.specs.declared.call.TryCallHandler.TryCallHandler}
-use Rattle.{rv_base.specs.declared.call.TryCallHandler.TheVariants.{Default, Tag}, rv_base.specs.declared.unwind.UnwindInst.UnwindInst, rv_base.specs.declared.unwind.UnwindInst.TheVariants.SaveReg, rv_inst.specs.UnitWords.conversion_trap, rv_ops.specs.Fpu.is_to_integer}
+use Rattle.{rv_base.specs.declared.call.TryCallHandler.TheVariants.{Default, Tag}, rv_base.specs.declared.unwind.UnwindInst.UnwindInst, rv_base.specs.declared.unwind.UnwindInst.TheVariants.SaveReg, rv_inst.specs.Descriptions.conversion_trap, rv_ops.specs.Fpu.is_to_integer}
 use Rattle.mach_records.specs.declared.records.FinalizedMachExceptionHandler.TheVariants as to
 
 -- ---- records by their kinds

@@ -8,7 +8,7 @@ pub use Rattle.mach_buffer.proofs.Words.{place_of, put_all, put_at, put_constant
 pub use Rattle.rv_asm.specs.Reach.{bound_by, constants_taken, constants_waiting, HasTail, InReach, IsDue, island_after, NotEarly, uses_after_island, uses_from, veneers_end, waiting}
 pub use Rattle.rv_asm.specs.Refusal.{bad_frame, binds, broken_from, constants_sum, Finds, has_bad_frame, is_bound, is_unfit, lines_sum, malformed, size_limit, size_sum, too_large, twice_from, twice_in, unbound_among, unbound_in}
 pub use Rattle.rv_asm.specs.Simulation.{address_of, At, AtReturn, AtStart, Comes, effect_from, End, Entry, entry_point, environment_of, exit_from, HasOperations, InData, IsBack, IsStopped, Leads, next_point, Out, Point, return_at, Returned, RunsAsListed, Stop, temporaries_from, Trapped}
-pub use Rattle.{rv_code.specs.InstParts.{branch_to, trap_bytes}, rv_code.specs.Slots.{Aim, SlotOf, Symbol}}
+pub use Rattle.{rv_code.specs.InstParts.{branch_to, trap_bytes}, rv_code.specs.Slots.{Fixup, SlotOf, Symbol}}
 pub use Rattle.rv_emit.proofs.Laws.{adds_both, adds_end, adds_none, appends, asked_by, before_or_last, bits_back, bound_kept, but_then_same, clear_there, code_long, deadlines_as, direct_never_pending, Each, each_more, each_none, emitted_keeps, empty_built, ends_later, few_ways, fits_most, gap_is}
 pub use Rattle.rv_emit.proofs.Laws.{gap_last, gap_put, gap_stands, GoesToLabel, has_operation, high_kept, inst_full_resumes, inst_full_runs, inst_resumes, inst_runs, iter_after, iter_none, keeps, label_reached, lasts_after_slots, listed_try, meaning_agrees, MeansSame, most_counts, no_own, one_slot}
 pub use Rattle.rv_emit.proofs.Laws.{own_stands, parts_are_self_contained, parts_last, parts_put, parts_stand, pending_adds, pending_at, pending_still, puts_bytes, puts_ends, reads_operation, room_by, room_keeps, room_named, room_records, room_sound, same_but, slot_fields_end, still_pending}
@@ -16,7 +16,7 @@ pub use Rattle.{rv_encode.specs.Operations.decoded_branch, rv_full.specs.Steps.f
 pub use Rattle.{rv_inst.specs.declared.inst.Inst.TheVariants.{BrTable, EmitIsland, FpuRR, Jal, LoadExtNameNear, RawData, TrapIf, Udf, Unwind}, rv_inst.specs.declared.label_use.LabelUse.TheVariants.{B12, PCRel32, PCRelLo12I}, rv_machine.specs.Memory.store_bytes}
 pub use Rattle.rv_runs.proofs.Words.{access_slots, AddressOf, AllByRecursion, Answer, AreOutside, AreValues, AVirtual as Virtual, Base, byte, Call, CallInd, ComesOut, compares, complement_of, CondBr, Context, context_by, Decoded, EmitVState, EndsAsMeant, Enters, Environment, environment, Exit}
 pub use Rattle.rv_runs.proofs.Words.{ExternalName, fetch, fiter_after, fiter_none, FrameLayout, FullEnds, FullMeaning, FullState, FullValues, GapIn, Inst, inst_exit, inst_meaning, inst_rule, inst_temporaries, Int, integer_decodes, integer_run, IntegerCompare, is_integer_op as is_integer, is_virtual}
-pub use Rattle.rv_runs.proofs.Words.{IsaFlags, IsPlacedAt, IsState, Label, Leave, list_any, Load, load_result, LoadExtNameFar, LoadExtNameGot, low64, low_word, Next, Notes, number_of, Op, operation_of, parts_of, PartsStand, Put, put, Real, Reg, reg, RegClass, Resumes, Return, return_of, ReturnCall}
+pub use Rattle.rv_runs.proofs.Words.{IsaFlags, IsPlacedAt, IsState, Label, Leave, list_any, Load, load_result, LoadExtNameFar, LoadExtNameGot, low64, low_word, Next, Records, number_of, Op, operation_of, parts_of, PartsStand, Put, put, Real, Reg, reg, RegClass, Resumes, Return, return_of, ReturnCall}
 pub use Rattle.{rv_runs.proofs.Words.{ReturnCallInd, Same, SameBut, Site, size_of, Slot, slots_alone, State, Store, tail_call_of, TailCall, To, TrapCode, try_call_of, try_exit, TryCallInfo, UserStackMap, Values, wrap}, rv_runs.specs.FullInstRuns.FullyAsks}
 pub use Rattle.rv_sequences.specs.Emitted.{Appends, AppendsIsland, AppendsSequence, Buffer, HasWindows, IsFarUse, IslandAsked, IslandIfNeeded, IsSoundBuffer, pending}
 pub use Rattle.std.proofs.Common.{[], ap, append-nil, append_assoc, arith, Bool, cond, drop, Err, false, inl, inr, length, List, lit<, lit≤, map, None, not, Option, pos, refl, Result, slice_index, Some, subst, suc, sym, take, true, zero, ℕ, ℤ, ⊎_elim, ◌%◌, ◌*◌, ◌++◌, ◌+◌, ◌-ℤ◌, ◌-◌, ◌<◌, ◌==◌, ◌^◌}

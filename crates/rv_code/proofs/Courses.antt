@@ -3,7 +3,7 @@ use Rattle.std.proofs.Common.{◌≡◌, ℕ, suc, ◌+◌, ◌-◌, ◌*◌, �
 use Rattle.rv_code.proofs.Words.{act, Add, Addi, address_at, address_slots, AimsFrom, Allocate, alu_rri, alu_rrr, AluOPRRI, AluOPRRR, and_parts, at, AtConstant, AtLabel, Base, Based, between, byte, BytesAt, cases_lt, CodeHas, constant_label, Decoded, decoded, decoded_addi, decoded_load, Environment}
 use Rattle.rv_machine.specs.Steps.{iter}
 use Rattle.rv_code.proofs.Words.{Goes, Here, istep, immediate_of, inline_slots, ints, is_beyond, is_near, is_splittable, IsaFlags, IsAt, IsState, jump_size, Label, load_bytes, load_op, load_over, load_result, LoadOP, Location, low32, low64, lower_of, lower_of_distance, lower_part}
-use Rattle.rv_code.proofs.Words.{MachLabel, Memory, Names, nat_tests, Notes, number_slots, offset_slots, Op, PCRelHi20, reg, Same, same_Some, set_reg, shift_limit, short_jump, short_lui, short_rri, short_rrr, signed, Site, size_of, Slot, slot_size, slots_of, StandsIn, State, to_le_bytes, upper_of}
+use Rattle.rv_code.proofs.Words.{MachLabel, Memory, Names, nat_tests, Records, number_slots, offset_slots, Op, PCRelHi20, reg, Same, same_Some, set_reg, shift_limit, short_jump, short_lui, short_rri, short_rrr, signed, Site, size_of, Slot, slot_size, slots_of, StandsIn, State, to_le_bytes, upper_of}
 use Rattle.rv_code.proofs.Words.{upper_of_distance, upper_part, Values, w64, wrap}
 use Rattle.rv_base.specs.LabelUse.{code_limit}
 pub use Rattle.rv_inst.proofs.ImmediateSums.{IsRead, read_low, sum_of_parts, sum_of_negative, offset_sums, address_sums}
@@ -61,7 +61,7 @@ IsApartAt rd _ = Unit {0}
 -- slots stand in the code before others that do
 pub stands_split : (site : Site) (allocated from : ℕ) (slots more : List Slot) → StandsIn site allocated from (slots ++ more) → StandsIn site allocated from slots × StandsIn site allocated (from + size_of slots) more
 stands_split site allocated from [] more s = (tt, subst (λ n. StandsIn site allocated n more) (omega arith) s)
-stands_split site allocated from (Notes event ∷ slots) more s = let r = stands_split site allocated from slots more s.1 in ((s.0, r.0), subst (λ n. StandsIn site allocated n more) (omega arith) r.1)
+stands_split site allocated from (Records event ∷ slots) more s = let r = stands_split site allocated from slots more s.1 in ((s.0, r.0), subst (λ n. StandsIn site allocated n more) (omega arith) r.1)
 stands_split site allocated from (Names k ∷ slots) more s = let r = stands_split site allocated from slots more s in (r.0, subst (λ n. StandsIn site allocated n more) (omega arith) r.1)
 stands_split site allocated from (Allocate ∷ slots) more s = let r = stands_split site allocated from slots more s in (r.0, subst (λ n. StandsIn site allocated n more) (omega arith) r.1)
 stands_split site allocated from (Here k ∷ slots) more s = let r = stands_split site allocated from slots more s.1 in ((s.0, r.0), subst (λ n. StandsIn site allocated n more) (omega arith) r.1)

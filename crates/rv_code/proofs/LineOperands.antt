@@ -1,12 +1,15 @@
 -- What loads, stores, addresses, calls and returns that break no rule give, and what the words of each instruction ask.
-use Rattle.std.proofs.Common.{◌≡◌, ℕ, ◌<◌, false, List, [], ◌∷◌, length, Option, Some, None, refl, ap, subst, lit<, arith, ◌-◌, ◌^◌, not, ℤ, pos, negsuc, ◌+◌, true, ◌-ℤ◌, ◌++◌, ◌==◌, Bool, sym, ◌∙◌, ◌*◌, ◌≤◌, ◌||◌, ◌&&◌, if◌then◌else◌, int_lt, is_none, slice_get, nat_le, rules, eqb-true}
-use Rattle.rv_code.proofs.Words.{address_targets, AllByRecursion, AluRRR, AMode, AreFineResults, AreOfClass, AreReal, breaks_none, Brev8, BrTable, Call, CallInd, CallInfo, CallRetPair, class_of, Cltz, CondBr, Const, Context, def_registers, differ_in_class, either_into, eqb-false, exceeds_arguments}
+use Rattle.std.proofs.Common.{◌≡◌, ℕ, ◌<◌, false, List, [], ◌∷◌, length, Option, Some, None, refl, ap, subst, lit<, arith, ◌-◌, ◌^◌, not, ℤ, pos, negsuc, ◌+◌, true, ◌-ℤ◌, ◌++◌, ◌==◌, Bool, sym, ◌∙◌, ◌*◌, ◌≤◌, ◌||◌, ◌&&◌, if◌then◌else◌, int_lt, is_none, slice_get, nat_le, rules, eqb-true, unwrap_or}
+use Rattle.rv_code.proofs.Words.{address_targets, AllByRecursion, AluRRR, AMode, AreFineResults, AreOfClass, AreReal, breaks_none, BrTable, Call, CallInd, CallInfo, CallRetPair, class_of, CondBr, Const, Context, def_registers, differ_in_class, either_into, eqb-false, exceeds_arguments}
 use Rattle.rv_code.proofs.Words.{Extend, ExternalName, Float, FrameLayout, I8, InReg, Inst, inst_rule, inst_sum, Int, ints, is_base, is_buffer_label, is_distant, is_fifth, is_high, is_high_at, is_int_class, is_int_type, is_into_stack, is_loaded_from, is_not_of, is_on_stack, is_other_class}
 use Rattle.rv_code.proofs.Words.{is_out_of_place, is_reserved, is_shorter, is_stack, is_unloadable, is_vector_class, is_virtual, is_zero, IsApart, IsFine, IsFineAddress, IsFineResult, IsFineTry, IsFineUnit, IsIntRegister, IsUsable, LabelAddress, labels_of, lacks_constant, lacks_named, Ld, leb-false}
-use Rattle.rv_code.proofs.Words.{list_any, Load, load_class, load_format, load_size, LoadAddr, LoadInlineConst, LoadOP, loads_unless, location_differs, location_loads, location_of, location_registers, ltb-false, MachLabel, MemFlagsData, Mov, MovFromPReg, number_of, OnStack, or_parts, Popcnt, PReg}
+use Rattle.rv_code.proofs.Words.{list_any, Load, load_class, load_format, load_size, LoadAddr, LoadInlineConst, LoadOP, loads_unless, location_differs, location_loads, location_of, location_registers, ltb-false, MachLabel, MemFlagsData, Mov, MovFromPReg, number_of, OnStack, or_parts, PReg}
 use Rattle.rv_code.proofs.Words.{RawData, Real, Reg, RegClass, registers_in, RegOffset, restores, result_loads, results_clash, RetLocation, ReturnCall, ReturnCallInd, same_class, saved_load, saves_from, Select, setup_loads, slice_get_within, sp_to_args_end, sp_to_fp_of, StackLoad, Store}
 use Rattle.rv_code.proofs.Words.{store_class, StoreOP, tail_call_of, TryCallInfo, UnitWord, use_registers, Vector, Virtual, Writable}
+use Rattle.rv_inst.specs.Descriptions.{sequence_registers, third}
 use Rattle.rv_inst.specs.declared.inst.Inst.TheVariants.{Jal}
+use Rattle.rv_inst.specs.declared.sequence.Sequence.{Sequence}
+use Rattle.rv_code.specs.Usable.{IsFineSequence}
 use Rattle.rv_base.specs.declared.constant.Constant.{Constant}
 use Rattle.rv_base.specs.AMode.{IsNear, base_of, own_offset, registers_of}
 use Rattle.rv_inst.specs.Frames.{is_unsaved, is_t0, is_bad_frame, is_bad_frame_for}
@@ -266,6 +269,16 @@ unit_fine : (w : UnitWord) → list_any is_virtual (registers_in w.places) ≡ f
 unit_fine w real placed rounded wide =
     (by_none is_virtual AreReal tt (λ r rs one others. (is_real r one, others)) (registers_in w.places) real, by_none is_out_of_place AreOfClass tt (λ p ps one others. (sym (one_class (class_of p.reg) p.class one), others)) w.places placed, not_false w.rounding rounded, not_false w.width wide)
 
+third_fine : (s : Sequence) (tmp3 : Option (Writable Reg)) → AreUsable (s.rs ∷ s.tmp1.reg ∷ s.tmp2.reg ∷ third tmp3 ++ s.rd.reg ∷ []) → IsIntRegister (unwrap_or tmp3 s.tmp2).reg × IsIntRegister s.rd.reg
+third_fine s None all = (all.1.1.0.0, all.1.1.1.0.0)
+third_fine s (Some w) all = (all.1.1.1.0.0, all.1.1.1.1.0.0)
+
+sequence_fine : (s : Sequence) → list_any is_virtual (sequence_registers s) ≡ false → list_any is_other_class (sequence_registers s) ≡ false → list_any is_reserved (sequence_registers s) ≡ false → not (is_int_type s.ty) ≡ false → IsFineSequence s
+sequence_fine s real placed free typed =
+    let all = are_usable (sequence_registers s) real placed free in
+    let rest = third_fine s s.tmp3 all in
+    record { rs = all.0.0; tmp1 = all.1.0.0; tmp2 = all.1.1.0.0; tmp3 = rest.0; rd = rest.1; typed = not_false (is_int_type s.ty) typed }
+
 pub fine : (context : Context) (inst : Inst) → inst_rule context inst ≡ None → IsFine context.constants inst
 fine context inst e = kept inst (keeps context inst e) (breaks_none context inst e rule.Constant)
   where
@@ -288,12 +301,7 @@ fine context inst e = kept inst (keeps context inst e) (breaks_none context inst
     kept (Jal label) k there = listed label _ k.listed
     kept (CondBr taken not_taken kind) k there = let all = two_ints kind.rs1 kind.rs2 k.real k.placed k.free in let both = listed_targets taken not_taken k.listed in (all.0, all.1, both.0, both.1)
     kept (BrTable index tmp1 tmp2 targets) k there = table_fine index tmp1 tmp2 targets k
-    kept (Popcnt info) k there = let all = are_usable (info.sum.reg ∷ info.tmp.reg ∷ info.step.reg ∷ info.rs ∷ []) k.real k.placed k.free in (all.0.0, all.1.0.0, all.1.1.0.0, all.1.1.1.0.0, not_false (is_int_type info.ty) k.typed)
-    kept (Cltz leading info) k there = let all = are_usable (info.sum.reg ∷ info.tmp.reg ∷ info.step.reg ∷ info.rs ∷ []) k.real k.placed k.free in (all.0.0, all.1.0.0, all.1.1.0.0, all.1.1.1.0.0, not_false (is_int_type info.ty) k.typed)
-    kept (Brev8 info) k there =
-        let all = are_usable (info.rs ∷ info.step.reg ∷ info.tmp.reg ∷ info.tmp2.reg ∷ info.rd.reg ∷ []) k.real k.placed k.free in
-        (all.1.1.1.1.0.0, all.1.1.0.0, all.1.1.1.0.0, all.1.0.0, all.0.0, not_false (is_int_type info.ty) k.typed)
     kept (Call info) k there = (listed_try info.try_call_info k.listed_try, (call_kept info k).results)
     kept (CallInd info) k there = ((call_usable info k).0, listed_try info.try_call_info k.listed_try, (call_ind_kept info k).results)
     kept (ReturnCallInd info) k there = target_fine info k
-    kept inst k there = search (rules, k, one_int, two_ints, unit_fine)
+    kept inst k there = search (rules, k, one_int, two_ints, unit_fine, sequence_fine)

@@ -1,9 +1,9 @@
 -- What lines of loads, stores, addresses, numbers and symbols add to a buffer, and that their parts are self-contained.
 use Rattle.std.proofs.Common.{◌≡◌, ℕ, ◌+◌, List, [], ◌∷◌, ◌%◌, eqb-true, length, Option, refl, arith, ◌-◌, ◌≤◌, Bool, true, false, ◌++◌, Some, None, ℤ, pos, ap, sym, ◌∙◌, subst, append_assoc, lit≤, append-nil, ◌==◌, ◌^◌, ◌<◌, not, if◌then◌else◌, ◌&&◌, rules}
-use Rattle.rv_code.proofs.Words.{access_slots, Add, Addi, address_event, address_slots, address_targets, Aim, Allocate, AMode, AreClosed, AreSelfContained, AtConstant, AtLabel, Base, Based, boxing_slots, cast_signed, Const, constant_label, constant_named, Context, Data, Decoded, decoded}
+use Rattle.rv_code.proofs.Words.{access_slots, Add, Addi, address_event, address_slots, address_targets, Fixup, Allocate, AMode, AreClosed, AreSelfContained, AtConstant, AtLabel, Base, Based, boxing_slots, cast_signed, Const, constant_label, constant_named, Context, Data, Decoded, decoded}
 use Rattle.rv_code.proofs.Words.{decoded_load, decoded_store, ExternalName, far_slots, FrameLayout, got_slots, half_load_slots, half_store_slots, has_load, has_store, Here, inline_size, Inst, inst_constant, inst_records, inst_size, ints, is_near, is_splittable}
 use Rattle.rv_code.proofs.Words.{IsaFlags, IsOfSize, IsReal, Jal20, jump_size, label_of, LabelAddress, LabelUse, Lh, Load, load_line_slots, load_over, load_own_size, load_size, load_slots, LoadAddr, LoadExtNameFar, LoadExtNameGot, LoadExtNameNear, LoadOP, Location, location_of, low64, low_word}
-use Rattle.rv_code.proofs.Words.{lower_of, MachLabel, MachRecord, marks_of, MemFlagsData, moved_to_float, moved_to_integer, name_more, named_by, Names, names_of, near_slots, Notes, number_of, number_slots, offset_slots, Op, Or, PCRelHi20, PCRelLo12I, Real, records_of, Reg, RegClass, Sh, short_jump}
+use Rattle.rv_code.proofs.Words.{lower_of, MachLabel, MachRecord, marks_of, MemFlagsData, moved_to_float, moved_to_integer, name_more, named_by, Names, names_of, near_slots, Records, number_of, number_slots, offset_slots, Op, Or, PCRelHi20, PCRelLo12I, Real, records_of, Reg, RegClass, Sh, short_jump}
 use Rattle.rv_code.proofs.Words.{short_load, short_lui, short_rri, short_rrr, short_store, size_of, Slot, slot_size, Store, store_line_slots, store_own_size, store_slots, StoreOP, target_uses, to_le_bytes, TrapCode, Unwind, upper_of, use_at, uses_in, uses_of, uses_start, VCodeConstant, Virtual, w64}
 use Rattle.rv_code.proofs.Words.{Writable}
 use Rattle.rv_code.proofs.Words.{Constant, Do, immediate_pieces, number_pieces, offset_pieces, Piece, Rri, slots_of}
@@ -94,12 +94,12 @@ plain_append (slot ∷ slots) more h g = search (rules, plain_append slots more)
 
 uses_append : (allocated at end : ℕ) (slots more : List Slot) → at + size_of slots ≡ end → uses_of allocated at (slots ++ more) ≡ uses_of allocated at slots ++ uses_of allocated end more
 uses_append allocated at end [] more e = let here : at ≡ end = omega arith in ap (λ n. uses_of allocated n more) here
-uses_append allocated at end (Aim kind target ops ∷ slots) more e = ap (λ us. use_at at (label_of allocated target) kind ∷ us) (uses_append allocated (at + length (marks_of kind)) end slots more (omega arith))
+uses_append allocated at end (Fixup kind target ops ∷ slots) more e = ap (λ us. use_at at (label_of allocated target) kind ∷ us) (uses_append allocated (at + length (marks_of kind)) end slots more (omega arith))
 uses_append allocated at end (slot ∷ slots) more e = uses_append allocated _ end slots more (omega arith)
 
 records_append : (end : ℕ) (slots more : List Slot) (at : ℕ) → at + size_of slots ≡ end → records_of at (slots ++ more) ≡ records_of at slots ++ records_of end more
 records_append end [] more at e = let here : at ≡ end = omega arith in ap (λ n. records_of n more) here
-records_append end (Notes event ∷ slots) more at e = let r = records_append end slots more at (omega arith) in cc
+records_append end (Records event ∷ slots) more at e = let r = records_append end slots more at (omega arith) in cc
 records_append end (slot ∷ slots) more at e = let r = records_append end slots more (at + slot_size slot) (omega arith) in let same : at + 0 ≡ at = omega arith in cc
 
 names_append : (slots more : List Slot) (named : List VCodeConstant) → names_of (slots ++ more) named ≡ names_of more (names_of slots named)
@@ -145,7 +145,7 @@ pub op_then : {last : ℕ} {rest : ℕ → List (Use LabelUse)} {records_at : �
 op_then d even c = both (one d even) c
 
 -- a record before slots whose own records are said from their start
-pub note_then : {last : ℕ} {rest : ℕ → List (Use LabelUse)} {records_at : ℕ → List MachRecord} {slots : List Slot} (noted : Event) → size_of slots ≡ last → HaveContents last (at_end rest) records_at None slots → HaveContents last (at_end rest) (λ at. record { offset = at; event = noted } ∷ records_at at) None (Notes noted ∷ slots)
+pub note_then : {last : ℕ} {rest : ℕ → List (Use LabelUse)} {records_at : ℕ → List MachRecord} {slots : List Slot} (noted : Event) → size_of slots ≡ last → HaveContents last (at_end rest) records_at None slots → HaveContents last (at_end rest) (λ at. record { offset = at; event = noted } ∷ records_at at) None (Records noted ∷ slots)
 note_then {last} {rest} {records_at} {slots} noted same c =
     let ends : (start : ℕ) → start + size_of slots ≡ start + (0 + size_of slots) = λ start. omega arith in
     let back : (start : ℕ) → start ≡ start + (0 + size_of slots) - last = λ start. omega (arith, same) in
@@ -352,7 +352,7 @@ far_summed context rd name offset =
     let fits = far_long context.flags (number_of rd.reg) name offset in
     record { plain = tt; fits = fits; uses = λ allocated start. refl; records = λ start. ap (λ at. record { offset = at; event = address_event name offset } ∷ []) (omega arith); names = λ named. refl }
 
-pub unwind_summed : (context : Context) (inst : UnwindInst) → IsSummed context (Unwind inst) (Notes (event.Unwind inst) ∷ [])
+pub unwind_summed : (context : Context) (inst : UnwindInst) → IsSummed context (Unwind inst) (Records (event.Unwind inst) ∷ [])
 unwind_summed context inst = record { plain = tt; fits = refl; uses = λ allocated start. refl; records = λ start. refl; names = λ named. refl }
 
 pub far_contained : (flags : IsaFlags) (rd : ℕ) (name : ExternalName) (offset : ℤ) → AreSelfContained (far_slots flags rd name offset)

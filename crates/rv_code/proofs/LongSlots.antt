@@ -1,15 +1,14 @@
 -- Slots of tables and tail calls: how long they are, and that they are self-contained.
 use Rattle.std.proofs.Common.{rules, ◌≡◌, ℕ, ◌+◌, ◌^◌, ◌*◌, ◌≤◌, Bool, true, false, List, [], ◌∷◌, length, Option, Some, None, ℤ, pos, ◌-ℤ◌, arith, lit≤, refl, subst, sym, ◌-◌, ◌%◌, ◌<◌, ◌++◌, map, ap, ◌==◌, suc, if◌then◌else◌}
-use Rattle.rv_code.proofs.Words.{Add, Addi, address_slots, Aim, AllByRecursion, Allocate, AreClosed, AreFineResults, AreSelfContained, Based, call_event, call_to, CallRetPair, Data, decoded_load, extend_pieces, ExternalName, frame_above, FrameLayout}
+use Rattle.rv_code.proofs.Words.{Add, Addi, address_slots, Fixup, AllByRecursion, Allocate, AreClosed, AreFineResults, AreSelfContained, Based, call_event, call_to, CallRetPair, Data, decoded_load, extend_pieces, ExternalName, frame_above, FrameLayout}
 use Rattle.rv_code.proofs.Words.{half_load_slots, has_load, Here, here_at, InReg, Int, ints, is_near, is_splittable, IsaFlags, IsFineResult, jump_size, Ld, length-append, Lh, load_line_slots, load_slots, LoadOP, loads_unless, location_loads, low64, lower_of, MachLabel}
-use Rattle.rv_code.proofs.Words.{MachRecord, Notes, number_of, number_slots, offset_slots, OnStack, Op, Own, PReg, Reg, restores, result_load, result_loads, RetLocation, return_size, return_slots, saved_load, saves_from, setup_loads, short_jalr, short_rri}
+use Rattle.rv_code.proofs.Words.{MachRecord, Records, number_of, number_slots, offset_slots, OnStack, Op, Own, PReg, Reg, restores, result_load, result_loads, RetLocation, return_size, return_slots, saved_load, saves_from, setup_loads, short_jalr, short_rri}
 use Rattle.rv_code.proofs.Words.{short_rrr, size_of, Slli, Slot, slots_of, sp_to_fp_of, Srli, stack_load_slots, stack_step_slots, StackLoad, t0_slots, table_slots, tail_slots, typed_loads, upper_of, Writable}
 use Rattle.rv_inst.specs.Limits.{return_limit}
 use Rattle.rv_code.proofs.OperationActs.{load_sized, lui_sized, rrr_sized, rri_sized, jump_len, least_even, jalr_sized}
 use Rattle.rv_code.proofs.LineOperands.{of_both, setup_by}
 use Rattle.rv_code.proofs.LineSlots.{is_low, slots_by, number_by, numbers, number_few as number_most, IsPlain, HaveContents, HaveWords, none, nothing, one, both, closed_append, line_loaded, size_append, split_short, far_most, load_most, half_most, either_most}
 use Rattle.rv_code.specs.Tables.{far_jump, jump_slots}
-use Rattle.rv_ops.specs.declared.memory.LoadOP.TheVariants as loads
 use Rattle.mach_records.specs.declared.records.Event.TheVariants as event
 
 -- ---- how many bytes loads from the stack have: 28 at most, halves by integer registers among them, whose offset is at most 2^30.
@@ -71,7 +70,7 @@ unless_short flags false defs h = results_short flags defs h
 abbrev pub AreEven : List Slot → Type 0
 AreEven [] = Unit {0}
 AreEven (Op d ∷ slots) = (d.len % 2 ≡ 0) × AreEven slots
-AreEven (Aim kind (Own k) ops ∷ slots) = ⊥
+AreEven (Fixup kind (Own k) ops ∷ slots) = ⊥
 AreEven (Data bytes ∷ slots) = (length bytes % 2 ≡ 0) × AreEven slots
 AreEven (Allocate ∷ slots) = ⊥
 AreEven (Here k ∷ slots) = ⊥
@@ -79,12 +78,12 @@ AreEven (slot ∷ slots) = AreEven slots
 
 pub even_plain : (slots : List Slot) → AreEven slots → IsPlain slots
 even_plain [] e = tt
-even_plain (Aim kind (Own k) ops ∷ slots) e = absurd e
+even_plain (Fixup kind (Own k) ops ∷ slots) e = absurd e
 even_plain (slot ∷ slots) e = search (rules, even_plain slots)
 
 pub even_closed : (here : ℕ → Option ℕ) (at : ℕ) (slots : List Slot) → AreEven slots → AreClosed here at slots
 even_closed here at [] e = tt
-even_closed here at (Aim kind (Own k) ops ∷ slots) e = absurd e
+even_closed here at (Fixup kind (Own k) ops ∷ slots) e = absurd e
 even_closed here at (slot ∷ slots) e = search (rules, λ (at : ℕ). even_closed here at slots)
 
 pub extend_even : (flags : IsaFlags) (rd rn : ℕ) → AreEven (slots_of flags (extend_pieces rd rn false 32))
@@ -161,7 +160,7 @@ call_records name at = record { offset = at; event = event.CallSite } ∷ record
 
 pub tail_contents : (flags : IsaFlags) (frame : FrameLayout) (arguments : ℕ) (name : ExternalName) → HaveContents 8 none (call_records name) None (tail_slots flags frame arguments name)
 tail_contents flags frame arguments name =
-    let pair : HaveContents 8 none (call_records name) None (Notes event.CallSite ∷ call_to 0 31 name ∷ []) = record { plain = tt; within = lit≤ tt; uses = λ allocated start. refl; records = λ start. let e : start ≡ start + 8 - 8 = omega arith in ap (call_records name) e; names = λ named. refl; closed = λ here start. tt } in
+    let pair : HaveContents 8 none (call_records name) None (Records event.CallSite ∷ call_to 0 31 name ∷ []) = record { plain = tt; within = lit≤ tt; uses = λ allocated start. refl; records = λ start. let e : start ≡ start + 8 - 8 = omega arith in ap (call_records name) e; names = λ named. refl; closed = λ here start. tt } in
     both (returns_counted flags frame arguments) pair
 
 pub t0_contents : (flags : IsaFlags) (frame : FrameLayout) (arguments : ℕ) → HaveWords (t0_slots flags frame arguments)

@@ -1,20 +1,22 @@
 -- Instructions that pieces make: how long they are, and that they are self-contained.
-use Rattle.std.proofs.Common.{rules, ◌≡◌, ℕ, ℤ, ◌+◌, ◌≤◌, Bool, true, false, nat_eq, [], ◌∷◌, List, length, Some, None, arith, refl, lit≤, sym, subst, ap, lit<, suc, ◌*◌, ◌<◌, ◌++◌, map, pos, ◌∙◌, ◌-◌, if◌then◌else◌}
-use Rattle.rv_code.proofs.Words.{Action, after, all_of, Andi, AreAmong, AreClosed, AreClosedPieces, AreSelfContained, AtMost, B12, backward_of, Bind, bits_of, Branch, Brev8, canonical_type, choice_pieces, class_of, Cltz, complement_of, Context, Do, Exactly, Extend, extend_pieces, forward_of}
+use Rattle.std.proofs.Common.{rules, ◌≡◌, ℕ, ℤ, ◌+◌, ◌≤◌, Bool, true, false, nat_eq, [], ◌∷◌, List, length, Option, Some, None, is_some, unwrap_or, zero, ◌&&◌, arith, refl, lit≤, sym, subst, ap, lit<, suc, ◌*◌, ◌<◌, ◌++◌, map, pos, ◌∙◌, ◌-◌, if◌then◌else◌}
+use Rattle.rv_code.proofs.Words.{Action, after, all_of, Andi, AreAmong, AreClosed, AreClosedPieces, AreSelfContained, AtMost, B12, backward_of, Bind, bits_of, Branch, canonical_type, choice_pieces, class_of, complement_of, Context, Do, Exactly, Extend, extend_pieces, forward_of}
 use Rattle.rv_code.proofs.Words.{cast_signed, Constant, jump_size, low_word, number_pieces, short_jump, StackProbeLoop, w64}
 use Rattle.rv_code.proofs.LineSlots.{number_by}
 use Rattle.rv_code.proofs.Words.{GoNowhere, here_at, I64, Inst, inst_constant, inst_records, inst_size, Int, IntCC, IntegerCompare, IrType, is_byte, IsaFlags, IsBoundIn, IsBoundNear, IsOfSize, Jal20, Jump, jump_kind, LabelUse, Mov, move_action, move_op, move_pieces, move_size, moves_then}
-use Rattle.rv_code.proofs.Words.{MovFromPReg, named_by, names_of, New, number_of, op_of, own_labels, Piece, piece_most, piece_size, pieces_most, pieces_size, Popcnt, PReg, records_of, Reg, RegClass, request_of, right_shift, Rri, RVCJump, same_numbers, Select, select_pieces, SelectInfo, size_of}
+use Rattle.rv_code.proofs.Words.{MovFromPReg, named_by, names_of, New, number_of, op_of, own_labels, Piece, piece_most, piece_size, pieces_most, pieces_size, PReg, records_of, Reg, RegClass, request_of, right_shift, Rri, RVCJump, same_numbers, Select, select_pieces, SelectInfo, size_of}
 use Rattle.rv_code.proofs.Words.{Slli, slots_of, Trap, TrapCode, TrapIf, Udf, uses_in, VCodeConstant, Writable, written_in}
 use Rattle.rv_base.specs.declared.value_regs.ValueRegs.TheVariants.{One, Two}
 use borrow.Author.Count.{below_more, below_none}
-use Rattle.rv_inst.specs.declared.inst.Brev8Info.{Brev8Info}
-use Rattle.rv_inst.specs.declared.inst.CountInfo.{CountInfo}
+use Rattle.rv_inst.specs.Descriptions.{most_words}
+use Rattle.rv_inst.specs.declared.sequence.Computation.{Computation}
+use Rattle.rv_inst.specs.declared.sequence.Computation.TheVariants.{Zeros}
+use Rattle.rv_inst.specs.declared.sequence.Sequence.{Sequence}
+use Rattle.rv_code.proofs.Words.{and_parts}
 use Rattle.rv_code.proofs.Evaluation.{trap_long, action_sized, piece_even}
 use Rattle.rv_code.proofs.OperationActs.{window_long, least_even, least_few, jump_len}
-use Rattle.rv_code.specs.Counts.{ones_pieces, zeros_pieces}
+use Rattle.rv_code.specs.Sequences.{pieces_by, sequence_pieces, zeros_pieces}
 use Rattle.rv_code.specs.Probes.{probe_pieces, probe_turn}
-use Rattle.rv_code.specs.Reversals.{reverse_pieces}
 use Rattle.rv_code.specs.Traps.{trap_if_pieces}
 
 -- ---- how long pieces are, and that those which use no own label but what they allocate and bind are self-contained, in whatever forms.
@@ -92,31 +94,29 @@ pieces_name flags [] named = refl
 pieces_name flags (New ∷ ps) named = pieces_name flags ps named
 pieces_name flags (p ∷ ps) named = pieces_name flags ps named
 
--- ---- the instructions that count bits of a register, and that reverse those of its bytes: the pieces that make them, and how long they are.
+-- ---- the sequences that compute one register of another: they are closed, and of at most so many words.
 
-pub popcnt_made : (context : Context) (info : CountInfo) → IsMadeOf context (Popcnt info) (ones_pieces (number_of info.sum.reg) (number_of info.tmp.reg) (number_of info.step.reg) (number_of info.rs) (bits_of info.ty))
-popcnt_made context info =
-    let pieces = ones_pieces (number_of info.sum.reg) (number_of info.tmp.reg) (number_of info.step.reg) (number_of info.rs) (bits_of info.ty) in
-    let P = IsBoundIn pieces in
-    let closed : AreClosedPieces pieces = record { among = (lit< tt, (lit< tt, (lit< tt, (lit< tt, (lit< tt, (lit< tt, tt)))))); bound = below_more P 2 (below_more P 1 (below_more P 0 (below_none P) (_, refl)) (_, refl)) (_, refl) } in
-    made_by context (Popcnt info) pieces closed (fits_most context.flags pieces (lit≤ tt)) (lit≤ tt) tt (lit≤ tt) refl (λ start end. refl) (λ start. refl) refl
+abbrev all_bound : ℕ → List Piece → Bool
+all_bound zero whole = true
+all_bound (suc n) whole = is_some (after n whole) && all_bound n whole
 
-pub zeros_made : (context : Context) (leading : Bool) (info : CountInfo) → IsMadeOf context (Cltz leading info) (zeros_pieces leading (number_of info.sum.reg) (number_of info.tmp.reg) (number_of info.step.reg) (number_of info.rs) (bits_of info.ty))
-zeros_made context true info =
-    let pieces = zeros_pieces true (number_of info.sum.reg) (number_of info.tmp.reg) (number_of info.step.reg) (number_of info.rs) (bits_of info.ty) in
-    let closed : AreClosedPieces pieces = record { among = search rules; bound = below_more (IsBoundIn pieces) 1 (below_more (IsBoundIn pieces) 0 (below_none (IsBoundIn pieces)) (_, refl)) (_, refl) } in
-    made_by context (Cltz true info) pieces closed (fits_most context.flags pieces (lit≤ tt)) (lit≤ tt) tt (lit≤ tt) refl (λ start end. refl) (λ start. refl) refl
-zeros_made context false info =
-    let pieces = zeros_pieces false (number_of info.sum.reg) (number_of info.tmp.reg) (number_of info.step.reg) (number_of info.rs) (bits_of info.ty) in
-    let closed : AreClosedPieces pieces = record { among = search rules; bound = below_more (IsBoundIn pieces) 1 (below_more (IsBoundIn pieces) 0 (below_none (IsBoundIn pieces)) (_, refl)) (_, refl) } in
-    made_by context (Cltz false info) pieces closed (fits_most context.flags pieces (lit≤ tt)) (lit≤ tt) tt (lit≤ tt) refl (λ start end. refl) (λ start. refl) refl
+is_bound : (o : Option (List Piece)) → is_some o ≡ true → (qs : List Piece) × (o ≡ Some qs)
+is_bound None e = absurd (cc)
+is_bound (Some qs) e = (qs, refl)
 
-pub reverse_made : (context : Context) (info : Brev8Info) → IsMadeOf context (Brev8 info) (reverse_pieces (number_of info.rd.reg) (number_of info.tmp.reg) (number_of info.tmp2.reg) (number_of info.step.reg) (number_of info.rs) (bits_of info.ty))
-reverse_made context info =
-    let pieces = reverse_pieces (number_of info.rd.reg) (number_of info.tmp.reg) (number_of info.tmp2.reg) (number_of info.step.reg) (number_of info.rs) (bits_of info.ty) in
-    let P = IsBoundIn pieces in
-    let closed : AreClosedPieces pieces = record { among = search rules; bound = below_more P 4 (below_more P 3 (below_more P 2 (below_more P 1 (below_more P 0 (below_none P) (_, refl)) (_, refl)) (_, refl)) (_, refl)) (_, refl) } in
-    made_by context (Brev8 info) pieces closed (fits_most context.flags pieces (lit≤ tt)) (lit≤ tt) tt (lit≤ tt) refl (λ start end. refl) (λ start. refl) refl
+bound_below : (whole : List Piece) (n : ℕ) → all_bound n whole ≡ true → (k : ℕ) → k < n → IsBoundIn whole k
+bound_below whole zero e k lt = absurd (omega arith)
+bound_below whole (suc n) e k lt =
+    let both = and_parts (is_some (after n whole)) (all_bound n whole) e in
+    below_more (IsBoundIn whole) n (bound_below whole n both.1) (is_bound (after n whole) both.0) k (omega arith)
+
+computation_made : (context : Context) (inst : Inst) (c : Computation) (rd tmp1 tmp2 tmp3 rs bits : ℕ) → inst_size context inst ≡ AtMost (4 * most_words c) → request_of context inst ≡ None → ((start end : ℕ) → [] ≡ uses_in context start end inst) → ((start end : ℕ) → [] ≡ inst_records context start end inst) → inst_constant inst ≡ None → IsMadeOf context inst (pieces_by c rd tmp1 tmp2 tmp3 rs bits)
+computation_made context inst (Zeros true) rd tmp1 tmp2 tmp3 rs bits size asks uses records name = let ps = zeros_pieces true rd tmp1 tmp2 rs bits in made_by context inst ps (record { among = search rules; bound = bound_below ps 2 refl }) (subst (λ s. IsOfSize s (pieces_size context.flags ps)) (sym size) (fits_most context.flags ps (lit≤ tt))) (lit≤ tt) tt (lit≤ tt) asks uses (λ start. records start _) name
+computation_made context inst (Zeros false) rd tmp1 tmp2 tmp3 rs bits size asks uses records name = let ps = zeros_pieces false rd tmp1 tmp2 rs bits in made_by context inst ps (record { among = search rules; bound = bound_below ps 2 refl }) (subst (λ s. IsOfSize s (pieces_size context.flags ps)) (sym size) (fits_most context.flags ps (lit≤ tt))) (lit≤ tt) tt (lit≤ tt) asks uses (λ start. records start _) name
+computation_made context inst c rd tmp1 tmp2 tmp3 rs bits size asks uses records name = let ps = pieces_by c rd tmp1 tmp2 tmp3 rs bits in made_by context inst ps (record { among = search rules; bound = bound_below ps (own_labels ps) refl }) (subst (λ s. IsOfSize s (pieces_size context.flags ps)) (sym size) (fits_most context.flags ps (lit≤ tt))) (lit≤ tt) tt (lit≤ tt) asks uses (λ start. records start _) name
+
+pub sequence_made : (context : Context) (inst : Inst) (s : Sequence) → inst_size context inst ≡ AtMost (4 * most_words s.computation) → request_of context inst ≡ None → ((start end : ℕ) → [] ≡ uses_in context start end inst) → ((start end : ℕ) → [] ≡ inst_records context start end inst) → inst_constant inst ≡ None → IsMadeOf context inst (sequence_pieces s)
+sequence_made context inst s = computation_made context inst s.computation (number_of s.rd.reg) (number_of s.tmp1.reg) (number_of s.tmp2.reg) (number_of (unwrap_or s.tmp3 s.tmp2).reg) (number_of s.rs) (bits_of s.ty)
 
 -- ---- the instructions that move and extend a register and that choose one of two values: the pieces that make them, and how long they are.
 

@@ -1,6 +1,6 @@
 -- What an instruction that breaks no rule gives: of its registers, numbers and targets.
 use Rattle.std.proofs.Common.{⊎_elim, ◌≡◌, ◌⊎◌, inl, inr, ℕ, ◌<◌, Bool, true, false, List, [], ◌∷◌, ◌++◌, length, Option, Some, None, arith, refl, sym, subst, eqb-true, ◌∙◌, ◌≢◌, ◌==◌, not, ◌≤◌, rules, ◌%◌, ap, nat_le, ◌||◌, ◌&&◌, IfSome}
-use Rattle.rv_code.proofs.Words.{all_of, AllByRecursion, and_parts, AreListed, AreMoves, AVirtual, bits_of, breaks_none, Brev8, BrTable, CallInd, CallInfo, canonical_type, clash, class_of, Cltz, Context, count_faults, differ_at_places, differ_in_class, eqb-false, Extend, Float, has_bad_rounding}
+use Rattle.rv_code.proofs.Words.{all_of, AllByRecursion, and_parts, AreListed, AreMoves, AVirtual, bits_of, breaks_none, BrTable, CallInd, CallInfo, canonical_type, clash, class_of, Context, differ_at_places, differ_in_class, eqb-false, Extend, Float, has_bad_rounding}
 use Rattle.rv_code.proofs.Words.{has_bad_size, has_bad_type, has_bad_width, has_clash, has_empty_table, has_zero, I8, Inst, inst_registers, inst_rule, Int, IntegerCompare, IrType, is_buffer_label, is_float, is_float_class, is_int_class, is_int_type, is_misplaced, is_movable, is_not_of, is_one_of}
 use Rattle.rv_code.proofs.Words.{is_other_class, is_out_of_place, is_out_of_range, is_real_x, is_reserved, is_stack_or_frame, is_uneven, is_vector, is_vector_class, is_virtual, is_word_type, is_zero, IsFineChoice, IsFineTarget, IsFineTry, IsIntRegister, IsListed, IsMove, IsRealRegister, IsUsable}
 use Rattle.rv_code.proofs.Words.{labels_of, lacks_target, leb-false, leb-true, list_any, LoadInlineConst, MachLabel, Mov, MovFromPReg, number_of, or_cases, or_parts, PReg, RawData, Real, Reg, RegClass, registers_in, same_class, same_register, Select, SelectInfo, StackProbeLoop, table_of}
@@ -12,6 +12,12 @@ use Rattle.mach_labels.specs.Table.{first_inner}
 use Rattle.rv_inst.specs.declared.inst.CondBrTarget.{CondBrTarget}
 use Rattle.rv_inst.specs.declared.inst.CondBrTarget.TheVariants.{Label as ToLabel}
 use Rattle.rv_inst.specs.Core.{is_integer}
+use Rattle.rv_inst.specs.Descriptions.{counts, reverses, sequence_registers}
+use Rattle.rv_inst.specs.Rules.{sequence_faults}
+use Rattle.rv_inst.specs.declared.inst.Brev8Info.{Brev8Info}
+use Rattle.rv_inst.specs.declared.inst.CountInfo.{CountInfo}
+use Rattle.rv_inst.specs.declared.inst.Inst.TheVariants.{Brev8}
+use Rattle.rv_inst.specs.declared.sequence.Computation.{Computation}
 use Rattle.rv_inst.specs.declared.units.PlacedReg.{PlacedReg}
 use Rattle.rv_code.proofs.Registers.{IsCount, count_of}
 use Rattle.rv_code.proofs.ReversedBytes.{Reversal, IsReversal}
@@ -195,23 +201,30 @@ pub some_bits : (type : IrType) → not (is_int_type type) ≡ false → (1 ≤ 
 some_bits I8 e = search (rules, arith)
 some_bits _ e = search (rules, arith)
 
-pub is_count : (sum tmp step : Writable Reg) (rs : Reg) (type : IrType) → AreUsable (sum.reg ∷ tmp.reg ∷ step.reg ∷ rs ∷ []) → (count_faults sum tmp step rs type).zeroed ≡ false → (count_faults sum tmp step rs type).clashing ≡ false → (count_faults sum tmp step rs type).type ≡ false → IsCount (count_of sum tmp step rs type)
-is_count sum tmp step rs type usable zeroed clashing typed =
-    search (rules, usable, (all_apart (sum.reg ∷ tmp.reg ∷ step.reg ∷ []) (rs ∷ []) usable clashing), (none_of is_zero (sum.reg ∷ tmp.reg ∷ step.reg ∷ []) zeroed), (some_bits type typed), not_zero)
-
-pub zeros_count : (sum tmp step : Writable Reg) (rs : Reg) (leading : Bool) (type : IrType) → Keeps (Cltz leading (record { sum = sum; tmp = tmp; step = step; rs = rs; ty = type })) → IsCount (count_of sum tmp step rs type)
-zeros_count sum tmp step rs leading type k = is_count sum tmp step rs type (are_usable (sum.reg ∷ tmp.reg ∷ step.reg ∷ rs ∷ []) k.real k.placed k.free) k.counted k.apart k.typed
+pub is_count : (info : CountInfo) (computation : Computation) → AreUsable (sequence_registers (counts computation info)) → (sequence_faults (counts computation info)).zeroed ≡ false → (sequence_faults (counts computation info)).clashing ≡ false → not (is_int_type info.ty) ≡ false → IsCount (count_of info.sum info.tmp info.step info.rs info.ty)
+is_count info computation all zeroed clashing typed =
+    let changed = info.tmp.reg ∷ info.step.reg ∷ info.sum.reg ∷ [] in
+    let apart = all_apart changed (info.rs ∷ []) (all.1.0, (all.1.1.0, (all.1.1.1.0, (all.0, tt)))) clashing in
+    let sum_tmp : number_of info.sum.reg ≢ number_of info.tmp.reg = λ e. apart.0.1.0 (sym e) in
+    let sum_step : number_of info.sum.reg ≢ number_of info.step.reg = λ e. apart.1.0.0 (sym e) in
+    search (rules, all, apart, sum_tmp, sum_step, (none_of is_zero changed zeroed), (some_bits info.ty typed), not_zero)
 
 -- ---- what a reversal of bits that breaks no rule gives: registers below x30 that differ, and the bits of at most eight bytes.
 
-abbrev pub reversal_of : Reg → IrType → Writable Reg → Writable Reg → Writable Reg → Writable Reg → Reversal
-reversal_of rs type step tmp tmp2 rd = record { rd = number_of rd.reg; tmp = number_of tmp.reg; tmp2 = number_of tmp2.reg; step = number_of step.reg; rs = number_of rs; bits = bits_of type }
+abbrev pub reversal_of : Brev8Info → Reversal
+reversal_of info = record { rd = number_of info.rd.reg; tmp = number_of info.tmp.reg; tmp2 = number_of info.tmp2.reg; step = number_of info.step.reg; rs = number_of info.rs; bits = bits_of info.ty }
 
-pub is_reversal : (rs : Reg) (type : IrType) (step tmp tmp2 rd : Writable Reg) → Keeps (Brev8 (record { rs = rs; ty = type; step = step; tmp = tmp; tmp2 = tmp2; rd = rd })) → IsReversal (reversal_of rs type step tmp tmp2 rd)
-is_reversal rs type step tmp tmp2 rd k =
-    let all = are_usable (rs ∷ step.reg ∷ tmp.reg ∷ tmp2.reg ∷ rd.reg ∷ []) k.real k.placed k.free in
-    let usable : AreUsable (rd.reg ∷ tmp.reg ∷ tmp2.reg ∷ step.reg ∷ rs ∷ []) = (all.1.1.1.1.0, (all.1.1.0, (all.1.1.1.0, (all.1.0, (all.0, tt))))) in
-    search (rules, usable, (all_apart (rd.reg ∷ tmp.reg ∷ tmp2.reg ∷ step.reg ∷ []) (rs ∷ []) usable k.apart), (none_of is_zero (rd.reg ∷ tmp.reg ∷ tmp2.reg ∷ step.reg ∷ []) k.counted), (some_bits type k.typed), not_zero)
+pub is_reversal : (info : Brev8Info) → Keeps (Brev8 info) → IsReversal (reversal_of info)
+is_reversal info k =
+    let all = are_usable (sequence_registers (reverses info)) k.real k.placed k.free in
+    let changed = info.step.reg ∷ info.tmp.reg ∷ info.tmp2.reg ∷ info.rd.reg ∷ [] in
+    let apart = all_apart changed (info.rs ∷ []) (all.1.0, (all.1.1.0, (all.1.1.1.0, (all.1.1.1.1.0, (all.0, tt))))) k.apart in
+    let rd_step : number_of info.rd.reg ≢ number_of info.step.reg = λ e. apart.0.1.1.0 (sym e) in
+    let rd_tmp : number_of info.rd.reg ≢ number_of info.tmp.reg = λ e. apart.1.0.1.0 (sym e) in
+    let rd_tmp2 : number_of info.rd.reg ≢ number_of info.tmp2.reg = λ e. apart.1.1.0.0 (sym e) in
+    let tmp_step : number_of info.tmp.reg ≢ number_of info.step.reg = λ e. apart.0.0 (sym e) in
+    let tmp2_step : number_of info.tmp2.reg ≢ number_of info.step.reg = λ e. apart.0.1.0 (sym e) in
+    search (rules, all, apart, rd_step, rd_tmp, rd_tmp2, tmp_step, tmp2_step, (none_of is_zero changed k.counted), (some_bits info.ty k.typed), not_zero)
 
 -- ---- what a branch by a table that breaks no rule gives: registers below x30 that differ, and labels of a listing, one at least.
 

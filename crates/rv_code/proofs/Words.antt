@@ -38,7 +38,7 @@ pub use Rattle.rv_code.specs.Operations.{decoded_addi, decoded_jump, jump_size, 
 pub use Rattle.rv_code.specs.Pieces.{Action, AreAmong, AreClosedPieces, AreInRange, Bind, Branch, Constant, Copy, Do, GoNowhere, IsBoundIn, IsInRange, Jump, New, Piece, Rri, Trap}
 pub use Rattle.rv_code.specs.Pieces.{immediate_pieces, number_pieces, offset_pieces, after, branches, op_of, own_labels, piece_most, piece_size, pieces_most, pieces_size, slots_of, trap_bytes}
 pub use Rattle.rv_code.specs.Sites.{AimsFrom, BytesAt, CodeHas, ComesTo, HasOps, IsPlacedAt, LeadsOn, Site, StandsIn}
-pub use Rattle.rv_code.specs.Slots.{Aim, Allocate, AreClosed, AreSelfContained, Data, Here, IsBoundNear, Label, Names, Notes, Op, Own, Slot, address_event, between, call_event, here_at, label_of, names_of, own_label, records_of, size_of, slot_size, uses_of}
+pub use Rattle.rv_code.specs.Slots.{Fixup, Allocate, AreClosed, AreSelfContained, Data, Here, IsBoundNear, Label, Names, Records, Op, Own, Slot, address_event, between, call_event, here_at, label_of, names_of, own_label, records_of, size_of, slot_size, uses_of}
 pub use Rattle.rv_code.specs.Usable.{AreFineResults, AreListed, AreMoves, IsApart, IsFine, IsFineAddress, IsFineChoice, IsFineResult, IsFineTarget, IsFineTry, IsListed, IsMove, IsUsable}
 pub use Rattle.rv_encode.specs.Operations.{decoded, decoded_branch, decoded_load, decoded_rri, decoded_rrr, decoded_store, has_load, has_numbers, has_store, load_op, load_row, store_op, store_row}
 pub use Rattle.rv_encode.specs.Registers.{IsIntRegister, IsRealRegister}
@@ -55,17 +55,17 @@ pub use Rattle.rv_inst.specs.Operands.{address_targets, all_of, constant_named, 
 pub use Rattle.rv_inst.specs.Operands.{written_in}
 pub use Rattle.rv_inst.specs.Returns.{StackLoad, frame_above, loads_unless, location_loads, restores, result_load, result_loads, saved_load, saves_from, setup_loads, typed_loads}
 pub use Rattle.rv_inst.specs.Faults.{has_bad_rounding, has_bad_size, has_bad_type, has_bad_width, has_clash, has_empty_table, has_zero}
-pub use Rattle.rv_inst.specs.Rules.{clash, count_faults, differ_at_places, differ_in_class, either_into, exceeds_arguments, inst_rule, is_base, is_beyond, is_buffer_label, is_fifth, is_high}
+pub use Rattle.rv_inst.specs.Rules.{clash, differ_at_places, differ_in_class, either_into, exceeds_arguments, inst_rule, is_base, is_beyond, is_buffer_label, is_fifth, is_high}
 pub use Rattle.rv_inst.specs.Faults.{is_misplaced, is_out_of_range}
 pub use Rattle.rv_inst.specs.Rules.{is_high_at, is_int_class, is_int_type, is_into_stack, is_loaded_from, is_movable, is_not_of, is_on_stack, is_one_of, is_other_class, is_out_of_place, is_real_x, is_reserved, is_shorter, is_stack, is_stack_or_frame, is_uneven}
 pub use Rattle.rv_inst.specs.Faults.{lacks_constant, lacks_target}
 pub use Rattle.rv_inst.specs.Rules.{is_unloadable, is_vector, is_vector_class, is_virtual, is_word_type, is_zero, lacks_named, location_differs, results_clash, same_class, same_register, values_differ}
 pub use Rattle.rv_inst.specs.SameValues.{Same, SameBut, is_among}
 pub use Rattle.rv_inst.specs.Sizes.{AtMost, Exactly, IsOfSize, bit_shift, inst_records, inst_size, inst_sum, is_byte, move_op, move_size, request_of, right_shift, trap_size}
-pub use Rattle.rv_inst.specs.UnitWords.{AreOfClass, AreReal, IsFineUnit, UnitWord, registers_in, unit_word}
+pub use Rattle.rv_inst.specs.Descriptions.{AreOfClass, AreReal, IsFineUnit, UnitWord, registers_in, unit_word}
 pub use Rattle.rv_inst.specs.Uses.{target_uses, use_at, uses_in, uses_start}
 pub use Rattle.rv_inst.specs.declared.inst.Inst.{Inst}
-pub use Rattle.rv_inst.specs.declared.inst.Inst.TheVariants.{AluRRR, BrTable, Brev8, Call, CallInd, Cltz, CondBr, Extend, LabelAddress, Load, LoadAddr, LoadExtNameFar, LoadExtNameGot, LoadExtNameNear, LoadInlineConst, Mov, MovFromPReg, Popcnt, RawData, ReturnCall, ReturnCallInd, Select}
+pub use Rattle.rv_inst.specs.declared.inst.Inst.TheVariants.{AluRRR, BrTable, Call, CallInd, CondBr, Extend, LabelAddress, Load, LoadAddr, LoadExtNameFar, LoadExtNameGot, LoadExtNameNear, LoadInlineConst, Mov, MovFromPReg, RawData, ReturnCall, ReturnCallInd, Select}
 pub use Rattle.rv_inst.specs.declared.inst.Inst.TheVariants.{StackProbeLoop, Store, TrapIf, Udf, Unwind}
 pub use Rattle.rv_inst.specs.declared.inst.SelectInfo.{SelectInfo}
 pub use Rattle.rv_inst.specs.declared.label_use.LabelUse.{LabelUse}

@@ -33,9 +33,9 @@ use Rattle.rv_inst.specs.Returns.{StackLoad, restores, frame_above, result_loads
 use Rattle.rv_inst.specs.Records.{site_event}
 use Rattle.rv_inst.specs.Limits.{table_space}
 use Rattle.rv_inst.specs.Sizes.{fall, results_space}
-use Rattle.rv_inst.specs.UnitWords.{UnitWord, unit_of}
+use Rattle.rv_inst.specs.Descriptions.{Description, UnitWord, Word, Computes, description_of}
 use Rattle.rv_inst.specs.declared.inst.Inst.{Inst}
-use Rattle.rv_inst.specs.declared.inst.Inst.TheVariants.{Nop0, Nop4, EBreak, SequencePoint, Args, Rets, DummyUse, EmitIsland, RawData, Lui, Auipc, LoadInlineConst, AluRRR, AluRRImm12, Mov, MovFromPReg, Extend, Select, Load, Store, LoadAddr, LabelAddress, Ret, TrapIf, Jal, CondBr, BrTable, Udf, Jalr, Popcnt, Cltz, Brev8, StackProbeLoop, LoadExtNameGot, LoadExtNameNear, LoadExtNameFar, Call, CallInd, ReturnCall, ReturnCallInd, Unwind}
+use Rattle.rv_inst.specs.declared.inst.Inst.TheVariants.{Nop0, Nop4, EBreak, SequencePoint, Args, Rets, DummyUse, EmitIsland, RawData, Lui, Auipc, LoadInlineConst, AluRRR, AluRRImm12, Mov, MovFromPReg, Extend, Select, Load, Store, LoadAddr, LabelAddress, Ret, TrapIf, Jal, CondBr, BrTable, Udf, Jalr, StackProbeLoop, LoadExtNameGot, LoadExtNameNear, LoadExtNameFar, Call, CallInd, ReturnCall, ReturnCallInd, Unwind}
 use Rattle.rv_inst.specs.declared.inst.CondBrTarget.{CondBrTarget}
 use Rattle.rv_inst.specs.declared.inst.CondBrTarget.TheVariants.{Label as ToLabel, Fallthrough}
 use Rattle.rv_inst.specs.declared.label_use.LabelUse.TheVariants.{Jal20, B12, PCRelHi20, PCRelLo12I}
@@ -53,35 +53,34 @@ use Rattle.rv_code.specs.Immediates.{upper_of, lower_of, upper_of_distance, lowe
 use Rattle.mach_records.specs.declared.records.Event.TheVariants as event
 use Rattle.rv_code.specs.declared.state.EmitVState.{EmitVState}
 use Rattle.rv_code.specs.Operations.{decoded_addi, decoded_jalr, decoded_jump, short_jump}
-use Rattle.rv_code.specs.Counts.{ones_pieces, zeros_pieces}
 use Rattle.rv_code.specs.Choices.{extend_pieces, move_pieces, select_pieces}
-use Rattle.rv_code.specs.Reversals.{reverse_pieces}
+use Rattle.rv_code.specs.Sequences.{sequence_pieces}
 pub use Rattle.rv_code.specs.Pieces.{inline_slots, load_over, trap_bytes, trap_slots}
 use Rattle.rv_code.specs.Pieces.{immediate_pieces, lower_pieces, number_pieces, offset_pieces, slots_of}
 use Rattle.rv_code.specs.Probes.{probe_pieces}
 use Rattle.rv_code.specs.Traps.{trap_if_pieces}
 use Rattle.rv_code.specs.Tables.{jump_slots}
-use Rattle.rv_code.specs.Slots.{AddressOf, SlotOf, Target, Label, Slot, Op, Aim, Data, Notes, Names, Fill, Address, CallTo, Part, Ask, Slots, size_of}
+use Rattle.rv_code.specs.Slots.{AddressOf, SlotOf, Target, Label, Slot, Op, Fixup, Data, Records, Names, RelocPair, Address, CallTo, Part, Ask, Slots, size_of}
 
 -- ---- jumps
 
 -- a jump to a target in a word of four bytes, as an island's is whatever the flags are
 abbrev pub wide_jump_to : Target → Slot
-wide_jump_to target = Aim Jal20 target (λ d. decoded_jump d ∷ [])
+wide_jump_to target = Fixup Jal20 target (λ d. decoded_jump d ∷ [])
 
 -- a jump to a target, in the shortest form
 abbrev pub jump_to : IsaFlags → Target → Slot
-jump_to flags target = Aim (jump_kind flags) target (λ d. short_jump flags d ∷ [])
+jump_to flags target = Fixup (jump_kind flags) target (λ d. short_jump flags d ∷ [])
 
 -- ---- pieces of sequences
 
 -- a register is the upper part of the distance to a label, added to the word's own address
 abbrev pub upper_at : ℕ → MachLabel → Slot
-upper_at rd l = Aim PCRelHi20 (Label l) (λ d. decoded (Base base.Auipc) rd 0 0 (upper_of_distance d) ∷ [])
+upper_at rd l = Fixup PCRelHi20 (Label l) (λ d. decoded (Base base.Auipc) rd 0 0 (upper_of_distance d) ∷ [])
 
 -- a branch to a target where a comparison holds
 abbrev pub branch_to : IntegerCompare → Target → Slot
-branch_to kind target = Aim B12 target (λ d. decoded_branch kind d ∷ [])
+branch_to kind target = Fixup B12 target (λ d. decoded_branch kind d ∷ [])
 
 -- a branch, and a jump where the comparison doesn't hold
 abbrev pub branch_slots : IsaFlags → IntegerCompare → CondBrTarget → CondBrTarget → List Slot
@@ -108,7 +107,7 @@ number_slots flags rd z = slots_of flags (number_pieces rd z)
 
 -- the address of a label in a register
 abbrev pub label_slots : ℕ → MachLabel → List Slot
-label_slots rd l = upper_at rd l ∷ Aim PCRelLo12I (Label l) (λ d. decoded_addi rd rd (lower_of_distance d) ∷ []) ∷ []
+label_slots rd l = upper_at rd l ∷ Fixup PCRelLo12I (Label l) (λ d. decoded_addi rd rd (lower_of_distance d) ∷ []) ∷ []
 
 -- any address; a constant's is that of its label, once the constant is named
 abbrev pub address_slots : IsaFlags → ℕ → Location → List Slot
@@ -119,7 +118,7 @@ address_slots flags rd (AtConstant k) = Names k ∷ label_slots rd (constant_lab
 -- the trap of an access, where it may trap
 abbrev pub access_slots : Option TrapCode → List Slot
 access_slots None = []
-access_slots (Some code) = Notes (event.Trap code) ∷ []
+access_slots (Some code) = Records (event.Trap code) ∷ []
 
 -- the register in which a load from a label has the upper part of its distance: its own, or x31 where that is a floating-point register
 abbrev pub label_base : LoadOP → ℕ → ℕ
@@ -127,7 +126,7 @@ label_base op rd = if is_float_load op then 31 else rd
 
 -- a load from a label: the lower part of its distance is in the load's word
 abbrev pub label_load_slots : ℕ → ℕ → LoadOP → Option TrapCode → MachLabel → List Slot
-label_load_slots base rd op trap l = upper_at base l ∷ access_slots trap ++ Aim PCRelLo12I (Label l) (λ d. decoded_load op rd base (lower_of_distance d) ∷ []) ∷ []
+label_load_slots base rd op trap l = upper_at base l ∷ access_slots trap ++ Fixup PCRelLo12I (Label l) (λ d. decoded_load op rd base (lower_of_distance d) ∷ []) ∷ []
 
 -- any load: an address that is far from its register is computed in x31, and that of a label or a constant in rd, or in x31 of a
 -- floating-point register
@@ -195,11 +194,11 @@ table_slots flags index tmp1 tmp2 (default ∷ labels) = slots_of flags (extend_
 
 -- the address of a symbol's slot by the distance to it, and a load from there
 abbrev pub got_slots : ℕ → ExternalName → List Slot
-got_slots rd name = Fill (SlotOf name) (λ d. decoded (Base base.Auipc) rd 0 0 (upper_of_distance d) ∷ []) (λ d. decoded_load loads.Ld rd rd (lower_of_distance d) ∷ []) ∷ []
+got_slots rd name = RelocPair (SlotOf name) (λ d. decoded (Base base.Auipc) rd 0 0 (upper_of_distance d) ∷ []) (λ d. decoded_load loads.Ld rd rd (lower_of_distance d) ∷ []) ∷ []
 
 -- the address of a symbol by the distance to it
 abbrev pub near_slots : ℕ → ExternalName → ℤ → List Slot
-near_slots rd name offset = Fill (AddressOf name offset) (λ d. decoded (Base base.Auipc) rd 0 0 (upper_of_distance d) ∷ []) (λ d. decoded_addi rd rd (lower_of_distance d) ∷ []) ∷ []
+near_slots rd name offset = RelocPair (AddressOf name offset) (λ d. decoded (Base base.Auipc) rd 0 0 (upper_of_distance d) ∷ []) (λ d. decoded_addi rd rd (lower_of_distance d) ∷ []) ∷ []
 
 -- the address of a symbol from among the code
 abbrev pub far_slots : IsaFlags → ℕ → ExternalName → ℤ → List Slot
@@ -236,7 +235,7 @@ call_to link tmp name = CallTo name (λ d. decoded (Base base.Auipc) tmp 0 0 (up
 
 -- and then a jump goes on: to a symbol by way of x31, at a call site; or to the address in t0
 abbrev pub tail_slots : IsaFlags → FrameLayout → ℕ → ExternalName → List Slot
-tail_slots flags frame arguments name = return_slots flags frame arguments ++ Notes event.CallSite ∷ call_to 0 31 name ∷ []
+tail_slots flags frame arguments name = return_slots flags frame arguments ++ Records event.CallSite ∷ call_to 0 31 name ∷ []
 
 abbrev pub t0_slots : IsaFlags → FrameLayout → ℕ → List Slot
 t0_slots flags frame arguments = return_slots flags frame arguments ++ Op (short_jalr flags 0 5 (pos 0)) ∷ []
@@ -254,16 +253,16 @@ call_size flags jump popped = jump + size_of (after_call flags popped)
 -- the record of a call of so many bytes that may be patched, where it is one
 abbrev pub patch_notes : Bool → ℕ → List Slot
 patch_notes false size = []
-patch_notes true size = Notes (event.PatchableCallSite size) ∷ []
+patch_notes true size = Records (event.PatchableCallSite size) ∷ []
 
 -- the records of a call where it returns: the values on the stack, where it has a map of them; and the call site, with the handlers
 -- where it has some
 abbrev pub map_notes : FrameLayout → Option UserStackMap → List Slot
 map_notes frame None = []
-map_notes frame (Some entries) = Notes (event.StackMap (sp_to_fp_of frame) entries) ∷ []
+map_notes frame (Some entries) = Records (event.StackMap (sp_to_fp_of frame) entries) ∷ []
 
 abbrev pub return_notes : FrameLayout → Option UserStackMap → Option TryCallInfo → List Slot
-return_notes frame entries t = map_notes frame entries ++ Notes (site_event frame t) ∷ []
+return_notes frame entries t = map_notes frame entries ++ Records (site_event frame t) ∷ []
 
 -- a call that ends its block goes on by a jump
 abbrev pub try_slots : IsaFlags → Option TryCallInfo → List Slot
@@ -294,6 +293,10 @@ call_parts flags call (l ∷ loads) t = loading_parts flags call (l ∷ loads) t
 -- a word of a unit, after the record of its trap where it may trap
 abbrev pub unit_parts : UnitWord → List Part
 unit_parts w = slots_alone (access_slots w.trap ++ Op w.operation ∷ [])
+
+abbrev pub described_parts : IsaFlags → Description → List Part
+described_parts flags (Word w) = unit_parts w
+described_parts flags (Computes s with) = slots_alone (slots_of flags (sequence_pieces s))
 
 -- by the context, and the vector unit's setting known before the instruction
 abbrev pub parts_of : Context → EmitVState → Inst → List Part
@@ -326,9 +329,6 @@ parts_of context setting (CondBr taken not_taken kind) = slots_alone (branch_slo
 parts_of context setting (BrTable index tmp1 tmp2 targets) = Ask (table_space (length targets)) ∷ Slots (table_slots context.flags (number_of index) (number_of tmp1.reg) (number_of tmp2.reg) targets) ∷ []
 parts_of context setting (Udf code) = slots_alone (trap_slots context.flags code)
 parts_of context setting (Jalr rd base offset) = slots_alone (Op (short_jalr context.flags (number_of rd.reg) (number_of base) offset.value) ∷ [])
-parts_of context setting (Popcnt info) = slots_alone (slots_of context.flags (ones_pieces (number_of info.sum.reg) (number_of info.tmp.reg) (number_of info.step.reg) (number_of info.rs) (bits_of info.ty)))
-parts_of context setting (Cltz leading info) = slots_alone (slots_of context.flags (zeros_pieces leading (number_of info.sum.reg) (number_of info.tmp.reg) (number_of info.step.reg) (number_of info.rs) (bits_of info.ty)))
-parts_of context setting (Brev8 info) = slots_alone (slots_of context.flags (reverse_pieces (number_of info.rd.reg) (number_of info.tmp.reg) (number_of info.tmp2.reg) (number_of info.step.reg) (number_of info.rs) (bits_of info.ty)))
 parts_of context setting (StackProbeLoop guard_size probe_count tmp) = slots_alone (slots_of context.flags (probe_pieces (number_of tmp.reg) (low_word guard_size) (low_word probe_count)))
 parts_of context setting (LoadExtNameGot rd name) = slots_alone (got_slots (number_of rd.reg) name)
 parts_of context setting (LoadExtNameNear rd name offset) = slots_alone (near_slots (number_of rd.reg) name offset)
@@ -337,5 +337,5 @@ parts_of context setting (Call info) = call_parts context.flags (call_slots cont
 parts_of context setting (CallInd info) = call_parts context.flags (call_ind_slots context.flags context.frame info) (result_loads info.defs) info.try_call_info
 parts_of context setting (ReturnCall info) = Ask (return_size context.flags context.frame info.new_stack_arg_size + 8) ∷ Slots (tail_slots context.flags context.frame info.new_stack_arg_size info.dest) ∷ []
 parts_of context setting (ReturnCallInd info) = Ask (return_size context.flags context.frame info.new_stack_arg_size + 4) ∷ Slots (t0_slots context.flags context.frame info.new_stack_arg_size) ∷ []
-parts_of context setting (Unwind inst) = slots_alone (Notes (event.Unwind inst) ∷ [])
-parts_of context setting inst = unit_parts (unit_of inst refl)
+parts_of context setting (Unwind inst) = slots_alone (Records (event.Unwind inst) ∷ [])
+parts_of context setting inst = described_parts context.flags (description_of inst refl)

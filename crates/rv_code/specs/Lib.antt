@@ -1,8 +1,7 @@
 pub mod Operations
 pub mod Usable
-pub mod Counts
 pub mod Choices
-pub mod Reversals
+pub mod Sequences
 pub mod Probes
 pub mod Tables
 pub mod Slots

@@ -30,7 +30,7 @@ use Rattle.rv_inst.specs.declared.label_use.LabelUse.TheVariants.{B12}
 use Rattle.mach_records.specs.declared.records.Event.TheVariants as event
 use Rattle.rv_code.specs.Immediates.{upper_of, lower_of}
 use Rattle.rv_code.specs.Operations.{short_jump, jump_size}
-use Rattle.rv_code.specs.Slots.{Slot, Label, Own, Op, Aim, Data, Notes, Allocate, Here}
+use Rattle.rv_code.specs.Slots.{Slot, Label, Own, Op, Fixup, Data, Records, Allocate, Here}
 
 -- an operation of the machine after which the next one is done: of two registers, or of a register and an immediate; an upper immediate
 -- in a register; a load or a store, at a register plus an offset; or the move of a floating-point register, of a number of some width
@@ -74,7 +74,7 @@ abbrev pub trap_bytes : IsaFlags → List ℕ
 trap_bytes flags = if flags.has_zca then 0 ∷ 0 ∷ [] else 0 ∷ 0 ∷ 0 ∷ 0 ∷ []
 
 abbrev pub trap_slots : IsaFlags → TrapCode → List Slot
-trap_slots flags code = Notes (event.Trap code) ∷ Data (trap_bytes flags) ∷ []
+trap_slots flags code = Records (event.Trap code) ∷ Data (trap_bytes flags) ∷ []
 
 -- a load of so many bytes that stand after it and a jump over them
 abbrev pub load_over : IsaFlags → ℕ → LoadOP → ℕ → List Slot
@@ -87,11 +87,11 @@ inline_slots flags rd op size bytes = load_over flags rd op size ++ Data bytes �
 abbrev pub slots_for : IsaFlags → Piece → List Slot
 slots_for flags (Do a) = Op (op_of flags a) ∷ []
 slots_for flags (Constant rd n) = inline_slots flags rd Ld 8 (to_le_bytes w64 n)
-slots_for flags (Branch how a b k) = Aim B12 (Own k) (λ d. branches how a b d ∷ []) ∷ []
-slots_for flags (Jump k) = Aim (jump_kind flags) (Own k) (λ d. short_jump flags d ∷ []) ∷ []
+slots_for flags (Branch how a b k) = Fixup B12 (Own k) (λ d. branches how a b d ∷ []) ∷ []
+slots_for flags (Jump k) = Fixup (jump_kind flags) (Own k) (λ d. short_jump flags d ∷ []) ∷ []
 slots_for flags New = Allocate ∷ []
 slots_for flags (Bind k) = Here k ∷ []
-slots_for flags (Go l) = Aim (jump_kind flags) (Label l) (λ d. short_jump flags d ∷ []) ∷ []
+slots_for flags (Go l) = Fixup (jump_kind flags) (Label l) (λ d. short_jump flags d ∷ []) ∷ []
 slots_for flags (Trap code) = trap_slots flags code
 
 abbrev pub slots_of : IsaFlags → List Piece → List Slot

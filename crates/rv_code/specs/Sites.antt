@@ -11,7 +11,7 @@ use Rattle.rv_machine.specs.State.{State, IsState, Values, AreValues, Memory, by
 use Rattle.rv_machine.specs.Steps.{fetch, iter}
 use Rattle.rv_inst.specs.Context.{Context}
 use Rattle.rv_inst.specs.Records.{IsRecorded}
-use Rattle.rv_code.specs.Slots.{Symbol, AddressOf, SlotOf, Target, Label, Own, Slot, Op, Aim, Data, Notes, Names, Allocate, Here, Fill, Address, CallTo, Part, Ask, Slots, size_of, own_label, between}
+use Rattle.rv_code.specs.Slots.{Symbol, AddressOf, SlotOf, Target, Label, Own, Slot, Op, Fixup, Data, Records, Names, Allocate, Here, RelocPair, Address, CallTo, Part, Ask, Slots, size_of, own_label, between}
 use Rattle.rv_inst.specs.declared.label_use.LabelUse.{LabelUse}
 use Rattle.rv_inst.specs.LabelUse.{marks_of, has_veneer_of}
 use Rattle.rv_inst.specs.Addresses.{is_splittable}
@@ -113,13 +113,13 @@ pub record LinksFrom (site : Site) (at : ℕ) (name : ExternalName) (ops : ℤ �
 abbrev pub StandsIn : Site → ℕ → ℕ → List Slot → Type 0
 StandsIn site allocated at [] = Unit {0}
 StandsIn site allocated at (Op d ∷ slots) = CodeHas site at (d ∷ []) × StandsIn site allocated (at + d.len) slots
-StandsIn site allocated at (Aim kind target ops ∷ slots) = AimsFrom site allocated at kind target ops × StandsIn site allocated (at + length (marks_of kind)) slots
+StandsIn site allocated at (Fixup kind target ops ∷ slots) = AimsFrom site allocated at kind target ops × StandsIn site allocated (at + length (marks_of kind)) slots
 StandsIn site allocated at (Data bytes ∷ slots) = ((mem : Memory) → IsPlacedAt site mem → BytesAt mem (site.base + at) bytes) × StandsIn site allocated (at + length bytes) slots
-StandsIn site allocated at (Notes event ∷ slots) = IsRecorded site.records at event × StandsIn site allocated at slots
+StandsIn site allocated at (Records event ∷ slots) = IsRecorded site.records at event × StandsIn site allocated at slots
 StandsIn site allocated at (Names k ∷ slots) = StandsIn site allocated at slots
 StandsIn site allocated at (Allocate ∷ slots) = StandsIn site allocated at slots
 StandsIn site allocated at (Here k ∷ slots) = (site.place (own_label allocated k).number ≡ Some at) × StandsIn site allocated at slots
-StandsIn site allocated at (Fill symbol upper lower ∷ slots) = FillsFrom site at symbol upper lower × StandsIn site allocated (at + 8) slots
+StandsIn site allocated at (RelocPair symbol upper lower ∷ slots) = FillsFrom site at symbol upper lower × StandsIn site allocated (at + 8) slots
 StandsIn site allocated at (Address name addend ∷ slots) = ((mem : Memory) → IsPlacedAt site mem → BytesAt mem (site.base + at) (to_le_bytes w64 (symbol_address site (AddressOf name addend)))) × StandsIn site allocated (at + 8) slots
 StandsIn site allocated at (CallTo name ops ∷ slots) = LinksFrom site at name ops × StandsIn site allocated (at + 8) slots
 

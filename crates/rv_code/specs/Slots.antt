@@ -33,13 +33,13 @@ pub data Symbol : Type 0 where
 -- to a symbol, that it fills with the distance to the symbol, with its operations by that distance
 pub data Slot : Type 0 where
   Op : Decoded → Slot
-  Aim : LabelUse → Target → (ℤ → List Decoded) → Slot
+  Fixup : LabelUse → Target → (ℤ → List Decoded) → Slot
   Data : List ℕ → Slot
-  Notes : Event → Slot
+  Records : Event → Slot
   Names : VCodeConstant → Slot
   Allocate : Slot
   Here : ℕ → Slot
-  Fill : Symbol → (ℤ → List Decoded) → (ℤ → List Decoded) → Slot
+  RelocPair : Symbol → (ℤ → List Decoded) → (ℤ → List Decoded) → Slot
   Address : ExternalName → ℤ → Slot
   CallTo : ExternalName → (ℤ → List Decoded) → Slot
 
@@ -52,13 +52,13 @@ pub data Part : Type 0 where
 
 abbrev pub slot_size : Slot → ℕ
 slot_size (Op d) = d.len
-slot_size (Aim kind target ops) = length (marks_of kind)
+slot_size (Fixup kind target ops) = length (marks_of kind)
 slot_size (Data bytes) = length bytes
-slot_size (Notes event) = 0
+slot_size (Records event) = 0
 slot_size (Names k) = 0
 slot_size Allocate = 0
 slot_size (Here k) = 0
-slot_size (Fill symbol upper lower) = 8
+slot_size (RelocPair symbol upper lower) = 8
 slot_size (Address name addend) = 8
 slot_size (CallTo name ops) = 8
 
@@ -86,13 +86,13 @@ label_of allocated (Own k) = own_label allocated k
 abbrev pub uses_of : ℕ → ℕ → List Slot → List (Use LabelUse)
 uses_of allocated at [] = []
 uses_of allocated at (Op d ∷ slots) = uses_of allocated (at + d.len) slots
-uses_of allocated at (Aim kind target ops ∷ slots) = use_at at (label_of allocated target) kind ∷ uses_of allocated (at + length (marks_of kind)) slots
+uses_of allocated at (Fixup kind target ops ∷ slots) = use_at at (label_of allocated target) kind ∷ uses_of allocated (at + length (marks_of kind)) slots
 uses_of allocated at (Data bytes ∷ slots) = uses_of allocated (at + length bytes) slots
-uses_of allocated at (Notes event ∷ slots) = uses_of allocated at slots
+uses_of allocated at (Records event ∷ slots) = uses_of allocated at slots
 uses_of allocated at (Names k ∷ slots) = uses_of allocated at slots
 uses_of allocated at (Allocate ∷ slots) = uses_of allocated at slots
 uses_of allocated at (Here k ∷ slots) = uses_of allocated at slots
-uses_of allocated at (Fill symbol upper lower ∷ slots) = uses_of allocated (at + 8) slots
+uses_of allocated at (RelocPair symbol upper lower ∷ slots) = uses_of allocated (at + 8) slots
 uses_of allocated at (Address name addend ∷ slots) = uses_of allocated (at + 8) slots
 uses_of allocated at (CallTo name ops ∷ slots) = uses_of allocated (at + 8) slots
 
@@ -115,13 +115,13 @@ call_event name = event.Reloc RiscvCallPlt (target.ExternalName name) (pos 0)
 abbrev pub records_of : ℕ → List Slot → List MachRecord
 records_of at [] = []
 records_of at (Op d ∷ slots) = records_of (at + d.len) slots
-records_of at (Aim kind target ops ∷ slots) = records_of (at + length (marks_of kind)) slots
+records_of at (Fixup kind target ops ∷ slots) = records_of (at + length (marks_of kind)) slots
 records_of at (Data bytes ∷ slots) = records_of (at + length bytes) slots
-records_of at (Notes event ∷ slots) = record { offset = at; event = event } ∷ records_of at slots
+records_of at (Records event ∷ slots) = record { offset = at; event = event } ∷ records_of at slots
 records_of at (Names k ∷ slots) = records_of at slots
 records_of at (Allocate ∷ slots) = records_of at slots
 records_of at (Here k ∷ slots) = records_of at slots
-records_of at (Fill symbol upper lower ∷ slots) = record { offset = at; event = upper_event symbol } ∷ record { offset = at + 4; event = lower_event at } ∷ records_of (at + 8) slots
+records_of at (RelocPair symbol upper lower ∷ slots) = record { offset = at; event = upper_event symbol } ∷ record { offset = at + 4; event = lower_event at } ∷ records_of (at + 8) slots
 records_of at (Address name addend ∷ slots) = record { offset = at; event = address_event name addend } ∷ records_of (at + 8) slots
 records_of at (CallTo name ops ∷ slots) = record { offset = at; event = call_event name } ∷ records_of (at + 8) slots
 
@@ -129,13 +129,13 @@ records_of at (CallTo name ops ∷ slots) = record { offset = at; event = call_e
 abbrev pub names_of : List Slot → List VCodeConstant → List VCodeConstant
 names_of [] named = named
 names_of (Op d ∷ slots) named = names_of slots named
-names_of (Aim kind target ops ∷ slots) named = names_of slots named
+names_of (Fixup kind target ops ∷ slots) named = names_of slots named
 names_of (Data bytes ∷ slots) named = names_of slots named
-names_of (Notes event ∷ slots) named = names_of slots named
+names_of (Records event ∷ slots) named = names_of slots named
 names_of (Names k ∷ slots) named = names_of slots (name_more k named)
 names_of (Allocate ∷ slots) named = names_of slots named
 names_of (Here k ∷ slots) named = names_of slots named
-names_of (Fill symbol upper lower ∷ slots) named = names_of slots named
+names_of (RelocPair symbol upper lower ∷ slots) named = names_of slots named
 names_of (Address name addend ∷ slots) named = names_of slots named
 names_of (CallTo name ops ∷ slots) named = names_of slots named
 
@@ -151,13 +151,13 @@ between from to = pos to -ℤ pos from
 abbrev pub here_at : ℕ → ℕ → List Slot → Option ℕ
 here_at k at [] = None
 here_at k at (Op d ∷ slots) = here_at k (at + d.len) slots
-here_at k at (Aim kind target ops ∷ slots) = here_at k (at + length (marks_of kind)) slots
+here_at k at (Fixup kind target ops ∷ slots) = here_at k (at + length (marks_of kind)) slots
 here_at k at (Data bytes ∷ slots) = here_at k (at + length bytes) slots
-here_at k at (Notes event ∷ slots) = here_at k at slots
+here_at k at (Records event ∷ slots) = here_at k at slots
 here_at k at (Names constant ∷ slots) = here_at k at slots
 here_at k at (Allocate ∷ slots) = here_at k at slots
 here_at k at (Here j ∷ slots) = if nat_eq j k then Some at else here_at k at slots
-here_at k at (Fill symbol upper lower ∷ slots) = here_at k (at + 8) slots
+here_at k at (RelocPair symbol upper lower ∷ slots) = here_at k (at + 8) slots
 here_at k at (Address name addend ∷ slots) = here_at k (at + 8) slots
 here_at k at (CallTo name ops ∷ slots) = here_at k (at + 8) slots
 
@@ -176,13 +176,13 @@ IsClosed here kind (Own k) at = IsBoundNear (here k) kind at
 abbrev pub AreClosed : (ℕ → Option ℕ) → ℕ → List Slot → Type 0
 AreClosed here at [] = Unit {0}
 AreClosed here at (Op d ∷ slots) = (d.len % 2 ≡ 0) × AreClosed here (at + d.len) slots
-AreClosed here at (Aim kind target ops ∷ slots) = IsClosed here kind target at × AreClosed here (at + length (marks_of kind)) slots
+AreClosed here at (Fixup kind target ops ∷ slots) = IsClosed here kind target at × AreClosed here (at + length (marks_of kind)) slots
 AreClosed here at (Data bytes ∷ slots) = (length bytes % 2 ≡ 0) × AreClosed here (at + length bytes) slots
-AreClosed here at (Notes event ∷ slots) = AreClosed here at slots
+AreClosed here at (Records event ∷ slots) = AreClosed here at slots
 AreClosed here at (Names k ∷ slots) = AreClosed here at slots
 AreClosed here at (Allocate ∷ slots) = AreClosed here at slots
 AreClosed here at (Here k ∷ slots) = AreClosed here at slots
-AreClosed here at (Fill symbol upper lower ∷ slots) = AreClosed here (at + 8) slots
+AreClosed here at (RelocPair symbol upper lower ∷ slots) = AreClosed here (at + 8) slots
 AreClosed here at (Address name addend ∷ slots) = AreClosed here (at + 8) slots
 AreClosed here at (CallTo name ops ∷ slots) = AreClosed here (at + 8) slots
 

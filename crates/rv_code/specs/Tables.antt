@@ -10,11 +10,11 @@ use Rattle.rv_encode.specs.Operations.{decoded, decoded_rrr, decoded_rri}
 use Rattle.rv_inst.specs.declared.label_use.LabelUse.TheVariants.{PCRel32}
 use Rattle.rv_code.specs.Immediates.{upper_of, lower_of}
 use Rattle.rv_code.specs.Operations.{decoded_jalr}
-use Rattle.rv_code.specs.Slots.{Label, Slot, Op, Aim}
+use Rattle.rv_code.specs.Slots.{Label, Slot, Op, Fixup}
 
 -- a jump in eight bytes, to anywhere in code, by way of a register
 abbrev pub far_jump : ℕ → MachLabel → Slot
-far_jump tmp label = Aim PCRel32 (Label label) (λ d. decoded (Base base.Auipc) tmp 0 0 (upper_of d) ∷ decoded_jalr 0 tmp (lower_of d) ∷ [])
+far_jump tmp label = Fixup PCRel32 (Label label) (λ d. decoded (Base base.Auipc) tmp 0 0 (upper_of d) ∷ decoded_jalr 0 tmp (lower_of d) ∷ [])
 
 -- to the default where x31 isn't below the number of the other labels, else into the table after it: to its own address, with eight
 -- bytes for each label before that of the index, and 16 for the four words that make the jump

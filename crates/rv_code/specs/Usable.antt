@@ -1,5 +1,5 @@
 -- What the words of an instruction ask of its registers, labels and numbers.
-use Rattle.std.specs.Prelude.{◌^◌, ◌≡◌, ◌≢◌, ◌⊎◌, ◌<◌, ◌≤◌, true, false, List, ◌∷◌, length, Option, Some, None, IsSome}
+use Rattle.std.specs.Prelude.{◌^◌, ◌≡◌, ◌≢◌, ◌⊎◌, ◌<◌, ◌≤◌, true, false, List, ◌∷◌, length, Option, Some, None, IsSome, unwrap_or}
 use Rattle.std.proofs.Common.{refl, []}
 use Rattle.rv_base.specs.declared.amode.AMode.{AMode}
 use Rattle.rv_base.specs.declared.call.CallRetPair.{CallRetPair}
@@ -22,9 +22,10 @@ use Rattle.rv_ops.specs.Memory.{is_float_load}
 use Rattle.rv_ops.specs.declared.memory.LoadOP.{LoadOP}
 use Rattle.rv_ops.specs.declared.compare.IntegerCompare.{IntegerCompare}
 use Rattle.rv_encode.specs.Registers.{IsIntRegister, IsRealRegister}
-use Rattle.rv_inst.specs.UnitWords.{IsFineUnit, unit_of}
+use Rattle.rv_inst.specs.Descriptions.{Description, IsFineUnit, Word, Computes, description_of}
 use Rattle.rv_inst.specs.declared.inst.Inst.{Inst}
-use Rattle.rv_inst.specs.declared.inst.Inst.TheVariants.{Nop0, Nop4, EBreak, SequencePoint, Args, Rets, DummyUse, EmitIsland, RawData, Lui, Auipc, LoadInlineConst, AluRRR, AluRRImm12, Mov, MovFromPReg, Extend, Select, Load, Store, LoadAddr, LabelAddress, Ret, TrapIf, Jal, CondBr, BrTable, Udf, Jalr, Popcnt, Cltz, Brev8, StackProbeLoop, LoadExtNameGot, LoadExtNameNear, LoadExtNameFar, Call, CallInd, ReturnCall, ReturnCallInd, Unwind}
+use Rattle.rv_inst.specs.declared.inst.Inst.TheVariants.{Nop0, Nop4, EBreak, SequencePoint, Args, Rets, DummyUse, EmitIsland, RawData, Lui, Auipc, LoadInlineConst, AluRRR, AluRRImm12, Mov, MovFromPReg, Extend, Select, Load, Store, LoadAddr, LabelAddress, Ret, TrapIf, Jal, CondBr, BrTable, Udf, Jalr, StackProbeLoop, LoadExtNameGot, LoadExtNameNear, LoadExtNameFar, Call, CallInd, ReturnCall, ReturnCallInd, Unwind}
+use Rattle.rv_inst.specs.declared.sequence.Sequence.{Sequence}
 use Rattle.rv_inst.specs.Generators.{canonical_type}
 use Rattle.rv_inst.specs.Operands.{all_of, written_in}
 use Rattle.rv_inst.specs.Returns.{result_load}
@@ -107,6 +108,19 @@ pub record IsFineChoice (to : ValueRegs (Writable Reg)) (condition : IntegerComp
   pub x_count : count_of to ≡ count_of first
   pub y_count : count_of to ≡ count_of second
 
+-- integer registers, and an integer of at most 64 bits
+pub record IsFineSequence (s : Sequence) : Type 0 where
+  pub rs : IsIntRegister s.rs
+  pub tmp1 : IsIntRegister s.tmp1.reg
+  pub tmp2 : IsIntRegister s.tmp2.reg
+  pub tmp3 : IsIntRegister (unwrap_or s.tmp3 s.tmp2).reg
+  pub rd : IsIntRegister s.rd.reg
+  pub typed : is_int_type s.ty ≡ true
+
+abbrev pub IsFineBy : Description → Type 0
+IsFineBy (Word w) = IsFineUnit w
+IsFineBy (Computes s with) = IsFineSequence s
+
 -- among these constants
 abbrev pub IsFine : List Constant → Inst → Type 0
 IsFine constants Nop0 = Unit {0}
@@ -138,9 +152,6 @@ IsFine constants (CondBr taken not_taken kind) = IsFineBranch kind taken not_tak
 IsFine constants (BrTable index tmp1 tmp2 targets) = IsIntRegister index × IsIntRegister tmp1.reg × IsIntRegister tmp2.reg × AreListed targets × (1 ≤ length targets)
 IsFine constants (Udf code) = Unit {0}
 IsFine constants (Jalr rd base offset) = IsIntRegister rd.reg × IsIntRegister base
-IsFine constants (Popcnt info) = IsIntRegister info.sum.reg × IsIntRegister info.tmp.reg × IsIntRegister info.step.reg × IsIntRegister info.rs × (is_int_type info.ty ≡ true)
-IsFine constants (Cltz leading info) = IsIntRegister info.sum.reg × IsIntRegister info.tmp.reg × IsIntRegister info.step.reg × IsIntRegister info.rs × (is_int_type info.ty ≡ true)
-IsFine constants (Brev8 info) = IsIntRegister info.rd.reg × IsIntRegister info.tmp.reg × IsIntRegister info.tmp2.reg × IsIntRegister info.step.reg × IsIntRegister info.rs × (is_int_type info.ty ≡ true)
 IsFine constants (StackProbeLoop guard_size probe_count tmp) = IsIntRegister tmp.reg
 IsFine constants (LoadExtNameGot rd name) = IsIntRegister rd.reg
 IsFine constants (LoadExtNameNear rd name offset) = IsIntRegister rd.reg
@@ -150,4 +161,4 @@ IsFine constants (CallInd info) = IsIntRegister info.dest × IsFineTry info.try_
 IsFine constants (ReturnCall info) = Unit {0}
 IsFine constants (ReturnCallInd info) = IsIntRegister info.dest × (number_of info.dest ≡ 5)
 IsFine constants (Unwind inst) = Unit {0}
-IsFine constants inst = IsFineUnit (unit_of inst refl)
+IsFine constants inst = IsFineBy (description_of inst refl)

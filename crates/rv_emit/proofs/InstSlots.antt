@@ -2,15 +2,17 @@
 use Rattle.{rv_code.proofs.Courses.inline_size, rv_code.specs.{Operations.jump_size, Slots.uses_of, Slots.records_of}}
 use Rattle.rv_emit.proofs.{CallSlots.IsCall, CallSlots.call_adds, CallSlots.call_blocks, CallSlots.call_is, CallSlots.call_ind_is, Islands.KeepsLow, Islands.asked_keeps, Islands.room_named, Islands.room_records, Islands.room_sound, OwnPieces.Each, OwnPieces.each_none, OwnPieces.made_appends}
 use Rattle.rv_emit.proofs.{TableSlots.table_adds}
-use Rattle.rv_emit.proofs.Terms.{none_put, ◌≡◌, ◌⊎◌, inl, ℕ, ◌+◌, ◌^◌, ◌%◌, ◌≤◌, true, List, [], ◌∷◌, ◌++◌, length, Option, Some, None, pos, refl, ap, sym, ◌∙◌, arith, lit≤, subst, same_Some, to_le_bytes, w32, w64, IrType, I32, I64, Reg, Writable, number_of, TrapCode, code_limit, IsaFlags, LoadOP}
-use Rattle.rv_emit.proofs.Terms.{IntegerCompare, Context, is_word_type, inst_rule, UnitWord, unit_of, Inst, Nop0, Nop4, EBreak, SequencePoint, Args, Rets, DummyUse, EmitIsland, RawData, Lui, Auipc, LoadInlineConst, AluRRR, AluRRImm12, Mov, MovFromPReg, Extend, Select, Load, Store}
-use Rattle.rv_emit.proofs.Terms.{LoadAddr, LabelAddress, Ret, TrapIf, Jal, CondBr, BrTable, Udf, Jalr, Popcnt, Cltz, Brev8, StackProbeLoop, LoadExtNameGot, LoadExtNameNear, LoadExtNameFar, Call, CallInd, ReturnCall, ReturnCallInd, Unwind, CondBrTarget, Fallthrough, TryCallInfo, StackLoad, Exactly}
+use Rattle.rv_emit.proofs.Terms.{none_put, ◌≡◌, ◌⊎◌, inl, ℕ, ◌+◌, ◌*◌, ◌^◌, ◌%◌, ◌≤◌, true, List, [], ◌∷◌, ◌++◌, length, Option, Some, None, pos, refl, ap, sym, ◌∙◌, arith, lit≤, subst, same_Some, to_le_bytes, w32, w64, IrType, I32, I64, Reg, Writable, number_of, TrapCode, code_limit, IsaFlags, LoadOP}
+use Rattle.rv_emit.proofs.Terms.{IntegerCompare, Context, is_word_type, inst_rule, UnitWord, Inst, Nop0, Nop4, EBreak, SequencePoint, Args, Rets, DummyUse, EmitIsland, RawData, Lui, Auipc, LoadInlineConst, AluRRR, AluRRImm12, Mov, MovFromPReg, Extend, Select, Load, Store}
+use Rattle.rv_emit.proofs.Terms.{LoadAddr, LabelAddress, Ret, TrapIf, Jal, CondBr, BrTable, Udf, Jalr, StackProbeLoop, LoadExtNameGot, LoadExtNameNear, LoadExtNameFar, Call, CallInd, ReturnCall, ReturnCallInd, Unwind, CondBrTarget, Fallthrough, TryCallInfo, StackLoad, Exactly}
 use Rattle.rv_emit.proofs.Terms.{AtMost, IsOfSize, Request, first_in, space_in, request_of, inst_size, inst_sum, inst_records, uses_in, return_of, filled_last, is_some, VCodeConstant, inst_constant, named_by, table_of, EmitVState, Decoded, short_jalr, Buffer, IsSoundBuffer, Appends, AppendsCode}
-use Rattle.rv_emit.proofs.Terms.{HasReturn, IsFarUse, IslandAsked, bytes_of, allocated_of, named_of, PutsParts, EmitsIn, Part, Ask, Slots, Slot, Op, Notes, size_of, names_of, AreSelfContained, PartsAreSelfContained, access_records, access_slots, branch_slots, inline_slots, constant_slots}
+use Rattle.rv_emit.proofs.Terms.{HasReturn, IsFarUse, IslandAsked, bytes_of, allocated_of, named_of, PutsParts, EmitsIn, Part, Ask, Slots, Slot, Op, Records, size_of, names_of, AreSelfContained, PartsAreSelfContained, access_records, access_slots, branch_slots, inline_slots, constant_slots}
 use Rattle.rv_emit.proofs.Terms.{call_parts, call_to, tail_slots, t0_slots, return_slots, table_slots, parts_of, slots_of, Piece, HasSize, rrr_sized, rri_sized, lui_sized, jalr_sized, ebreak_sized, jump_len, least_even, window_long, size_append, IsPlain, IsSummed, summed, plain_put, put_long}
-use Rattle.rv_emit.proofs.Terms.{code_none, no_own, low_kept, IsMadeOf, made_contained, mov_made, mov_from_preg_made, extend_made, select_made, trap_if_made, udf_made, popcnt_made, zeros_made, reverse_made, load_summed, store_summed, load_contained, store_contained, load_addr_summed}
+use Rattle.rv_emit.proofs.Terms.{code_none, no_own, low_kept, IsMadeOf, made_contained, mov_made, mov_from_preg_made, extend_made, select_made, trap_if_made, udf_made, sequence_made, load_summed, store_summed, load_contained, store_contained, load_addr_summed}
 use Rattle.rv_emit.proofs.Terms.{label_address_summed, address_contained, AtLabel, location_of, probe_made, got_summed, near_summed, far_summed, far_contained, unwind_summed, table_contained, table_short, tail_contained, tail_contents, t0_contained, t0_contents, return_short}
 use Rattle.{rv_emit.proofs.Terms.{AreShortLoads, unless_short, results_short, fine, constant_kept, data_kept, keeps}, rv_inst.specs.declared.inst.CondBrTarget.TheVariants.Label as ToLabel}
+use Rattle.rv_inst.specs.Descriptions.{Description, Word, Computes, description_of, most_words}
+use Rattle.rv_code.specs.InstParts.{described_parts}
 use Rattle.mach_records.specs.declared.records.Event.TheVariants as event
 use Rattle.rv_ops.specs.declared.memory.LoadOP.TheVariants as loads
 
@@ -108,6 +110,23 @@ unit {context} {inst} w four most asks uses records names = on w.trap records
     on None records = plain (record { plain = tt; fits = few _ (omega arith); uses = λ allocated start. uses start _; records = λ start. records start _; names = names }) asks (omega arith, tt)
     on (Some code) records = plain (record { plain = tt; fits = few _ (omega arith); uses = λ allocated start. uses start _; records = λ start. records start _; names = names }) asks (omega arith, tt)
 
+-- of either description: how long a word of it is, and how many bytes it has at most
+abbrev word_length : Description → ℕ
+word_length (Word w) = w.operation.len
+word_length (Computes s with) = 4
+
+abbrev most_in : Description → ℕ
+most_in (Word w) = 4
+most_in (Computes s with) = 4 * most_words s.computation
+
+abbrev trap_of : Description → Option TrapCode
+trap_of (Word w) = w.trap
+trap_of (Computes s with) = None
+
+described : {context : Context} {inst : Inst} (d : Description) → word_length d ≡ 4 → inst_size context inst ≡ AtMost (most_in d) → request_of context inst ≡ None → ((start end : ℕ) → [] ≡ uses_in context start end inst) → ((start end : ℕ) → access_records start (trap_of d) ≡ inst_records context start end inst) → inst_constant inst ≡ None → IsCode context inst (described_parts context.flags d)
+described (Word w) four most asks uses records none = unit w four most asks uses records (λ named. sym (ap (λ k. named_by k named) none))
+described {context} {inst} (Computes s with) four most asks uses records none = made (sequence_made context inst s most asks uses records none)
+
 -- a branch, and a jump or none
 branches : (context : Context) (kind : IntegerCompare) (taken not_taken : CondBrTarget) → IsCode context (CondBr taken not_taken kind) (Slots (branch_slots context.flags kind taken not_taken) ∷ [])
 branches context kind Fallthrough not_taken = plain (record { plain = tt; fits = refl; uses = λ allocated start. refl; records = λ start. refl; names = λ named. refl }) refl tt
@@ -165,9 +184,6 @@ inst_is_code context setting (BrTable index tmp1 tmp2 targets) rule =
     (λ small. let few = most (omega arith) in omega (arith, some, few)) far.uses (λ start end. refl) (λ first at. far.records at) far.names
 inst_is_code context setting (Udf code) rule = made (udf_made context code)
 inst_is_code context setting (Jalr rd base offset) rule = operation (jalr_sized context.flags (number_of rd.reg) (number_of base) offset.value) refl refl (record { uses = λ start end. refl; records = λ start end. refl; names = λ named. refl })
-inst_is_code context setting (Popcnt info) rule = made (popcnt_made context info)
-inst_is_code context setting (Cltz leading info) rule = made (zeros_made context leading info)
-inst_is_code context setting (Brev8 info) rule = made (reverse_made context info)
 inst_is_code context setting (StackProbeLoop guard_size probe_count tmp) rule = made (probe_made context guard_size probe_count tmp)
 inst_is_code context setting (LoadExtNameGot rd name) rule = plain (got_summed context rd name) refl tt
 inst_is_code context setting (LoadExtNameNear rd name offset) rule = plain (near_summed context rd name offset) refl tt
@@ -177,7 +193,7 @@ inst_is_code context setting (CallInd info) rule = calling (call_ind_is context 
 inst_is_code context setting (ReturnCall info) rule =
     let slots = tail_slots context.flags context.frame info.new_stack_arg_size info.dest in
     let c = tail_contents context.flags context.frame info.new_stack_arg_size info.dest in
-    let long = size_append (return_slots context.flags context.frame info.new_stack_arg_size) (Notes event.CallSite ∷ call_to 0 31 info.dest ∷ []) in
+    let long = size_append (return_slots context.flags context.frame info.new_stack_arg_size) (Records event.CallSite ∷ call_to 0 31 info.dest ∷ []) in
     after refl (omega (arith, long)) refl refl (omega (arith, long)) (λ small. omega (arith, long)) c.plain (tail_contained context.flags context.frame info.new_stack_arg_size info.dest)
     (λ small. omega (arith, long, return_short context.flags context.frame info.new_stack_arg_size)) (λ allocated at. subst (Each (IsFarUse _)) (sym (c.uses allocated at)) (each_none _)) (λ start end. refl) (λ first at. c.records at) c.names
 inst_is_code context setting (ReturnCallInd info) rule =
@@ -188,7 +204,7 @@ inst_is_code context setting (ReturnCallInd info) rule =
     after refl (omega (arith, long)) refl refl (omega (arith, long)) (λ small. omega (arith, long)) c.plain (t0_contained context.flags context.frame info.new_stack_arg_size)
     (λ small. omega (arith, long, return_short context.flags context.frame info.new_stack_arg_size)) (λ allocated at. subst (Each (IsFarUse _)) (sym (c.uses allocated at)) (each_none _)) (λ start end. refl) (λ first at. c.records at) c.names
 inst_is_code context setting (Unwind inst) rule = plain (unwind_summed context inst) refl tt
-inst_is_code context setting inst rule = unit (unit_of inst refl) refl refl refl (λ start end. refl) (λ start end. refl) (λ named. refl)
+inst_is_code context setting inst rule = described (description_of inst refl) refl refl refl (λ start end. refl) (λ start end. refl) refl
 
 -- each part of an instruction is self-contained
 pub parts_are_self_contained : (context : Context) (setting : EmitVState) (inst : Inst) → inst_rule context inst ≡ None → PartsAreSelfContained (parts_of context setting inst)

@@ -1,7 +1,7 @@
 -- Islands in the finished code, and where jumps and branches aim.
 use Rattle.rv_emit.proofs.{VeneerRuns.window_length, VeneerRuns.window_there, VeneerRuns.via_decodes, VeneerRuns.pair_there, VeneerRuns.rest_there, Standing.aim_finished, Standing.aim_has, Standing.within}
 use Rattle.rv_emit.proofs.Terms.{◌≡◌, ◌⊎◌, ℕ, ◌+◌, ◌^◌, ◌≤◌, inl, inr, ⊎_elim, [], ◌∷◌, List, length, Some, pos, ◌-ℤ◌, arith, refl, ap, sym, subst, ◌∙◌, true, ℤ, same_Some, IsaFlags, Decoded, int_decode, decode, is_integer, integer_decodes, Memory, store, fetch, byte_stored, Context, word_in}
-use Rattle.rv_emit.proofs.Terms.{GoesOn, IsIsland, LabelUse, Jal20, label_kinds, veneer_of, use_at, Use, Shape, IsVia, Lasts, window, ByVeneer, UseFinished, lasts_more, wide_jump_to, decoded_jump, Label, between, Aim, Site, BytesAt, CodeHas, KeepsOutside, FieldsEnd, AllBytes, PutsSlot, IslandIn}
+use Rattle.rv_emit.proofs.Terms.{GoesOn, IsIsland, LabelUse, Jal20, label_kinds, veneer_of, use_at, Use, Shape, IsVia, Lasts, window, ByVeneer, UseFinished, lasts_more, wide_jump_to, decoded_jump, Label, between, Fixup, Site, BytesAt, CodeHas, KeepsOutside, FieldsEnd, AllBytes, PutsSlot, IslandIn}
 use Rattle.rv_emit.proofs.Terms.{GapStandsIn, IsFinishedTo, slot_bytes, lasts_after_slots, slice_get, MachLabel, is_reached, get_or, drop, get_or-drop, length-drop, slice_index, word_there}
 use Rattle.std.specs.FinMap as map
 
@@ -84,12 +84,12 @@ pub record GoesToLabel (site : Site) (f : Shape LabelUse) (final : List ℕ) (in
   pub leads : (target ≡ to) ⊎ GoesOn site.context.flags final target to
   pub straight : slice_get f.uses index ≡ Some (use_at at label kind) → is_reached label_kinds (f.place label.number) (use_at at label kind) ≡ true → target ≡ to
 
-pub label_reached : (site : Site) (f : Shape LabelUse) (final : List ℕ) (fin : IsFinishedTo f final) → KeepsOutside site final → site.place ≡ fin.finishes.put.place → site.records ≡ f.records → length final ≤ 2 ^ 64 → (allocated : ℕ) (kind : LabelUse) (label : MachLabel) (ops : ℤ → List Decoded) (s mid : Shape LabelUse) → PutsSlot site.context.flags allocated (Aim kind (Label label) ops) s mid → FieldsEnd s → Lasts label_kinds mid f → (to : ℕ) → fin.finishes.put.place label.number ≡ Some to → GoesToLabel site f final (length s.uses) (length s.bytes) kind label ops to
+pub label_reached : (site : Site) (f : Shape LabelUse) (final : List ℕ) (fin : IsFinishedTo f final) → KeepsOutside site final → site.place ≡ fin.finishes.put.place → site.records ≡ f.records → length final ≤ 2 ^ 64 → (allocated : ℕ) (kind : LabelUse) (label : MachLabel) (ops : ℤ → List Decoded) (s mid : Shape LabelUse) → PutsSlot site.context.flags allocated (Fixup kind (Label label) ops) s mid → FieldsEnd s → Lasts label_kinds mid f → (to : ℕ) → fin.finishes.put.place label.number ≡ Some to → GoesToLabel site f final (length s.uses) (length s.bytes) kind label ops to
 label_reached site f final fin keeps same same_records small allocated kind label ops s mid p fields lasts to bound =
     let x = aim_finished site f final fin keeps same same_records allocated kind (Label label) ops s mid p lasts in
     record {
       target = x.target;
-      has = aim_has site f final fin keeps same same_records allocated kind (Label label) ops s mid p fields lasts (omega (arith, within site f final fin keeps same same_records mid lasts, slot_bytes site.context.flags allocated (Aim kind (Label label) ops) s mid p)) x;
+      has = aim_has site f final fin keeps same same_records allocated kind (Label label) ops s mid p fields lasts (omega (arith, within site f final fin keeps same same_records mid lasts, slot_bytes site.context.flags allocated (Fixup kind (Label label) ops) s mid p)) x;
       leads = ⊎_elim (λ here. inl (same_Some x.target to (sym here ∙ bound))) (λ g. inr (veneer_goes_on site.context f final fin small (use_at (length s.bytes) label kind) x.target to bound g)) x.goes;
       straight = λ there reached. same_Some x.target to (sym (x.straight there reached) ∙ bound);
     }

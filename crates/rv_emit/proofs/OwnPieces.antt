@@ -1,7 +1,7 @@
 -- Labels that an instruction allocates and binds itself, and the pieces that name them.
 use Rattle.{rv_code.proofs.MadeOfPieces.jump_reach, rv_code.specs.Pieces.Constant, rv_code.specs.Slots.uses_of}
 use Rattle.rv_emit.proofs.Terms.{◌≡◌, ℕ, ◌+◌, Bool, true, false, List, [], ◌∷◌, length, Some, refl, ap, sym, ◌∙◌, arith, ◌≢◌, inl, inr, ◌<◌, ◌≤◌, ◌++◌, Option, None, subst, nat_eq, if◌then◌else◌, nat_lt, is_some, ◌&&◌, eqb-true, le-leb, same_Some, IsaFlags, LabelUse, Shape, IsUsable, placed_same}
-use Rattle.rv_emit.proofs.Terms.{few_allocated, use_usable, placed_other, Slot, Op, Data, Notes, Allocate, Here, own_label, here_at, PutsSlot, Puts, slot_bytes, lasts_after_slots, puts_bytes, puts_uses, puts_named, puts_constants, puts_records, nat_tests, append-nil, MachLabel, first_inner}
+use Rattle.rv_emit.proofs.Terms.{few_allocated, use_usable, placed_other, Slot, Op, Data, Records, Allocate, Here, own_label, here_at, PutsSlot, Puts, slot_bytes, lasts_after_slots, puts_bytes, puts_uses, puts_named, puts_constants, puts_records, nat_tests, append-nil, MachLabel, first_inner}
 use Rattle.rv_emit.proofs.Terms.{inner_count, is_reached, shape_of, bytes_of, place_of, allocated_of, named_of, Context, jump_kind, label_kinds, forward_of, backward_of, has_veneer_of, inst_records, inst_size, IsOfSize, HasReturn, Appends, adds_alone, use_at, Inst, B12, Jal20, RVCJump, slots_alone}
 use Rattle.rv_emit.proofs.Terms.{jump_len, jump_size, plain_keeps, pos}
 use Rattle.rv_emit.proofs.Terms.{Piece, Do, Branch, Jump, New, Bind, Go, Trap, op_of, slots_for, slots_of, piece_size, pieces_size, after, own_labels, AreAmong, trap_bytes, GoNowhere, pieces_long, pieces_few, IsMadeOf, pieces_name, PutsParts, Buffer, IsSoundBuffer, IsOwnUse, zero, suc, slice_get}
@@ -114,7 +114,7 @@ later n long same b = record { before = sym same ∙ b.before; to = b.to; there 
 bound : (flags : IsaFlags) (a k : ℕ) (ps qs : List Piece) (s t : Shape LabelUse) → after k ps ≡ Some qs → Puts flags a (slots_of flags ps) s t → IsBoundAmong a k s t
 bound flags a k [] qs s t e p = absurd (cc)
 bound flags a k (Do d ∷ ps) qs s t e (m, put, q) = later _ (slot_bytes flags a (Op (op_of flags d)) s m put) (ap (λ x. x.place (own_label a k).number) put.3) (bound flags a k ps qs m t e q)
-bound flags a k (Trap code ∷ ps) qs s t e (m, put, (n, bytes, q)) = later {s = s} {m = m} {t = t} _ (slot_bytes flags a (Notes (event.Trap code)) s m put) (ap (λ x. x.place (own_label a k).number) put.1) (later {s = m} {m = n} {t = t} _ (slot_bytes flags a (Data (trap_bytes flags)) m n bytes) (ap (λ x. x.place (own_label a k).number) bytes) (bound flags a k ps qs n t e q))
+bound flags a k (Trap code ∷ ps) qs s t e (m, put, (n, bytes, q)) = later {s = s} {m = m} {t = t} _ (slot_bytes flags a (Records (event.Trap code)) s m put) (ap (λ x. x.place (own_label a k).number) put.1) (later {s = m} {m = n} {t = t} _ (slot_bytes flags a (Data (trap_bytes flags)) m n bytes) (ap (λ x. x.place (own_label a k).number) bytes) (bound flags a k ps qs n t e q))
 bound flags a k (Constant rd n ∷ ps) qs s t e p =
     let r = pieces_split flags a (Constant rd n) ps s t p in
     let slots = slots_for flags (Constant rd n) in

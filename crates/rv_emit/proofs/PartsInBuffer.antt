@@ -2,7 +2,7 @@
 use Rattle.rv_emit.proofs.NewConstants.{adds_both, adds_none, adds_same}
 use Rattle.rv_emit.proofs.Terms.{◌≡◌, inl, inr, ⊎_elim, ℕ, ◌+◌, ◌≤◌, List, [], ◌∷◌, ◌++◌, length, Some, ap, sym, ◌∙◌, subst, arith, ◌⊎◌, ◌%◌, Bool, true, false, refl, slice_get, Option, length-append, IsaFlags, LabelUse, Jal20, label_kinds, marks_of, use_at, shape_of, bytes_of, uses_of}
 use Rattle.rv_emit.proofs.Terms.{allocated_of, RecordsLast, Lasts, Shape, with_bytes, with_allocated, AllEnd, AreWindows, Event, Reloc, MachRecord, Use, append_each, recorded_at, lasts_same, lasts_more, lasts_allocated, windows_with_bytes, windows_with_use, stands_last, even_length, Buffer}
-use Rattle.rv_emit.proofs.Terms.{AppendsIsland, IsSoundBuffer, HasWindows, IslandIfNeeded, EndsWithin, IsClear, AllClear, FieldsEnd, FieldsStand, AsksNothing, PutsSlot, Puts, eight_zeros, slot_ends, slot_bytes, lasts_after_slots, puts_bytes, puts_constants, Slot, Op, Aim, Data, Notes, Here, Fill}
+use Rattle.rv_emit.proofs.Terms.{AppendsIsland, IsSoundBuffer, HasWindows, IslandIfNeeded, EndsWithin, IsClear, AllClear, FieldsEnd, FieldsStand, AsksNothing, PutsSlot, Puts, eight_zeros, slot_ends, slot_bytes, lasts_after_slots, puts_bytes, puts_constants, Slot, Op, Fixup, Data, Records, Here, RelocPair}
 use Rattle.rv_emit.proofs.Terms.{Address, CallTo, label_of, upper_event, lower_event, address_event, call_event, AddressOf, SlotOf, Symbol, slot_size, Part, Ask, Slots, Label, AreClosed, PartsAreSelfContained, AllStand, wide_jump_to, PutsParts, SlotsIn, IslandIn, GapStandsIn, PartsIn, AddsConstants}
 use Rattle.rv_emit.proofs.Terms.{marks_even}
 
@@ -54,11 +54,11 @@ one_ends records r n m le h all = append_each (λ (x : MachRecord). EndsWithin m
 
 pub slot_fields_end : (flags : IsaFlags) (allocated : ℕ) (slot : Slot) (s t : Shape LabelUse) → PutsSlot flags allocated slot s t → FieldsEnd s → FieldsEnd t
 slot_fields_end flags allocated (Op d) s t p ends = subst FieldsEnd (sym p.3) (λ k r h. ends_later (length s.bytes) (length (s.bytes ++ p.0)) r.offset r.event (omega (arith, length-append s.bytes p.0)) (ends k r h))
-slot_fields_end flags allocated (Aim kind target ops) s t p ends = subst FieldsEnd (sym p.2) (λ k r h. ends_later (length s.bytes) (length (s.bytes ++ p.0)) r.offset r.event (omega (arith, length-append s.bytes p.0)) (ends k r h))
+slot_fields_end flags allocated (Fixup kind target ops) s t p ends = subst FieldsEnd (sym p.2) (λ k r h. ends_later (length s.bytes) (length (s.bytes ++ p.0)) r.offset r.event (omega (arith, length-append s.bytes p.0)) (ends k r h))
 slot_fields_end flags allocated (Data bytes) s t p ends = subst FieldsEnd (sym p) (λ k r h. ends_later (length s.bytes) (length (s.bytes ++ bytes)) r.offset r.event (omega (arith, length-append s.bytes bytes)) (ends k r h))
-slot_fields_end flags allocated (Notes e) s t p ends = subst FieldsEnd (sym p.1) (one_ends s.records (record { offset = length s.bytes; event = e }) (length s.bytes) (length s.bytes) (omega arith) (nothing_ends (length s.bytes) (length s.bytes) e p.0) ends)
+slot_fields_end flags allocated (Records e) s t p ends = subst FieldsEnd (sym p.1) (one_ends s.records (record { offset = length s.bytes; event = e }) (length s.bytes) (length s.bytes) (omega arith) (nothing_ends (length s.bytes) (length s.bytes) e p.0) ends)
 slot_fields_end flags allocated (Here k) s t p ends = subst FieldsEnd (sym p.1) ends
-slot_fields_end flags allocated (Fill symbol upper lower) s t (first, second, hi, lo, e) ends =
+slot_fields_end flags allocated (RelocPair symbol upper lower) s t (first, second, hi, lo, e) ends =
     let here = length s.bytes in
     let one = length-append s.bytes first in
     let two = length-append (s.bytes ++ first) second in
@@ -84,12 +84,12 @@ event_clear s e j u ends f there = one_clear s.records (record { offset = length
 -- what is filled stays apart from the windows of uses
 slot_clear : (flags : IsaFlags) (allocated : ℕ) (slot : Slot) (s t : Shape LabelUse) → PutsSlot flags allocated slot s t → AllEnd label_kinds s → FieldsStand s → (j : ℕ) (u : Use LabelUse) → slice_get t.uses j ≡ Some u → AllClear t.records u.offset (length (marks_of u.kind))
 slot_clear flags allocated (Op d) s t p ends f j u h = subst (λ rs. AllClear rs u.offset (length (marks_of u.kind))) (λ i. (sym p.3 i).records) (f.clear j u ((λ i. slice_get (sym p.3 i).uses j) ∙ h))
-slot_clear flags allocated (Aim kind target ops) s t p ends f j u h =
+slot_clear flags allocated (Fixup kind target ops) s t p ends f j u h =
     subst (λ rs. AllClear rs u.offset (length (marks_of u.kind))) (λ i. (sym p.2 i).records)
     (append_each (λ (x : Use LabelUse). AllClear s.records x.offset (length (marks_of x.kind))) s.uses (use_at (length s.bytes) (label_of allocated target) kind) (clear_later s (length s.bytes) (length (marks_of kind)) f.ends (omega arith)) f.clear j u ((λ i. slice_get (sym p.2 i).uses j) ∙ h))
-slot_clear flags allocated (Notes e) s t p ends f j u h = subst (λ rs. AllClear rs u.offset (length (marks_of u.kind))) (λ i. (sym p.1 i).records) (event_clear s e j u ends f ((λ i. slice_get (sym p.1 i).uses j) ∙ h))
+slot_clear flags allocated (Records e) s t p ends f j u h = subst (λ rs. AllClear rs u.offset (length (marks_of u.kind))) (λ i. (sym p.1 i).records) (event_clear s e j u ends f ((λ i. slice_get (sym p.1 i).uses j) ∙ h))
 slot_clear flags allocated (Here k) s t p ends f j u h = subst (λ rs. AllClear rs u.offset (length (marks_of u.kind))) (λ i. (sym p.1 i).records) (f.clear j u ((λ i. slice_get (sym p.1 i).uses j) ∙ h))
-slot_clear flags allocated (Fill symbol upper lower) s t (first, second, hi, lo, e) ends f j u h =
+slot_clear flags allocated (RelocPair symbol upper lower) s t (first, second, hi, lo, e) ends f j u h =
     let there : slice_get s.uses j ≡ Some u = (λ i. slice_get (sym e i).uses j) ∙ h in
     let end : u.offset + length (marks_of u.kind) ≤ length s.bytes = ends j u there in
     subst (λ rs. AllClear rs u.offset (length (marks_of u.kind))) (λ i. (sym e i).records)
@@ -142,20 +142,20 @@ StandWell s = AreWindows label_kinds s.bytes s.uses
 
 slot_well : (flags : IsaFlags) (allocated : ℕ) (slot : Slot) (s t : Shape LabelUse) → length s.bytes % 2 ≡ 0 → PutsSlot flags allocated slot s t → StandWell s → StandWell t
 slot_well flags allocated (Op d) s t even (bytes, long, encodes, e, own) w = subst StandWell (sym e) (windows_with_bytes s w bytes)
-slot_well flags allocated (Aim kind target ops) s t even (window, is, e) w =
+slot_well flags allocated (Fixup kind target ops) s t even (window, is, e) w =
     subst StandWell (sym e) (windows_with_use s w even window (use_at (length s.bytes) (label_of allocated target) kind) (record { at = refl; bare = refl; long = is.long }) is.fresh)
 slot_well flags allocated (Data bytes) s t even e w = subst StandWell (sym e) (windows_with_bytes s w bytes)
-slot_well flags allocated (Fill symbol upper lower) s t even (first, second, hi, lo, e) w = subst StandWell (sym e) (windows_with_bytes (with_bytes first s) (windows_with_bytes s w first) second)
+slot_well flags allocated (RelocPair symbol upper lower) s t even (first, second, hi, lo, e) w = subst StandWell (sym e) (windows_with_bytes (with_bytes first s) (windows_with_bytes s w first) second)
 slot_well flags allocated (Address name addend) s t even e w = subst StandWell (sym e) (windows_with_bytes s w eight_zeros)
 slot_well flags allocated (CallTo name ops) s t even (code, is, e) w = subst StandWell (sym e) (windows_with_bytes s w code)
-slot_well flags allocated (Notes event) s t even (asks, e) w = subst StandWell (sym e) w
+slot_well flags allocated (Records event) s t even (asks, e) w = subst StandWell (sym e) w
 slot_well flags allocated (Here k) s t even (unbound, e) w = subst StandWell (sym e) w
 slot_well flags allocated slot s t even e w = subst StandWell (sym e) w
 
 -- a piece of self-contained slots has an even length
 even_after : (here : ℕ → Option ℕ) (at : ℕ) (slot : Slot) (slots : List Slot) → AreClosed here at (slot ∷ slots) → (slot_size slot % 2 ≡ 0) × ((n : ℕ) × AreClosed here n slots)
 even_after here at (Op d) slots c = (c.0, (at + d.len, c.1))
-even_after here at (Aim kind target ops) slots c = (marks_even kind, (at + length (marks_of kind), c.1))
+even_after here at (Fixup kind target ops) slots c = (marks_even kind, (at + length (marks_of kind), c.1))
 even_after here at (Data bytes) slots c = (c.0, (at + length bytes, c.1))
 even_after here at slot slots c = (refl, (_, c))
 

@@ -3,7 +3,7 @@ use Rattle.{mach_buffer.proofs.Laws.recorded_at as use_recorded_at, rv_code.spec
 use Rattle.rv_emit.proofs.{PartsInBuffer.clear_there, PartsInBuffer.clear_later, PartsInBuffer.slot_fields_end, OwnPieces.bound_here, OwnPieces.own_bound, OwnPieces.near, VeneerRuns.window_length, VeneerRuns.window_fits, VeneerRuns.window_there, VeneerRuns.veneer_leads}
 use Rattle.rv_emit.proofs.Terms.{◌≡◌, ◌⊎◌, ℕ, ◌+◌, ◌%◌, ◌≤◌, Bool, true, false, ⊎_elim, List, [], ◌∷◌, ◌++◌, length, Option, Some, None, ℤ, pos, ◌-ℤ◌, refl, ap, sym, ◌∙◌, subst, arith, slice_get, true≢false, same_Some, MachLabel, to_le_bytes, w64, length-append, SameOutside, ExternalName, Decoded}
 use Rattle.rv_emit.proofs.Terms.{LabelUse, PCRel32, PCRelHi20, PCRelLo12I, label_kinds, Aims, marks_of, has_veneer_of, veneer_of, use_at, Use, Shape, with_bytes, with_record, veneer_use, Event, MachRecord, AllEnd, window, is_reached, Lasts, RecordsLast, ByVeneer, UseFinished, lasts_more}
-use Rattle.rv_emit.proofs.Terms.{lasts_bytes, lasts_record, piece_finished, use_finished, slice_get-append, slice_get-append_last, wide_jump_to, access_slots, Symbol, AddressOf, Target, Label, Own, Slot, Op, Aim, Data, Notes, Here, Fill, Address, CallTo, upper_event, lower_event, address_event}
+use Rattle.rv_emit.proofs.Terms.{lasts_bytes, lasts_record, piece_finished, use_finished, slice_get-append, slice_get-append_last, wide_jump_to, access_slots, Symbol, AddressOf, Target, Label, Own, Slot, Op, Fixup, Data, Records, Here, RelocPair, Address, CallTo, upper_event, lower_event, address_event}
 use Rattle.rv_emit.proofs.Terms.{call_event, Part, Ask, Slots, slot_size, size_of, own_label, label_of, between, here_at, IsClosed, AreClosed, AreSelfContained, PartsAreSelfContained, Site, BytesAt, IsPlacedAt, CodeHas, LeadsOn, Leads, Reaches, AimsFrom, symbol_address, FillsFrom, LinksFrom}
 use Rattle.rv_emit.proofs.Terms.{StandsIn, GapIn, PartsStand, Memory, fetch, TrapCode, IsOwnForm, low_funct3, AllClear, FieldsEnd, FieldsStand, KeepsOutside, IsFilled, Encodes, eight_zeros, PutsSlot, Puts, SlotsIn, IslandIn, GapStandsIn, PartsIn, IsFinishedTo, slot_bytes, slot_ends}
 use Rattle.rv_emit.proofs.Terms.{lasts_after_slots, puts_bytes, puts_uses, leads_here, leads_both, jump_leads, closed_even}
@@ -104,21 +104,21 @@ module _ (site : Site) (f : Shape LabelUse) (final : List ℕ) (fin : IsFinished
       record { lasts = here; long = long; ends = slot_ends site.context.flags allocated slot s mid p; fields = slot_fields_end site.context.flags allocated slot s mid p; room = let w = within mid here in omega arith }
 
   -- what becomes of the window of a use
-  pub aim_finished : (allocated : ℕ) (kind : LabelUse) (target : Target) (ops : ℤ → List Decoded) (s mid : Shape LabelUse) (p : PutsSlot site.context.flags allocated (Aim kind target ops) s mid) → Lasts label_kinds mid f → UseFinished label_kinds s f fin.finishes.put final p.0 (use_at (length s.bytes) (label_of allocated target) kind)
+  pub aim_finished : (allocated : ℕ) (kind : LabelUse) (target : Target) (ops : ℤ → List Decoded) (s mid : Shape LabelUse) (p : PutsSlot site.context.flags allocated (Fixup kind target ops) s mid) → Lasts label_kinds mid f → UseFinished label_kinds s f fin.finishes.put final p.0 (use_at (length s.bytes) (label_of allocated target) kind)
   aim_finished allocated kind target ops s mid p lasts =
       use_finished {s = s} {piece = p.0} {u = use_at (length s.bytes) (label_of allocated target) kind} (record { at = refl; bare = refl; long = p.1.long }) (subst (λ (y : Shape LabelUse). Lasts label_kinds y f) p.2 lasts) fin.finishes
 
   -- its operations stand in the code, by the distance to where it aims
-  pub aim_has : (allocated : ℕ) (kind : LabelUse) (target : Target) (ops : ℤ → List Decoded) (s mid : Shape LabelUse) (p : PutsSlot site.context.flags allocated (Aim kind target ops) s mid) → FieldsEnd s → Lasts label_kinds mid f → length s.bytes + length (marks_of kind) ≤ length site.bytes → (x : UseFinished label_kinds s f fin.finishes.put final p.0 (use_at (length s.bytes) (label_of allocated target) kind)) → CodeHas site (length s.bytes) (ops (between (length s.bytes) x.target))
+  pub aim_has : (allocated : ℕ) (kind : LabelUse) (target : Target) (ops : ℤ → List Decoded) (s mid : Shape LabelUse) (p : PutsSlot site.context.flags allocated (Fixup kind target ops) s mid) → FieldsEnd s → Lasts label_kinds mid f → length s.bytes + length (marks_of kind) ≤ length site.bytes → (x : UseFinished label_kinds s f fin.finishes.put final p.0 (use_at (length s.bytes) (label_of allocated target) kind)) → CodeHas site (length s.bytes) (ops (between (length s.bytes) x.target))
   aim_has allocated kind target ops s mid p fields lasts room x =
       let size = length (marks_of kind) in
-      let left = left_there s mid size fields (λ i. (p.2 i).records) (slot_bytes site.context.flags allocated (Aim kind target ops) s mid p) lasts in
+      let left = left_there s mid size fields (λ i. (p.2 i).records) (slot_bytes site.context.flags allocated (Fixup kind target ops) s mid p) lasts in
       code_has (length s.bytes) size (ops (between (length s.bytes) x.target)) room
       (p.1.patched (window site.bytes (length s.bytes) size) (between (length s.bytes) x.target) (window_length site.bytes (length s.bytes) size room) (window_fits site.bytes (length s.bytes) size room keeps.bytes)
       (subst (SameOutside (marks_of kind) p.0) (sym left) x.kept)
       (subst (λ w. Aims kind w (between (length s.bytes) x.target)) (sym left) x.aimed))
 
-  aim_stands : FieldsStand f → (allocated from : ℕ) (here : ℕ → Option ℕ) (new : Shape LabelUse) → ArePut f allocated from here new → (at : ℕ) (kind : LabelUse) (target : Target) (ops : ℤ → List Decoded) (slots : List Slot) (s mid : Shape LabelUse) → PutsSlot site.context.flags allocated (Aim kind target ops) s mid → Puts site.context.flags allocated slots mid new → IsAfter s mid (length (marks_of kind)) → length s.bytes ≡ from + at → IsClosed here kind target at → FieldsEnd s →
+  aim_stands : FieldsStand f → (allocated from : ℕ) (here : ℕ → Option ℕ) (new : Shape LabelUse) → ArePut f allocated from here new → (at : ℕ) (kind : LabelUse) (target : Target) (ops : ℤ → List Decoded) (slots : List Slot) (s mid : Shape LabelUse) → PutsSlot site.context.flags allocated (Fixup kind target ops) s mid → Puts site.context.flags allocated slots mid new → IsAfter s mid (length (marks_of kind)) → length s.bytes ≡ from + at → IsClosed here kind target at → FieldsEnd s →
       AimsFrom site allocated (length s.bytes) kind target ops
   aim_stands fields allocated from here new put at kind target ops slots s mid p q after e closed ends =
       let x = aim_finished allocated kind target ops s mid p after.lasts in
@@ -133,7 +133,7 @@ module _ (site : Site) (f : Shape LabelUse) (final : List ℕ) (fin : IsFinished
           ∙ slice_get-append (s.uses ++ u ∷ []) (uses_of allocated (length mid.bytes) slots) (length s.uses) u (slice_get-append_last s.uses u)
 
   -- two words that a linker fills
-  fill_stands : IsFilled site final → (allocated : ℕ) (symbol : Symbol) (upper lower : ℤ → List Decoded) (s mid : Shape LabelUse) → PutsSlot site.context.flags allocated (Fill symbol upper lower) s mid → AllEnd label_kinds s → Lasts label_kinds mid f → length s.bytes + 8 ≤ length site.bytes → FillsFrom site (length s.bytes) symbol upper lower
+  fill_stands : IsFilled site final → (allocated : ℕ) (symbol : Symbol) (upper lower : ℤ → List Decoded) (s mid : Shape LabelUse) → PutsSlot site.context.flags allocated (RelocPair symbol upper lower) s mid → AllEnd label_kinds s → Lasts label_kinds mid f → length s.bytes + 8 ≤ length site.bytes → FillsFrom site (length s.bytes) symbol upper lower
   fill_stands filled allocated symbol upper lower s mid (first, second, hi, lo, e) ends lasts room =
       let at = length s.bytes in
       let s1 = with_record (upper_event symbol) s in
@@ -189,24 +189,24 @@ module _ (site : Site) (f : Shape LabelUse) (final : List ℕ) (fin : IsFinished
             (subst (λ w. Encodes site.context.flags w (d ∷ [])) (sym (piece_there s p.0 p.1.0 p.1.3 ends kept a.lasts) ∙ ap (window site.bytes (length s.bytes)) p.1.1) p.1.2),
         subst (λ n. StandsIn site allocated n slots) a.long (stands fields filled allocated from here new put (at + d.len) slots p.0 p.2 closed.1 (omega arith) (a.ends ends) (a.fields kept)),
       )
-  stands fields filled allocated from here new put at (Aim kind target ops ∷ slots) s p closed e ends kept =
-      let a = after_slot allocated (Aim kind target ops) slots s p.0 new put.lasts p.1 p.2 in
+  stands fields filled allocated from here new put at (Fixup kind target ops ∷ slots) s p closed e ends kept =
+      let a = after_slot allocated (Fixup kind target ops) slots s p.0 new put.lasts p.1 p.2 in
       let rest = subst (λ n. StandsIn site allocated n slots) a.long (stands fields filled allocated from here new put (at + length (marks_of kind)) slots p.0 p.2 closed.1 (omega arith) (a.ends ends) (a.fields kept)) in
       (aim_stands fields allocated from here new put at kind target ops slots s p.0 p.1 p.2 a e closed.0 kept, rest)
   stands fields filled allocated from here new put at (Data bytes ∷ slots) s p closed e ends kept =
       let a = after_slot allocated (Data bytes) slots s p.0 new put.lasts p.1 p.2 in
       let rest = subst (λ n. StandsIn site allocated n slots) a.long (stands fields filled allocated from here new put (at + length bytes) slots p.0 p.2 closed.1 (omega arith) (a.ends ends) (a.fields kept)) in
       (λ mem placed. subst (BytesAt mem (site.base + length s.bytes)) (piece_there s p.0 bytes p.1 ends kept a.lasts) (window_there mem site.base site.bytes (length s.bytes) (length bytes) a.room placed.bytes), rest)
-  stands fields filled allocated from here new put at (Notes noted ∷ slots) s p closed e ends kept =
-      let a = after_slot allocated (Notes noted) slots s p.0 new put.lasts p.1 p.2 in
+  stands fields filled allocated from here new put at (Records noted ∷ slots) s p closed e ends kept =
+      let a = after_slot allocated (Records noted) slots s p.0 new put.lasts p.1 p.2 in
       let rest = subst (λ n. StandsIn site allocated n slots) (a.long ∙ omega arith) (stands fields filled allocated from here new put at slots p.0 p.2 closed (omega arith) (a.ends ends) (a.fields kept)) in
       (record { index = length s.records; there = recorded_at s p.0 noted p.1.1 a.lasts.records }, rest)
   stands fields filled allocated from here new put at (Here k ∷ slots) s p closed e ends kept =
       let a = after_slot allocated (Here k) slots s p.0 new put.lasts p.1 p.2 in
       let rest = subst (λ n. StandsIn site allocated n slots) (a.long ∙ omega arith) (stands fields filled allocated from here new put at slots p.0 p.2 closed (omega arith) (a.ends ends) (a.fields kept)) in
       (ap (λ (p : ℕ → Option ℕ). p (own_label allocated k).number) same ∙ fin.finishes.grows.places (own_label allocated k).number (length s.bytes) (put.lasts.grows.places (own_label allocated k).number (length s.bytes) (bound_here site.context.flags allocated k slots s p.0 new p.1 p.2)), rest)
-  stands fields filled allocated from here new put at (Fill symbol upper lower ∷ slots) s p closed e ends kept =
-      let a = after_slot allocated (Fill symbol upper lower) slots s p.0 new put.lasts p.1 p.2 in
+  stands fields filled allocated from here new put at (RelocPair symbol upper lower ∷ slots) s p closed e ends kept =
+      let a = after_slot allocated (RelocPair symbol upper lower) slots s p.0 new put.lasts p.1 p.2 in
       let rest = subst (λ n. StandsIn site allocated n slots) a.long (stands fields filled allocated from here new put (at + 8) slots p.0 p.2 closed (omega arith) (a.ends ends) (a.fields kept)) in
       (fill_stands filled allocated symbol upper lower s p.0 p.1 ends a.lasts a.room, rest)
   stands fields filled allocated from here new put at (Address name addend ∷ slots) s p closed e ends kept =
@@ -243,7 +243,7 @@ module _ (site : Site) (f : Shape LabelUse) (final : List ℕ) (fin : IsFinished
   pub own_stands : (trap : Option TrapCode) (d : Decoded) (start end : ℕ) → SlotsIn site.context.flags (access_slots trap ++ Op d ∷ []) f start end → (mem : Memory) → IsPlacedAt site mem → IsOwnForm d (fetch mem (site.base + start))
   own_stands None d start end q mem placed = subst (λ n. IsOwnForm d (fetch mem (site.base + n))) (sym q.starts) (own_at q.old.allocated d q.old q.puts.0 q.new q.lasts q.puts.1 q.puts.2 q.windows.inside q.fields mem placed)
   own_stands (Some code) d start end q mem placed =
-      let a = after_slot q.old.allocated (Notes (event.Trap code)) (Op d ∷ []) q.old q.puts.0 q.new q.lasts q.puts.1 q.puts.2 in
+      let a = after_slot q.old.allocated (Records (event.Trap code)) (Op d ∷ []) q.old q.puts.0 q.new q.lasts q.puts.1 q.puts.2 in
       let same : length q.puts.0.bytes ≡ start = omega arith in
       subst (λ n. IsOwnForm d (fetch mem (site.base + n))) same (own_at q.old.allocated d q.puts.0 q.puts.2.0 q.new q.lasts q.puts.2.1 q.puts.2.2 (a.ends q.windows.inside) (a.fields q.fields) mem placed)
 

@@ -4,7 +4,7 @@ use Rattle.rv_emit.proofs.Terms.{w32, w64, ints, length-drop, length-take, map-a
 use Rattle.rv_emit.proofs.Terms.{PCRel32, PCRelHi20, PCRelLo12I, Aims, marks_of, with_immediate, PairDecodes, word_at, word_bytes, use_at, decode-patched_pair, shape_of, bytes_of, allocated_of, Shape, with_bytes, with_use, with_record, PutsAlone, Emits, Buffer, IsSoundBuffer, AppendsIsland}
 use Rattle.rv_emit.proofs.Terms.{IslandIfNeeded, upper_of, lower_of, decoded_jalr, AllBytes, IsPatchable, AsksNothing, eight_zeros, extend_pieces, slots_of, number_slots, table_slots, far_jump, jump_slots, AreListed, IsListed, word_fits, upper_fresh, lower_fresh, upper_is, lower_is, Context}
 use Rattle.rv_emit.proofs.Terms.{inst_rule, table_space, IsIntRegister, number_of, Inst, BrTable, Reg, Writable, keeps, table_fine, alone, both_alone, alone_long, even_plain, extend_even, extend_few, number_even, number_few, count_splits, far_jumps_even, far_jumps_long, ExternalName, Decoded, Event}
-use Rattle.{rv_emit.proofs.Terms.{Symbol, Notes, Fill, Address, CallTo, upper_event, lower_event, address_event, call_event, word_there}, rv_emit.proofs.VeneerRuns.{rest_there, rest_fits, first_bytes}}
+use Rattle.{rv_emit.proofs.Terms.{Symbol, Records, RelocPair, Address, CallTo, upper_event, lower_event, address_event, call_event, word_there}, rv_emit.proofs.VeneerRuns.{rest_there, rest_fits, first_bytes}}
 use Rattle.rv_machine.specs.declared.ops.BaseOp.TheVariants as base
 
 -- A branch by a table: jumps in eight bytes, and the words before them.
@@ -147,7 +147,7 @@ table_emits context inst index tmp1 tmp2 targets space old mid new made is wide 
 -- ---- symbols' addresses, jumps to symbols, call sites and steps in the making of a frame
 
 -- two words, which a linker fills with the distance to a symbol
-pub fill_put : (flags : IsaFlags) (symbol : Symbol) (upper lower : ℤ → List Decoded) (old new : Buffer) (w x : ℕ) → IsPatchable flags PCRelHi20 (word_bytes w) upper → IsPatchable flags PCRelLo12I (word_bytes x) lower → shape_of new ≡ with_bytes (word_bytes x) (with_record (lower_event (length (bytes_of old))) (with_bytes (word_bytes w) (with_record (upper_event symbol) (shape_of old)))) → IsSoundBuffer new → PutsAlone flags (Fill symbol upper lower ∷ []) old new
+pub fill_put : (flags : IsaFlags) (symbol : Symbol) (upper lower : ℤ → List Decoded) (old new : Buffer) (w x : ℕ) → IsPatchable flags PCRelHi20 (word_bytes w) upper → IsPatchable flags PCRelLo12I (word_bytes x) lower → shape_of new ≡ with_bytes (word_bytes x) (with_record (lower_event (length (bytes_of old))) (with_bytes (word_bytes w) (with_record (upper_event symbol) (shape_of old)))) → IsSoundBuffer new → PutsAlone flags (RelocPair symbol upper lower ∷ []) old new
 fill_put flags symbol upper lower old new w x first second put sound = alone (record { puts = (shape_of new, (word_bytes w, word_bytes x, first, second, put), refl); sound = sound })
 
 -- eight bytes, which it fills with an address
@@ -160,5 +160,5 @@ call_put flags name ops old noted mid new w x is recorded fw first fx second sou
     alone (record { puts = (shape_of new, (pair_bytes w x, is, (pair_joined w x (with_record (call_event name) (shape_of old)) (shape_of mid) (shape_of new) (first ∙ (λ i. with_bytes (same_bytes w fw i) (recorded i))) fx second)), refl); sound = sound })
 
 -- the record of an event that asks nothing of the bytes after it
-pub note_put : (flags : IsaFlags) (event : Event) (old new : Buffer) → AsksNothing event → shape_of new ≡ with_record event (shape_of old) → IsSoundBuffer new → PutsAlone flags (Notes event ∷ []) old new
+pub note_put : (flags : IsaFlags) (event : Event) (old new : Buffer) → AsksNothing event → shape_of new ≡ with_record event (shape_of old) → IsSoundBuffer new → PutsAlone flags (Records event ∷ []) old new
 note_put flags event old new none put sound = alone (record { puts = (shape_of new, (none, put), refl); sound = sound })

@@ -1,7 +1,7 @@
 -- The slots of a branch by a table: each of their uses reaches everywhere.
 use Rattle.{rv_code.proofs.LineSlots.number_by, rv_code.specs.Slots.{uses_of, records_of}, rv_emit.proofs.OwnPieces.{Each, each_none, each_more}}
 use Rattle.rv_emit.proofs.Terms.{◌≡◌, ℕ, suc, ◌+◌, List, [], ◌∷◌, ◌++◌, map, length, Some, refl, ap, sym, ◌∙◌, subst, arith, slice_get, ℤ, pos, VCodeConstant, IsaFlags, MachLabel}
-use Rattle.rv_emit.proofs.Terms.{LabelUse, slots_of, PCRel32, use_at, IsFarUse, number_slots, table_slots, Target, Label, Own, Slot, Op, Aim, Data, names_of, far_jump, jump_slots, IsPlain}
+use Rattle.rv_emit.proofs.Terms.{LabelUse, slots_of, PCRel32, use_at, IsFarUse, number_slots, table_slots, Target, Label, Own, Slot, Op, Fixup, Data, names_of, far_jump, jump_slots, IsPlain}
 
 -- ---- slots whose uses reach everywhere
 
@@ -18,14 +18,14 @@ IsFarAim labels kind (Own k) = ⊥
 abbrev AreFar : List MachLabel → List Slot → Type 0
 AreFar labels [] = Unit {0}
 AreFar labels (Op d ∷ slots) = AreFar labels slots
-AreFar labels (Aim kind target ops ∷ slots) = IsFarAim labels kind target × AreFar labels slots
+AreFar labels (Fixup kind target ops ∷ slots) = IsFarAim labels kind target × AreFar labels slots
 AreFar labels (Data bytes ∷ slots) = AreFar labels slots
 AreFar labels (first ∷ slots) = ⊥
 
 far_both : (labels : List MachLabel) (slots more : List Slot) → AreFar labels slots → AreFar labels more → AreFar labels (slots ++ more)
 far_both labels [] more a b = b
 far_both labels (Op d ∷ slots) more a b = far_both labels slots more a b
-far_both labels (Aim kind target ops ∷ slots) more a b = (a.0, far_both labels slots more a.1 b)
+far_both labels (Fixup kind target ops ∷ slots) more a b = (a.0, far_both labels slots more a.1 b)
 far_both labels (Data bytes ∷ slots) more a b = far_both labels slots more a b
 far_both labels (first ∷ slots) more a b = absurd a
 
@@ -42,10 +42,10 @@ pub record AddFar (labels : List MachLabel) (slots : List Slot) : Type 0 where
 add_far : (labels : List MachLabel) (slots : List Slot) → AreFar labels slots → AddFar labels slots
 add_far labels [] a = record { plain = tt; uses = λ allocated at. each_none _; records = λ at. refl; names = λ named. refl }
 add_far labels (Op d ∷ slots) a = let r = add_far labels slots a in record { plain = r.plain; uses = λ allocated at. r.uses allocated _; records = λ at. r.records _; names = r.names }
-add_far labels (Aim kind (Label label) ops ∷ slots) a =
+add_far labels (Fixup kind (Label label) ops ∷ slots) a =
     let r = add_far labels slots a.1 in
     record { plain = r.plain; uses = λ allocated at. each_more (IsFarUse labels) _ _ (far_use labels allocated at label kind a.0.0 a.0.1) (r.uses allocated _); records = λ at. r.records _; names = r.names }
-add_far labels (Aim kind (Own k) ops ∷ slots) a = absurd a.0
+add_far labels (Fixup kind (Own k) ops ∷ slots) a = absurd a.0
 add_far labels (Data bytes ∷ slots) a = let r = add_far labels slots a in record { plain = r.plain; uses = λ allocated at. r.uses allocated _; records = λ at. r.records _; names = r.names }
 add_far labels (first ∷ slots) a = absurd a
 

@@ -3,7 +3,7 @@ use Rattle.rv_code.proofs.LineSlots.{number_few}
 use Rattle.rv_emit.proofs.Terms.{FitsSigned, ◌≡◌, ℕ, zero, suc, ◌+◌, ◌*◌, ◌<◌, ◌≤◌, Bool, true, false, List, [], ◌∷◌, ◌++◌, take, length, Option, Some, None, ℤ, pos, refl, ap, sym, subst, ◌∙◌, append_assoc, append-nil, arith, ◌≢◌, get_or, slice_index_or, ◌==◌, ◌-ℤ◌, if◌then◌else◌, ints, to_z-of_z}
 use Rattle.rv_emit.proofs.Terms.{length-take, take_more, nat_tests, cast_signed, w64, CallInfo, TryCallInfo, UserStackMap, ExternalName, Reg, Int, IsReal, number_of, IsaFlags, FrameLayout, PReg, Real, Virtual, Writable, sp_to_fp_of, Addi, Ld, IsIntRegister, IsRealRegister, bytes_of, low64, Based}
 use Rattle.rv_emit.proofs.Terms.{is_near, short_rri, short_jalr, StackLoad, saved_load, saves_from, setup_loads, restores, frame_above, site_event, steps_counted, loads_counted, fall, call_size, return_size, PutsAlone, PutsParts, Buffer, IsSoundBuffer, IslandIfNeeded, load_line_slots, number_slots}
-use Rattle.rv_emit.proofs.Terms.{stack_load_slots, far_step_slots, stack_step_slots, return_slots, call_to, tail_slots, t0_slots, map_notes, return_notes, after_call, patch_notes, call_slots, call_ind_slots, Slot, Op, Notes, Ask, Slots, size_of, IsPlain, both_alone, alone_long, none_put}
+use Rattle.rv_emit.proofs.Terms.{stack_load_slots, far_step_slots, stack_step_slots, return_slots, call_to, tail_slots, t0_slots, map_notes, return_notes, after_call, patch_notes, call_slots, call_ind_slots, Slot, Op, Records, Ask, Slots, size_of, IsPlain, both_alone, alone_long, none_put}
 use Rattle.rv_emit.proofs.Terms.{AreShortLoads, eight_short, loads_most, saves_short, setup_short, saves_long, setup_few, returns_counted}
 use Rattle.mach_records.specs.declared.records.Event.TheVariants as event
 
@@ -130,10 +130,10 @@ return_put {flags} frame arguments old a b new p q r =
 
 -- ---- an island, and the tail call after it
 
-pub tail_put : {flags : IsaFlags} (frame : FrameLayout) (arguments : ℕ) (name : ExternalName) (size link tmp : ℕ) (old mid a b new : Buffer) (made : Bool) → size ≡ return_size flags frame arguments → link ≡ 0 → tmp ≡ 31 → IslandIfNeeded (size + 8) old mid made → PutsAlone flags (return_slots flags frame arguments) mid a → PutsAlone flags (Notes event.CallSite ∷ []) a b → PutsAlone flags (call_to link tmp name ∷ []) b new → PutsParts flags (Ask (return_size flags frame arguments + 8) ∷ Slots (tail_slots flags frame arguments name) ∷ []) old new
+pub tail_put : {flags : IsaFlags} (frame : FrameLayout) (arguments : ℕ) (name : ExternalName) (size link tmp : ℕ) (old mid a b new : Buffer) (made : Bool) → size ≡ return_size flags frame arguments → link ≡ 0 → tmp ≡ 31 → IslandIfNeeded (size + 8) old mid made → PutsAlone flags (return_slots flags frame arguments) mid a → PutsAlone flags (Records event.CallSite ∷ []) a b → PutsAlone flags (call_to link tmp name ∷ []) b new → PutsParts flags (Ask (return_size flags frame arguments + 8) ∷ Slots (tail_slots flags frame arguments name) ∷ []) old new
 tail_put {flags} frame arguments name size link tmp old mid a b new made measured zero_link spare island p q r =
-    let last = both_alone (Notes event.CallSite ∷ []) (call_to 0 31 name ∷ []) a b new tt q (subst (λ s. PutsAlone flags (s ∷ []) b new) (λ i. call_to (zero_link i) (spare i) name) r) in
-    (mid, made, subst (λ n. IslandIfNeeded (n + 8) old mid made) measured island, both_alone (return_slots flags frame arguments) (Notes event.CallSite ∷ call_to 0 31 name ∷ []) mid a new (returns_counted flags frame arguments).plain p last)
+    let last = both_alone (Records event.CallSite ∷ []) (call_to 0 31 name ∷ []) a b new tt q (subst (λ s. PutsAlone flags (s ∷ []) b new) (λ i. call_to (zero_link i) (spare i) name) r) in
+    (mid, made, subst (λ n. IslandIfNeeded (n + 8) old mid made) measured island, both_alone (return_slots flags frame arguments) (Records event.CallSite ∷ call_to 0 31 name ∷ []) mid a new (returns_counted flags frame arguments).plain p last)
 
 pub t0_put : {flags : IsaFlags} (frame : FrameLayout) (arguments size link target : ℕ) (old mid a new : Buffer) (made : Bool) → size ≡ return_size flags frame arguments → link ≡ 0 → target ≡ 5 → IslandIfNeeded (size + 4) old mid made → PutsAlone flags (return_slots flags frame arguments) mid a → PutsAlone flags (Op (short_jalr flags link target (pos 0)) ∷ []) a new → PutsParts flags (Ask (return_size flags frame arguments + 4) ∷ Slots (t0_slots flags frame arguments) ∷ []) old new
 t0_put {flags} frame arguments size link target old mid a new made measured zero_link fifth island p q =
@@ -143,8 +143,8 @@ t0_put {flags} frame arguments size link target old mid a new made measured zero
 -- ---- calls that return
 
 -- the records of a call's return, and what stands before and after them
-pub returned_put : {flags : IsaFlags} (frame : FrameLayout) (entries : Option UserStackMap) (t : Option TryCallInfo) (old mid new : Buffer) → PutsAlone flags (map_notes frame entries) old mid → PutsAlone flags (Notes (site_event frame t) ∷ []) mid new → PutsAlone flags (return_notes frame entries t) old new
-returned_put frame entries t old mid new p q = both_alone (map_notes frame entries) (Notes (site_event frame t) ∷ []) old mid new (elim entries as (λ e. IsPlain (map_notes frame e)) [ None ↦ tt | Some e ↦ tt ]) p q
+pub returned_put : {flags : IsaFlags} (frame : FrameLayout) (entries : Option UserStackMap) (t : Option TryCallInfo) (old mid new : Buffer) → PutsAlone flags (map_notes frame entries) old mid → PutsAlone flags (Records (site_event frame t) ∷ []) mid new → PutsAlone flags (return_notes frame entries t) old new
+returned_put frame entries t old mid new p q = both_alone (map_notes frame entries) (Records (site_event frame t) ∷ []) old mid new (elim entries as (λ e. IsPlain (map_notes frame e)) [ None ↦ tt | Some e ↦ tt ]) p q
 
 -- records have no bytes
 pub returned_long : {flags : IsaFlags} (frame : FrameLayout) (entries : Option UserStackMap) (t : Option TryCallInfo) (old new : Buffer) → PutsAlone flags (return_notes frame entries t) old new → length (bytes_of new) ≡ length (bytes_of old)

@@ -19,7 +19,7 @@ pub use Rattle.rv_code.proofs.LineSlots.{HaveContents, IsPlain, IsSummed, access
 pub use Rattle.rv_code.proofs.LineSlots.{note_then, real_number, size_append, store_contained, store_summed, unwind_summed}
 pub use Rattle.rv_code.proofs.LongSlots.{number_few, AreShortLoads, count_splits, eight_short, even_plain, extend_even, extend_few, far_jumps_even, far_jumps_long, loads_counted, loads_most, number_even, results_short, return_most, return_short, returns_counted}
 pub use Rattle.rv_code.proofs.LongSlots.{saves_long, saves_short, setup_few, setup_short, step_most, steps_counted, t0_contained, t0_contents, table_contained, table_short, tail_contained, tail_contents, unless_short}
-pub use Rattle.rv_code.proofs.MadeOfPieces.{IsMadeOf, extend_made, made_contained, mov_from_preg_made, mov_made, pieces_few, pieces_long, pieces_name, popcnt_made, probe_made, reverse_made, select_made, trap_if_made, udf_made, zeros_made}
+pub use Rattle.rv_code.proofs.MadeOfPieces.{IsMadeOf, extend_made, made_contained, mov_from_preg_made, mov_made, pieces_few, pieces_long, pieces_name, probe_made, select_made, sequence_made, trap_if_made, udf_made}
 pub use Rattle.rv_code.proofs.OperationActs.{HasSize, ebreak_sized, jalr_sized, jump_len, least_even, least_few, lui_sized, rri_sized, rrr_sized, window_long}
 pub use Rattle.rv_code.specs.{Choices.extend_pieces, Immediates.lower_of, Immediates.upper_of, Operations.decoded_jalr, Operations.decoded_jump, Operations.jump_word, Tables.bound_op, Tables.enter_ops, Tables.far_jump, Tables.jump_slots, Usable.AreFineResults, Usable.AreListed, Usable.IsFine}
 pub use Rattle.rv_code.specs.{Usable.IsFineResult, Usable.IsListed, declared.state.EmitVState.EmitVState, declared.state.EmitVState.TheVariants.Unknown}
@@ -27,16 +27,16 @@ pub use Rattle.rv_code.specs.InstParts.{access_slots, address_slots, after_call,
 pub use Rattle.rv_code.specs.InstParts.{return_size, return_slots, slots_alone, stack_load_slots, stack_step_slots, t0_slots, table_slots, tail_slots, try_slots, wide_jump_to}
 pub use Rattle.rv_code.specs.Pieces.{AreAmong, Bind, Branch, Do, Go, GoNowhere, Jump, New, Piece, Trap, after, op_of, own_labels, piece_size, pieces_size, slots_for, slots_of, trap_bytes}
 pub use Rattle.rv_code.specs.Sites.{AimsFrom, BytesAt, CodeHas, FillsFrom, GapIn, HasOps, IsPlacedAt, Leads, LeadsOn, LinksFrom, PartsStand, Reaches, Site, StandsIn, symbol_address}
-pub use Rattle.rv_code.specs.Slots.{Address, AddressOf, Aim, Allocate, AreClosed, AreSelfContained, Ask, CallTo, Data, Fill, Here, IsClosed, Label, Notes, Op, Own, Part, PartsAreSelfContained, Slot, SlotOf, Slots, Symbol, Target, address_event, between, call_event, here_at, label_of, lower_event}
+pub use Rattle.rv_code.specs.Slots.{Address, AddressOf, Fixup, Allocate, AreClosed, AreSelfContained, Ask, CallTo, Data, RelocPair, Here, IsClosed, Label, Records, Op, Own, Part, PartsAreSelfContained, Slot, SlotOf, Slots, Symbol, Target, address_event, between, call_event, here_at, label_of, lower_event}
 pub use Rattle.rv_code.specs.Slots.{names_of, own_label, size_of, slot_size, upper_event}
 pub use Rattle.rv_emit.specs.{Emission.Emits, Emission.EmitsAnyhow, Emission.EmitsGiven, Emission.EmitsIn, EmitRuns.EmitsRun, EmitRuns.GapLeads, EmitRuns.HasCode, EmitRuns.IsBuilt, EmitRuns.RunsBetween, StackMaps.call_given, StackMaps.map_given, StackMaps.with_map, Standing.GapStandsIn}
 pub use Rattle.{rv_emit.specs.{Standing.IsFinishedTo, Standing.IslandIn, Standing.PartsIn, Standing.SlotsIn, State.setting_after, State.setting_beyond}, rv_encode.proofs.Decoding.opcode_decodes}
 pub use Rattle.rv_encode.specs.{Layouts.IsIType, Layouts.IsUType, Operations.decoded, Operations.decoded_rri, Operations.decoded_rrr, Operations.has_load, Operations.has_store, Registers.IsIntRegister, Registers.IsRealRegister}
-pub use Rattle.rv_inst.proofs.{Bridges.decode-patched_pair, ResultLoads.no_extra, UnitWords.is_unit}
+pub use Rattle.rv_inst.proofs.{Bridges.decode-patched_pair, ResultLoads.no_extra, Descriptions.is_unit}
 pub use Rattle.rv_inst.specs.{Addresses.AtLabel, Addresses.Based, Addresses.inline_size, Addresses.is_near, Addresses.is_splittable, Addresses.location_of, Context.Context, Context.context_by, Core.is_integer_family, Operands.family_of, Forms.IsOwnForm, Forms.jump_kind, Forms.jump_size}
 pub use Rattle.rv_inst.specs.{Forms.short_jalr, Forms.short_lui, Forms.short_rri, Frames.is_bad_frame_for, Islands.GoesOn, Islands.IsIsland, Islands.word_in, LabelUseBridges.PairDecodes, LabelUseBridges.with_immediate, LabelUseWords.AreBytes, LabelUseWords.word_at, LabelUseWords.word_bytes}
 pub use Rattle.rv_inst.specs.{Limits.call_limit, Limits.load_limit, Limits.sequence_limit, Limits.step_limit, Limits.store_limit, Limits.table_space, Records.access_records, Records.patch_records, Records.return_records, Records.site_event, Rules.inst_rule, Rules.is_on_stack, Rules.is_stacked}
-pub use Rattle.rv_inst.specs.{Rules.is_word_type, SameValues.Same, UnitWords.UnitWord, UnitWords.trap_in, UnitWords.unit_of, declared.inst.CondBrTarget.CondBrTarget, declared.inst.CondBrTarget.TheVariants.Fallthrough, declared.inst.Family.Family}
+pub use Rattle.rv_inst.specs.{Rules.is_word_type, SameValues.Same, Descriptions.UnitWord, Descriptions.trap_in, declared.inst.CondBrTarget.CondBrTarget, declared.inst.CondBrTarget.TheVariants.Fallthrough, declared.inst.Family.Family}
 pub use Rattle.rv_inst.specs.{declared.inst.Family.TheVariants.Calls, declared.inst.Inst.Inst, declared.label_use.LabelUse.LabelUse, declared.label_use.LabelUse.TheVariants.B12, declared.label_use.LabelUse.TheVariants.Jal20, declared.label_use.LabelUse.TheVariants.PCRel32}
 pub use Rattle.rv_inst.specs.{declared.label_use.LabelUse.TheVariants.PCRelHi20, declared.label_use.LabelUse.TheVariants.PCRelLo12I, declared.label_use.LabelUse.TheVariants.RVCJump, declared.targets.Targets.Targets, declared.targets.Targets.TheVariants.Branches}
 pub use Rattle.rv_inst.specs.{declared.targets.Targets.TheVariants.Jumps, declared.targets.Targets.TheVariants.Nowhere, declared.targets.Targets.TheVariants.Refers, declared.targets.Targets.TheVariants.RefersConstant}
@@ -44,8 +44,8 @@ pub use Rattle.{rv_inst.specs.LabelUse.{Aims, backward_of, forward_of, has_venee
 pub use Rattle.rv_inst.specs.Returns.{StackLoad, frame_above, loads_unless, location_loads, restores, result_load, result_loads, saved_load, saves_from, setup_loads, typed_loads}
 pub use Rattle.rv_inst.specs.Sizes.{AtMost, Exactly, IsOfSize, Request, Size, branch_size, call_end, call_request, fall, first_in, inst_code, inst_records, inst_size, inst_sum, line_space, most_bytes, most_of, move_size, request_of, results_space, space_in, trap_size}
 pub use Rattle.rv_inst.specs.Uses.{inst_reach, jump_reach, least_reach, target_reach, target_uses, use_at, uses_by, uses_in, uses_start}
-pub use Rattle.rv_inst.specs.declared.inst.Inst.TheVariants.{AluRRImm12, AluRRR, Args, Auipc, BrTable, Brev8, Call, CallInd, Cltz, CondBr, DummyUse, EBreak, EmitIsland, Extend, Jal, Jalr, LabelAddress, Load, LoadAddr, LoadExtNameFar, LoadExtNameGot, LoadExtNameNear, LoadInlineConst, Lui, Mov}
-pub use Rattle.rv_inst.specs.declared.inst.Inst.TheVariants.{MovFromPReg, Nop0, Nop4, Popcnt, RawData, Ret, Rets, ReturnCall, ReturnCallInd, Select, SequencePoint, StackProbeLoop, Store, TrapIf, Udf, Unwind}
+pub use Rattle.rv_inst.specs.declared.inst.Inst.TheVariants.{AluRRImm12, AluRRR, Args, Auipc, BrTable, Call, CallInd, CondBr, DummyUse, EBreak, EmitIsland, Extend, Jal, Jalr, LabelAddress, Load, LoadAddr, LoadExtNameFar, LoadExtNameGot, LoadExtNameNear, LoadInlineConst, Lui, Mov}
+pub use Rattle.rv_inst.specs.declared.inst.Inst.TheVariants.{MovFromPReg, Nop0, Nop4, RawData, Ret, Rets, ReturnCall, ReturnCallInd, Select, SequencePoint, StackProbeLoop, Store, TrapIf, Udf, Unwind}
 pub use Rattle.rv_machine.proofs.{Images.byte_stored, UnitOperations.integer_decodes, UnitOperations.is_integer}
 pub use Rattle.rv_machine.specs.{Arithmetic.low_word, Decode.decode, Decode.int_by_opcode, Decode.int_decode, Layout.i_bits, Layout.i_layout, Layout.u_bits, Layout.word_funct3, Layout.word_opcode, Opcodes.AUIPC, Opcodes.JALR, Steps.fetch, declared.decoding.Decoded.Decoded}
 pub use Rattle.{rv_machine.specs.declared.ops.MOp.TheVariants.Base, rv_machine.specs.State.{Memory, Values, at, byte, low64, reg, set_reg, signed, store, wrap}}

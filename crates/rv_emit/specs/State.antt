@@ -9,9 +9,9 @@ use Rattle.rv_inst.specs.Addresses.{Location, Based, AtLabel, AtConstant, locati
 use Rattle.rv_inst.specs.Context.{Context}
 use Rattle.rv_inst.specs.declared.inst.CondBrTarget.{CondBrTarget}
 use Rattle.rv_inst.specs.declared.inst.CondBrTarget.TheVariants.{Label, Fallthrough}
-use Rattle.rv_inst.specs.UnitWords.{UnitWord, unit_of}
+use Rattle.rv_inst.specs.Descriptions.{Description, Word, Computes, description_of}
 use Rattle.rv_inst.specs.declared.inst.Inst.{Inst}
-use Rattle.rv_inst.specs.declared.inst.Inst.TheVariants.{Nop0, Nop4, EBreak, SequencePoint, Args, Rets, DummyUse, EmitIsland, RawData, Lui, Auipc, LoadInlineConst, AluRRR, AluRRImm12, Mov, MovFromPReg, Extend, Select, Load, Store, LoadAddr, LabelAddress, Ret, TrapIf, Jal, CondBr, BrTable, Udf, Jalr, Popcnt, Cltz, Brev8, StackProbeLoop, LoadExtNameGot, LoadExtNameNear, LoadExtNameFar, Call, CallInd, ReturnCall, ReturnCallInd, Unwind}
+use Rattle.rv_inst.specs.declared.inst.Inst.TheVariants.{Nop0, Nop4, EBreak, SequencePoint, Args, Rets, DummyUse, EmitIsland, RawData, Lui, Auipc, LoadInlineConst, AluRRR, AluRRImm12, Mov, MovFromPReg, Extend, Select, Load, Store, LoadAddr, LabelAddress, Ret, TrapIf, Jal, CondBr, BrTable, Udf, Jalr, StackProbeLoop, LoadExtNameGot, LoadExtNameNear, LoadExtNameFar, Call, CallInd, ReturnCall, ReturnCallInd, Unwind}
 use Rattle.rv_sequences.specs.Emitted.{Buffer, pending}
 use Rattle.rv_code.specs.declared.state.EmitVState.{EmitVState}
 use Rattle.rv_code.specs.declared.state.EmitVState.TheVariants.{Unknown}
@@ -37,9 +37,10 @@ jumps Fallthrough not_taken = false
 jumps (Label t) Fallthrough = false
 jumps (Label t) (Label f) = true
 
--- a word of a unit leaves it
-abbrev pub unit_setting : UnitWord → EmitVState → EmitVState
-unit_setting w setting = setting
+-- a word of a unit leaves it, and each sequence has a loop
+abbrev pub described_setting : IsaFlags → Description → EmitVState → EmitVState
+described_setting flags (Word w) setting = setting
+described_setting flags (Computes s with) setting = setting_beyond (is_wide flags) setting
 
 -- by the buffer and the setting known before an instruction, that known after it
 abbrev pub setting_after : Context → Buffer → Inst → EmitVState → EmitVState
@@ -72,9 +73,6 @@ setting_after context b (CondBr taken not_taken kind) setting = setting_beyond (
 setting_after context b (BrTable index tmp1 tmp2 targets) setting = Unknown
 setting_after context b (Udf code) setting = setting
 setting_after context b (Jalr rd base offset) setting = Unknown
-setting_after context b (Popcnt info) setting = setting_beyond (is_wide context.flags) setting
-setting_after context b (Cltz leading info) setting = setting_beyond (is_wide context.flags) setting
-setting_after context b (Brev8 info) setting = setting_beyond (is_wide context.flags) setting
 setting_after context b (StackProbeLoop guard_size probe_count tmp) setting = setting_beyond (is_wide context.flags) setting
 setting_after context b (LoadExtNameGot rd name) setting = setting
 setting_after context b (LoadExtNameNear rd name offset) setting = setting
@@ -84,4 +82,4 @@ setting_after context b (CallInd info) setting = Unknown
 setting_after context b (ReturnCall info) setting = Unknown
 setting_after context b (ReturnCallInd info) setting = Unknown
 setting_after context b (Unwind inst) setting = setting
-setting_after context b inst setting = unit_setting (unit_of inst refl) setting
+setting_after context b inst setting = described_setting context.flags (description_of inst refl) setting

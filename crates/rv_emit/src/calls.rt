@@ -20,7 +20,7 @@ ghost use Rattle.rv_sequences.specs.Parts.{PutsAlone, PutsParts};
 ghost use Rattle.rv_sequences.specs.Emitted.{IsSoundBuffer, pending};
 ghost use Rattle.rv_emit.specs.StackMaps.{call_given};
 ghost use Rattle.rv_code.specs.InstParts.{map_notes, return_notes, try_slots, patch_notes, call_slots, call_ind_slots, loading_parts};
-ghost use Rattle.rv_code.specs.Slots.{Notes};
+ghost use Rattle.rv_code.specs.Slots.{Records};
 ghost use Rattle.rv_code.specs.Usable.{IsFineTry, AreFineResults};
 
 use crate::results::put_results;
@@ -218,7 +218,7 @@ fn put_site(
 ) -> Result<(), OutOfMemory>
     requires frame { sp_to_args_end frame.now < 2 ^ 31 }
     requires sound { IsSoundBuffer sink.old }
-    ensures slots { OnOk result ((flags : IsaFlags) → PutsAlone flags (Notes (site_event frame.now try_call_info.now) ∷ []) sink.old sink.new) }
+    ensures slots { OnOk result ((flags : IsaFlags) → PutsAlone flags (Records (site_event frame.now try_call_info.now) ∷ []) sink.old sink.new) }
     ensures refused { OnErr result (spoiled_of sink.new ≡ true) }
 {
     match try_call_info {
@@ -248,7 +248,7 @@ fn put_patchable(
 
 fn put_patch(sink: &mut MachBuffer<LabelUse>, size: u32) -> Result<(), OutOfMemory>
     requires sound { IsSoundBuffer sink.old }
-    ensures slots { OnOk result ((flags : IsaFlags) → PutsAlone flags (Notes (PatchableCallSite size) ∷ []) sink.old sink.new) }
+    ensures slots { OnOk result ((flags : IsaFlags) → PutsAlone flags (Records (PatchableCallSite size) ∷ []) sink.old sink.new) }
     ensures refused { OnErr result (spoiled_of sink.new ≡ true) }
 {
     sink.add_patchable_call_site(size)?;

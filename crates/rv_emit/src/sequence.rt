@@ -31,9 +31,9 @@ use rv_imms::Imm12;
 use rv_inst::{Family, Inst, LabelUse};
 use rv_ops::AluOPRRI;
 use rv_sequences::{
-    put_address, put_branch, put_bytes, put_constant, put_ebreak, put_extend, put_jalr, put_jump,
-    put_label_address, put_load_line, put_lui, put_move, put_popcnt, put_probe_loop, put_reverse,
-    put_rri, put_rrr, put_select, put_store_line, put_trap, put_trap_if, put_word, put_zeros,
+    put_address, put_branch, put_bytes, put_computation, put_constant, put_ebreak, put_extend,
+    put_jalr, put_jump, put_label_address, put_load_line, put_lui, put_move, put_probe_loop,
+    put_rri, put_rrr, put_select, put_store_line, put_trap, put_trap_if, put_word,
     resolved_address,
 };
 
@@ -239,28 +239,15 @@ fn put_loop(
     ensures refused { OnErr result (spoiled_of sink.new ≡ true) }
 {
     match inst {
-        Inst::Popcnt { info } => {
-            let info = info.as_ref();
-            put_popcnt(sink, flags, info.sum, info.tmp, info.step, info.rs, info.ty)
-        }
-        Inst::Cltz { leading, info } => {
-            let info = info.as_ref();
-            put_zeros(
-                sink, flags, *leading, info.sum, info.tmp, info.step, info.rs, info.ty,
-            )
-        }
-        Inst::Brev8 { info } => {
-            let info = info.as_ref();
-            put_reverse(
-                sink, flags, info.rd, info.tmp, info.tmp2, info.step, info.rs, info.ty,
-            )
-        }
         Inst::StackProbeLoop {
             guard_size,
             probe_count,
             tmp,
         } => put_probe_loop(sink, flags, *guard_size, *probe_count, *tmp),
-        _ => Ok(()),
+        _ => match inst.sequence() {
+            Some(sequence) => put_computation(sink, flags, sequence),
+            None => Ok(()),
+        },
     }
 }
 

@@ -29,7 +29,8 @@ pub(crate) fn forgets_setting(flags: IsaFlags, frame: &FrameLayout, inst: &Inst)
         Family::Integer => integer_forgets(flags, inst),
         Family::Memory => memory_forgets(flags, frame, inst),
         Family::Control => control_forgets(flags, inst),
-        Family::Loop => loop_forgets(flags, inst),
+        // Each loop jumps back to its start.
+        Family::Loop => !flags.has_zca,
         Family::Symbols => symbol_forgets(flags, inst),
         Family::Calls => true,
         Family::Float => false,
@@ -71,19 +72,6 @@ fn control_forgets(flags: IsaFlags, inst: &Inst) -> bool
             not_taken,
             ..
         } => branch_jumps(*taken, *not_taken) && !flags.has_zca,
-        _ => false,
-    }
-}
-
-/// Each loop jumps back to its start.
-fn loop_forgets(flags: IsaFlags, inst: &Inst) -> bool
-    ensures { family_of inst.now ≡ Loop → (frame : FrameLayout) (constants : List Constant) (b : Buffer) (setting : Setting) → setting_after (context_by flags frame constants) b inst.now setting ≡ setting_beyond result setting }
-{
-    match inst {
-        Inst::Popcnt { info: _ }
-        | Inst::Cltz { .. }
-        | Inst::Brev8 { info: _ }
-        | Inst::StackProbeLoop { .. } => !flags.has_zca,
         _ => false,
     }
 }

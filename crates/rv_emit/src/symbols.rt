@@ -14,7 +14,7 @@ ghost use Rattle.rv_sequences.specs.Parts.{PutsAlone};
 ghost use Rattle.rv_sequences.specs.Emitted.{IsSoundBuffer};
 ghost use Rattle.rv_code.specs.InstParts.{call_to, far_slots, got_slots, near_slots};
 ghost use Rattle.rv_sequences.specs.Puts.{eight_zeros};
-ghost use Rattle.rv_code.specs.Slots.{Notes, address_event, call_event, lower_event};
+ghost use Rattle.rv_code.specs.Slots.{Records, address_event, call_event, lower_event};
 
 use crate::table::far_word;
 use mach_buffer::MachBuffer;
@@ -147,7 +147,7 @@ pub(crate) fn put_call_to(
 /// The record of a call site.
 pub(crate) fn put_call_site(sink: &mut MachBuffer<LabelUse>) -> Result<(), OutOfMemory>
     requires sound { IsSoundBuffer sink.old }
-    ensures slots { OnOk result ((flags : IsaFlags) → PutsAlone flags (Notes CallSite ∷ []) sink.old sink.new) }
+    ensures slots { OnOk result ((flags : IsaFlags) → PutsAlone flags (Records CallSite ∷ []) sink.old sink.new) }
     ensures refused { OnErr result (spoiled_of sink.new ≡ true) }
 {
     sink.add_call_site()?;
@@ -160,7 +160,7 @@ pub(crate) fn put_unwind(
     inst: UnwindInst,
 ) -> Result<(), OutOfMemory>
     requires sound { IsSoundBuffer sink.old }
-    ensures slots { OnOk result ((flags : IsaFlags) → PutsAlone flags (Notes (Unwinds inst) ∷ []) sink.old sink.new) }
+    ensures slots { OnOk result ((flags : IsaFlags) → PutsAlone flags (Records (Unwinds inst) ∷ []) sink.old sink.new) }
     ensures refused { OnErr result (spoiled_of sink.new ≡ true) }
 {
     sink.add_unwind(inst)?;

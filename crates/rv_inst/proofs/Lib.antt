@@ -6,7 +6,7 @@ pub mod PatchPair
 pub mod PatchPart
 pub mod PatchCompressed
 pub mod Rules
-pub mod UnitWords
+pub mod Descriptions
 pub mod ResultLoads
 pub mod Meaning
 pub mod Moves

@@ -2,6 +2,8 @@
 use Rattle.std.specs.Prelude.{ℕ, zero, suc, ◌+◌, ◌-◌, ◌*◌, ◌/◌, ◌%◌, ◌^◌, ◌==◌, Bool, true, false, if◌then◌else◌}
 use Rattle.std.specs.Int.{bit_at}
 use Rattle.rv_machine.specs.State.{signed, low64}
+use Rattle.rv_inst.specs.declared.sequence.Computation.{Computation}
+use Rattle.rv_inst.specs.declared.sequence.Computation.TheVariants.{Ones, Zeros, ReversedBytes}
 
 -- so many low bits, sign-extended to 64 or zero-extended
 abbrev pub extended : Bool → ℕ → ℕ → ℕ
@@ -37,3 +39,9 @@ reversed_bits (suc bits) n = n % 2 * 2 ^ bits + reversed_bits bits (n / 2)
 abbrev pub reversed_bytes : ℕ → ℕ → ℕ
 reversed_bytes zero n = 0
 reversed_bytes (suc bytes) n = reversed_bits 8 n + 2 ^ 8 * reversed_bytes bytes (n / 2 ^ 8)
+
+-- what a sequence computes of so many low bits
+abbrev pub computed : Computation → ℕ → ℕ → ℕ
+computed Ones bits n = ones bits n
+computed (Zeros leading) bits n = zeros leading bits n
+computed ReversedBytes bits n = reversed_bytes (bits / 8) n

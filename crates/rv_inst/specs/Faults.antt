@@ -1,9 +1,10 @@
 -- For the functions of check: which rules of its own an instruction breaks, one by one.
-use Rattle.std.specs.Prelude.{Bool, List}
+use Rattle.std.specs.Prelude.{Bool, false, List, Option, None, Some}
 use Rattle.rv_base.specs.declared.constant.Constant.{Constant}
 use Rattle.rv_inst.specs.Operands.{targets_of}
-use Rattle.rv_inst.specs.Rules.{faults_of, lacks_named}
+use Rattle.rv_inst.specs.Rules.{Faults, faults_of, lacks_named, sequence_faults}
 use Rattle.rv_inst.specs.declared.inst.Inst.{Inst}
+use Rattle.rv_inst.specs.declared.sequence.Sequence.{Sequence}
 
 abbrev pub is_misplaced : Inst → Bool
 is_misplaced inst = (faults_of inst).class
@@ -38,3 +39,8 @@ has_bad_size inst = (faults_of inst).size
 -- whether an instruction names a constant that isn't there, or reads more bytes than it has
 abbrev pub lacks_constant : List Constant → Inst → Bool
 lacks_constant constants inst = lacks_named constants (targets_of inst)
+
+-- whether a sequence breaks a rule, where an instruction is one
+abbrev pub sequence_breaks : (Faults → Bool) → Option Sequence → Bool
+sequence_breaks rule None = false
+sequence_breaks rule (Some s) = rule (sequence_faults s)

@@ -1,4 +1,4 @@
-pub mod UnitWords
+pub mod Descriptions
 pub mod Core
 pub mod Records
 pub mod Relocations

@@ -23,14 +23,14 @@ use Rattle.rv_ops.specs.Operations.{is_exchanged, rrr_op, rri_op}
 use Rattle.rv_encode.specs.Operations.{load_op, store_op}
 use Rattle.rv_inst.specs.Addresses.{Location, Based, AtLabel, AtConstant, location_of}
 use Rattle.rv_ops.specs.Memory.{is_float_load, is_float_store, store_size}
-use Rattle.rv_inst.specs.Bits.{extended, ones, zeros, reversed_bytes}
+use Rattle.rv_inst.specs.Bits.{computed, extended}
 use Rattle.rv_inst.specs.Operands.{all_of, written_in, Return, inst_temporaries, try_call_of, return_of}
 use Rattle.rv_inst.specs.Returns.{StackLoad, restores, frame_above}
-use Rattle.rv_inst.specs.UnitWords.{UnitWord, unit_of}
+use Rattle.rv_inst.specs.Descriptions.{Description, UnitWord, Word, Computes, description_of}
 use Rattle.rv_inst.specs.declared.inst.Line.{Line}
 use Rattle.rv_inst.specs.declared.inst.Line.TheVariants.{Inst as Put, Bind}
 use Rattle.rv_inst.specs.declared.inst.Inst.{Inst}
-use Rattle.rv_inst.specs.declared.inst.Inst.TheVariants.{Nop0, Nop4, EBreak, SequencePoint, Args, Rets, DummyUse, Unwind, EmitIsland, RawData, Lui, Auipc, LoadInlineConst, AluRRR, AluRRImm12, Mov, MovFromPReg, Extend, Select, Load, Store, LoadAddr, LabelAddress, Ret, TrapIf, Jal, CondBr, BrTable, Udf, Jalr, Popcnt, Cltz, Brev8, StackProbeLoop, LoadExtNameGot, LoadExtNameNear, LoadExtNameFar, Call, CallInd, ReturnCall, ReturnCallInd}
+use Rattle.rv_inst.specs.declared.inst.Inst.TheVariants.{Nop0, Nop4, EBreak, SequencePoint, Args, Rets, DummyUse, Unwind, EmitIsland, RawData, Lui, Auipc, LoadInlineConst, AluRRR, AluRRImm12, Mov, MovFromPReg, Extend, Select, Load, Store, LoadAddr, LabelAddress, Ret, TrapIf, Jal, CondBr, BrTable, Udf, Jalr, StackProbeLoop, LoadExtNameGot, LoadExtNameNear, LoadExtNameFar, Call, CallInd, ReturnCall, ReturnCallInd}
 use Rattle.rv_inst.specs.declared.inst.CondBrTarget.{CondBrTarget}
 use Rattle.rv_inst.specs.declared.inst.CondBrTarget.TheVariants.{Label, Fallthrough}
 use Rattle.rv_machine.specs.State.{Values, reg, set_reg, store, wrap, low64}
@@ -167,6 +167,11 @@ goes exit v = record { effect = v; writes = []; exit = exit }
 abbrev pub unit_meaning : UnitWord → Values → Meaning
 unit_meaning w v = goes Next v
 
+-- a sequence changes its result alone, its temporaries apart
+abbrev pub described_meaning : Description → Values → Meaning
+described_meaning (Word w) v = unit_meaning w v
+described_meaning (Computes s with) v = goes Next (set_reg v (number_of s.rd.reg) (computed s.computation (bits_of s.ty) (reg v (number_of s.rs))))
+
 -- Nor has a store of a floating-point register, which is said to leave them, too; yet the bytes that it writes are said.
 abbrev pub stored : StoreOP → ℕ → ℕ → Values → Values
 stored op src a v = if is_float_store op then v else put_bytes v a (store_bytes (store_op op) (reg v src))
@@ -204,9 +209,6 @@ inst_meaning env (CondBr taken not_taken kind) v = goes (if compares kind v then
 inst_meaning env (BrTable index tmp1 tmp2 targets) v = goes (table_exit targets (low_word (reg v (number_of index)))) v
 inst_meaning env (Udf code) v = goes (Trap code) v
 inst_meaning env (Jalr rd base offset) v = goes (Leave (wrap (reg v (number_of base) + low64 offset.value) / 2 * 2)) (set_reg v (number_of rd.reg) env.after)
-inst_meaning env (Popcnt info) v = goes Next (set_reg v (number_of info.sum.reg) (ones (bits_of info.ty) (reg v (number_of info.rs))))
-inst_meaning env (Cltz leading info) v = goes Next (set_reg v (number_of info.sum.reg) (zeros leading (bits_of info.ty) (reg v (number_of info.rs))))
-inst_meaning env (Brev8 info) v = goes Next (set_reg v (number_of info.rd.reg) (reversed_bytes (bits_of info.ty / 8) (reg v (number_of info.rs))))
 inst_meaning env (StackProbeLoop guard_size probe_count tmp) v = record (goes Next (zero_bytes v (probes_of (reg v 2) (low_word guard_size) (low_word probe_count)))) { writes = probes_of (reg v 2) (low_word guard_size) (low_word probe_count) }
 inst_meaning env (LoadExtNameGot rd name) v = goes Next (set_reg v (number_of rd.reg) (load_result (load_op Ld) v.mem (env.slot name.number)))
 inst_meaning env (LoadExtNameNear rd name offset) v = goes Next (set_reg v (number_of rd.reg) (symbol_at env name offset))
@@ -215,7 +217,7 @@ inst_meaning env (Call info) v = goes (Leave (symbol_at env info.dest (pos 0) / 
 inst_meaning env (CallInd info) v = goes (Leave (reg v (number_of info.dest) / 2 * 2)) (linked env.start (return_of env.flags (CallInd info)) v)
 inst_meaning env (ReturnCall info) v = goes (Leave (symbol_at env info.dest (pos 0) / 2 * 2)) (frame_left env.frame info.new_stack_arg_size v)
 inst_meaning env (ReturnCallInd info) v = goes (Leave (reg v (number_of info.dest) / 2 * 2)) (frame_left env.frame info.new_stack_arg_size v)
-inst_meaning env inst v = unit_meaning (unit_of inst refl) v
+inst_meaning env inst v = described_meaning (description_of inst refl) v
 
 abbrev pub inst_effect : Environment → Inst → Values → Values
 inst_effect env inst v = (inst_meaning env inst v).effect

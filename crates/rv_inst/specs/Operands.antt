@@ -36,8 +36,8 @@ use Rattle.rv_inst.specs.declared.inst.Line.TheVariants.{Inst as Put, Bind}
 use Rattle.rv_inst.specs.declared.inst.Family.{Family}
 use Rattle.rv_inst.specs.declared.inst.Family.TheVariants.{Pseudo, Integer, Memory, Control, Loop, Symbols, Calls}
 use Rattle.rv_inst.specs.declared.inst.Inst.{Inst}
-use Rattle.rv_inst.specs.declared.inst.Inst.TheVariants.{Nop0, Nop4, EBreak, SequencePoint, Args, Rets, DummyUse, Unwind, EmitIsland, RawData, Lui, Auipc, LoadInlineConst, AluRRR, AluRRImm12, Mov, MovFromPReg, Extend, Select, Load, Store, LoadAddr, LabelAddress, Ret, TrapIf, Jal, CondBr, BrTable, Udf, Jalr, Popcnt, Cltz, Brev8, StackProbeLoop, LoadExtNameGot, LoadExtNameNear, LoadExtNameFar, Call, CallInd, ReturnCall, ReturnCallInd}
-use Rattle.rv_inst.specs.UnitWords.{registers_in, unit_of}
+use Rattle.rv_inst.specs.declared.inst.Inst.TheVariants.{Nop0, Nop4, EBreak, SequencePoint, Args, Rets, DummyUse, Unwind, EmitIsland, RawData, Lui, Auipc, LoadInlineConst, AluRRR, AluRRImm12, Mov, MovFromPReg, Extend, Select, Load, Store, LoadAddr, LabelAddress, Ret, TrapIf, Jal, CondBr, BrTable, Udf, Jalr, StackProbeLoop, LoadExtNameGot, LoadExtNameNear, LoadExtNameFar, Call, CallInd, ReturnCall, ReturnCallInd}
+use Rattle.rv_inst.specs.Descriptions.{Description, Word, Computes, description_of, registers_in, sequence_registers, temporaries_in}
 use Rattle.rv_inst.specs.declared.tail_calls.TailCall.{TailCall}
 use Rattle.rv_inst.specs.declared.targets.Targets.{Targets}
 use Rattle.rv_inst.specs.declared.targets.Targets.TheVariants.{Nowhere, Jumps, Branches, Refers, RefersConstant}
@@ -141,6 +141,11 @@ pub record Operands : Type 0 where
 abbrev pub only : Family → List Reg → Operands
 only family registers = record { family = family; registers = registers; targets = Nowhere; table = []; temporaries = []; floats = false; results = []; try_call = None; returns = λ flags. None; tail_call = None }
 
+-- those of a sequence are asked for in the order of its source, its temporaries and its result
+abbrev pub described_operands : Description → Operands
+described_operands (Word w) = only w.family (registers_in w.places)
+described_operands (Computes s with) = record (only Loop (sequence_registers s)) { temporaries = map number_of (temporaries_in s) }
+
 -- a call returns after an auipc and a jalr, or after a jalr alone
 abbrev pub operands_of : Inst → Operands
 operands_of Nop0 = only Pseudo []
@@ -173,9 +178,6 @@ operands_of (CondBr taken not_taken kind) = record (only Control (kind.rs1 ∷ k
 operands_of (BrTable index tmp1 tmp2 targets) = record (only Control (index ∷ tmp1.reg ∷ tmp2.reg ∷ [])) { table = targets; temporaries = number_of tmp1.reg ∷ number_of tmp2.reg ∷ [] }
 operands_of (Udf code) = only Control []
 operands_of (Jalr rd base offset) = only Control (rd.reg ∷ base ∷ [])
-operands_of (Popcnt info) = record (only Loop (info.sum.reg ∷ info.tmp.reg ∷ info.step.reg ∷ info.rs ∷ [])) { temporaries = number_of info.tmp.reg ∷ number_of info.step.reg ∷ [] }
-operands_of (Cltz leading info) = record (only Loop (info.sum.reg ∷ info.tmp.reg ∷ info.step.reg ∷ info.rs ∷ [])) { temporaries = number_of info.tmp.reg ∷ number_of info.step.reg ∷ [] }
-operands_of (Brev8 info) = record (only Loop (info.rs ∷ info.step.reg ∷ info.tmp.reg ∷ info.tmp2.reg ∷ info.rd.reg ∷ [])) { temporaries = number_of info.step.reg ∷ number_of info.tmp.reg ∷ number_of info.tmp2.reg ∷ [] }
 operands_of (StackProbeLoop guard_size probe_count tmp) = record (only Loop (tmp.reg ∷ [])) { temporaries = number_of tmp.reg ∷ [] }
 operands_of (LoadExtNameGot rd name) = only Symbols (rd.reg ∷ [])
 operands_of (LoadExtNameNear rd name offset) = only Symbols (rd.reg ∷ [])
@@ -184,7 +186,7 @@ operands_of (Call info) = record (only Calls (use_registers info.uses ++ def_reg
 operands_of (CallInd info) = record (only Calls (info.dest ∷ use_registers info.uses ++ def_registers info.defs)) { floats = loads_float (result_loads info.defs); results = info.defs; try_call = info.try_call_info; returns = λ flags. returns_at (short_jalr flags 1 (number_of info.dest) (pos 0)).len info.callee_pop_size (result_loads info.defs) }
 operands_of (ReturnCall info) = record (only Calls (use_registers info.uses)) { tail_call = Some (record { stack_arg_size = info.new_stack_arg_size; by_register = false }) }
 operands_of (ReturnCallInd info) = record (only Calls (info.dest ∷ use_registers info.uses)) { tail_call = Some (record { stack_arg_size = info.new_stack_arg_size; by_register = true }) }
-operands_of inst = only (unit_of inst refl).family (registers_in (unit_of inst refl).places)
+operands_of inst = described_operands (description_of inst refl)
 
 abbrev pub family_of : Inst → Family
 family_of inst = (operands_of inst).family

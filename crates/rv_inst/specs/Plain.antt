@@ -8,13 +8,13 @@ use Rattle.rv_base.specs.declared.regs.Reg.{Reg}
 use Rattle.rv_ops.specs.Memory.{is_float_load, is_float_store}
 use Rattle.rv_ops.specs.Operations.{immediate_of, shift_limit}
 use Rattle.rv_inst.specs.declared.inst.Inst.{Inst}
-use Rattle.rv_inst.specs.declared.inst.Inst.TheVariants.{Nop0, Nop4, EBreak, SequencePoint, Args, Rets, DummyUse, Unwind, EmitIsland, RawData, Lui, Auipc, LoadInlineConst, AluRRR, AluRRImm12, Mov, MovFromPReg, Extend, Select, Load, Store, LoadAddr, LabelAddress, Ret, TrapIf, Jal, CondBr, BrTable, Udf, Jalr, Popcnt, Cltz, Brev8, StackProbeLoop, LoadExtNameGot, LoadExtNameNear, LoadExtNameFar, Call, CallInd, ReturnCall, ReturnCallInd}
+use Rattle.rv_inst.specs.declared.inst.Inst.TheVariants.{Nop0, Nop4, EBreak, SequencePoint, Args, Rets, DummyUse, Unwind, EmitIsland, RawData, Lui, Auipc, LoadInlineConst, AluRRR, AluRRImm12, Mov, MovFromPReg, Extend, Select, Load, Store, LoadAddr, LabelAddress, Ret, TrapIf, Jal, CondBr, BrTable, Udf, Jalr, StackProbeLoop, LoadExtNameGot, LoadExtNameNear, LoadExtNameFar, Call, CallInd, ReturnCall, ReturnCallInd}
 use Rattle.rv_inst.specs.Addresses.{is_distant}
 use Rattle.rv_inst.specs.Context.{Context}
 use Rattle.rv_inst.specs.Operands.{tail_call_of, target_labels}
 use Rattle.rv_inst.specs.Rules.{is_virtual, is_other_class, is_reserved, is_int_type, is_beyond, is_fallthrough, is_buffer_label, inst_rule}
 use Rattle.rv_inst.specs.Sizes.{inst_sum}
-use Rattle.rv_inst.specs.UnitWords.{UnitWord, unit_of}
+use Rattle.rv_inst.specs.Descriptions.{Description, description_of}
 
 -- a register of which no rule is broken: an integer register of the machine other than x30 and x31
 abbrev pub is_usable : Reg → Bool
@@ -30,9 +30,9 @@ is_plain_address (IncomingArg o) = not (is_distant o)
 is_plain_address (Const k) = false
 is_plain_address (Label l) = false
 
--- those of units are fewer, and so are loads and stores of their registers
-abbrev pub unit_is_plain : UnitWord → Bool
-unit_is_plain w = false
+-- words of units and sequences are fewer, and so are loads and stores of floating-point registers
+abbrev pub described_is_plain : Description → Bool
+described_is_plain d = false
 
 -- the most usual instructions, where they are so
 abbrev pub is_plain : Inst → Bool
@@ -66,9 +66,6 @@ is_plain (CondBr taken not_taken kind) = list_all is_usable (kind.rs1 ∷ kind.r
 is_plain (BrTable index tmp1 tmp2 targets) = false
 is_plain (Udf code) = false
 is_plain (Jalr rd base offset) = false
-is_plain (Popcnt info) = false
-is_plain (Cltz leading info) = false
-is_plain (Brev8 info) = false
 is_plain (StackProbeLoop guard_size probe_count tmp) = false
 is_plain (LoadExtNameGot rd name) = false
 is_plain (LoadExtNameNear rd name offset) = false
@@ -77,7 +74,7 @@ is_plain (Call info) = false
 is_plain (CallInd info) = false
 is_plain (ReturnCall info) = false
 is_plain (ReturnCallInd info) = false
-is_plain inst = unit_is_plain (unit_of inst refl)
+is_plain inst = described_is_plain (description_of inst refl)
 
 -- an instruction that breaks no rule in any context, counts for 128 bytes, and is no tail call
 pub record IsPlain (inst : Inst) : Type 0 where

@@ -1,12 +1,12 @@
 -- What an instruction records.
-use Rattle.std.specs.Prelude.{◌≡◌, Bool, true, false, ℕ, ◌+◌, ◌-◌, List, [], ◌∷◌, ◌++◌, Option, Some, None, slice_get, ℤ, pos}
+use Rattle.std.specs.Prelude.{◌≡◌, Bool, true, false, ℕ, ◌+◌, List, [], ◌∷◌, ◌++◌, Option, Some, None, slice_get, ℤ, pos}
 use Rattle.rv_base.specs.declared.call.TryCallInfo.{TryCallInfo}
 use Rattle.rv_base.specs.declared.call.UserStackMap.{UserStackMap}
 use Rattle.rv_base.specs.declared.external_name.ExternalName.{ExternalName}
 use Rattle.rv_base.specs.declared.frame.FrameLayout.{FrameLayout}
 use Rattle.rv_base.specs.Frame.{sp_to_fp_of}
 use Rattle.rv_base.specs.declared.reloc.Reloc.{Reloc}
-use Rattle.rv_base.specs.declared.reloc.Reloc.TheVariants.{RiscvCallPlt, RiscvGotHi20, RiscvPCRelHi20, RiscvPCRelLo12I, Abs8}
+use Rattle.rv_base.specs.declared.reloc.Reloc.TheVariants.{RiscvPCRelLo12I}
 use Rattle.rv_base.specs.declared.trap.TrapCode.{TrapCode}
 use Rattle.mach_records.specs.declared.records.Event.{Event}
 use Rattle.mach_records.specs.declared.records.Event.TheVariants as event

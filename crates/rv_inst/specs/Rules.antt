@@ -31,7 +31,7 @@ use Rattle.rv_ops.specs.Operations.{immediate_of, shift_limit}
 use Rattle.rv_inst.specs.declared.inst.Line.{Line}
 use Rattle.rv_inst.specs.declared.inst.Line.TheVariants.{Inst as Put, Bind}
 use Rattle.rv_inst.specs.declared.inst.Inst.{Inst}
-use Rattle.rv_inst.specs.declared.inst.Inst.TheVariants.{Nop0, Nop4, EBreak, SequencePoint, Args, Rets, DummyUse, Unwind, EmitIsland, RawData, Lui, Auipc, LoadInlineConst, AluRRR, AluRRImm12, Mov, MovFromPReg, Extend, Select, Load, Store, LoadAddr, LabelAddress, Ret, TrapIf, Jal, CondBr, BrTable, Udf, Jalr, Popcnt, Cltz, Brev8, StackProbeLoop, LoadExtNameGot, LoadExtNameNear, LoadExtNameFar, Call, CallInd, ReturnCall, ReturnCallInd}
+use Rattle.rv_inst.specs.declared.inst.Inst.TheVariants.{Nop0, Nop4, EBreak, SequencePoint, Args, Rets, DummyUse, Unwind, EmitIsland, RawData, Lui, Auipc, LoadInlineConst, AluRRR, AluRRImm12, Mov, MovFromPReg, Extend, Select, Load, Store, LoadAddr, LabelAddress, Ret, TrapIf, Jal, CondBr, BrTable, Udf, Jalr, StackProbeLoop, LoadExtNameGot, LoadExtNameNear, LoadExtNameFar, Call, CallInd, ReturnCall, ReturnCallInd}
 use Rattle.rv_inst.specs.declared.inst.CondBrTarget.{CondBrTarget}
 use Rattle.rv_inst.specs.declared.inst.CondBrTarget.TheVariants.{Label as ToLabel, Fallthrough}
 use Rattle.rv_inst.specs.declared.error.Rule.{Rule}
@@ -40,7 +40,8 @@ use Rattle.rv_inst.specs.Addresses.{is_distant}
 use Rattle.rv_inst.specs.Context.{Context}
 use Rattle.rv_inst.specs.Operands.{all_of, is_float_class, written_in, result_registers, inst_registers, inst_labels, tail_call_of, targets_of}
 use Rattle.rv_inst.specs.Returns.{result_load}
-use Rattle.rv_inst.specs.UnitWords.{UnitWord, unit_of}
+use Rattle.rv_inst.specs.Descriptions.{Description, UnitWord, Word, Computes, changed_by, description_of, sequence_registers}
+use Rattle.rv_inst.specs.declared.sequence.Sequence.{Sequence}
 use Rattle.rv_inst.specs.declared.units.PlacedReg.{PlacedReg}
 use Rattle.rv_inst.specs.declared.tail_calls.TailCall.{TailCall}
 use Rattle.rv_inst.specs.declared.targets.Targets.{Targets}
@@ -283,17 +284,21 @@ pub record Faults : Type 0 where
 abbrev pub has_other_class : Bool → Faults
 has_other_class class = record { class = class; zeroed = false; clashing = false; type = false; range = false; rounding = false; width = false; table = false; target = false; size = false }
 
--- of a count: a sum and two temporaries, which are written before all of what is counted is read
-abbrev pub count_faults : Writable Reg → Writable Reg → Writable Reg → Reg → IrType → Faults
-count_faults sum tmp step rs type = record (has_other_class (list_any is_other_class (sum.reg ∷ tmp.reg ∷ step.reg ∷ rs ∷ []))) {
-  zeroed = list_any is_zero (sum.reg ∷ tmp.reg ∷ step.reg ∷ []);
-  clashing = clash (sum.reg ∷ tmp.reg ∷ step.reg ∷ []) (rs ∷ []);
-  type = not (is_int_type type);
+-- of a sequence: its temporaries and its result are written while its source is still read
+abbrev pub sequence_faults : Sequence → Faults
+sequence_faults s = record (has_other_class (list_any is_other_class (sequence_registers s))) {
+  zeroed = list_any is_zero (changed_by s);
+  clashing = clash (changed_by s) (s.rs ∷ []);
+  type = not (is_int_type s.ty);
 }
 
 -- of a unit's word: its places ask classes of their own
 abbrev pub unit_faults : UnitWord → Faults
 unit_faults w = record (has_other_class (list_any is_out_of_place w.places)) { rounding = not w.rounding; width = not w.width }
+
+abbrev pub described_faults : Description → Faults
+described_faults (Word w) = unit_faults w
+described_faults (Computes s with) = sequence_faults s
 
 -- A register's place asks the class Int, but those of a unit's word, and what a load or a store of a floating-point register moves; the two
 -- of a pair or of a move have one class, those at one place of the values of a choice one that is no vector's, and a result on the stack that
@@ -334,13 +339,6 @@ faults_of (BrTable index tmp1 tmp2 targets) = record (has_other_class (list_any 
 }
 faults_of (Udf code) = has_other_class false
 faults_of (Jalr rd base offset) = has_other_class (list_any is_other_class (rd.reg ∷ base ∷ []))
-faults_of (Popcnt info) = count_faults info.sum info.tmp info.step info.rs info.ty
-faults_of (Cltz leading info) = count_faults info.sum info.tmp info.step info.rs info.ty
-faults_of (Brev8 info) = record (has_other_class (list_any is_other_class (info.rs ∷ info.step.reg ∷ info.tmp.reg ∷ info.tmp2.reg ∷ info.rd.reg ∷ []))) {
-  zeroed = list_any is_zero (info.rd.reg ∷ info.tmp.reg ∷ info.tmp2.reg ∷ info.step.reg ∷ []);
-  clashing = clash (info.rd.reg ∷ info.tmp.reg ∷ info.tmp2.reg ∷ info.step.reg ∷ []) (info.rs ∷ []);
-  type = not (is_int_type info.ty);
-}
 faults_of (StackProbeLoop guard_size probe_count tmp) = record (has_other_class (list_any is_other_class (tmp.reg ∷ []))) { zeroed = list_any is_zero (tmp.reg ∷ []); clashing = is_stack tmp.reg }
 faults_of (LoadExtNameGot rd name) = record (has_other_class (list_any is_other_class (rd.reg ∷ []))) { zeroed = list_any is_zero (rd.reg ∷ []) }
 faults_of (LoadExtNameNear rd name offset) = record (has_other_class (list_any is_other_class (rd.reg ∷ []))) { zeroed = list_any is_zero (rd.reg ∷ []) }
@@ -349,7 +347,7 @@ faults_of (Call info) = record (has_other_class (call_differs info.uses info.def
 faults_of (CallInd info) = record (has_other_class (is_other_class info.dest || call_differs info.uses info.defs)) { clashing = results_clash info.defs; type = list_any is_unloadable info.defs; range = nat_le (2 ^ 31) info.callee_pop_size || list_any is_high info.defs }
 faults_of (ReturnCall info) = has_other_class (list_any (λ (p : CallArgPair). differ_in_class p.vreg p.preg) info.uses)
 faults_of (ReturnCallInd info) = has_other_class (not (is_fifth info.dest) || list_any (λ (p : CallArgPair). differ_in_class p.vreg p.preg) info.uses)
-faults_of inst = unit_faults (unit_of inst refl)
+faults_of inst = described_faults (description_of inst refl)
 
 -- ---- constants
 

@@ -35,11 +35,11 @@ use Rattle.rv_inst.specs.Operands.{results_of}
 use Rattle.rv_inst.specs.Records.{noted, access_records, part_records, patch_records, return_records}
 use Rattle.rv_inst.specs.Returns.{StackLoad, result_loads, loads_unless}
 use Rattle.rv_inst.specs.Rules.{is_stacked}
-use Rattle.rv_inst.specs.UnitWords.{UnitWord, unit_of}
+use Rattle.rv_inst.specs.Descriptions.{Description, UnitWord, Word, Computes, description_of, most_words}
 use Rattle.rv_inst.specs.declared.inst.Line.{Line}
 use Rattle.rv_inst.specs.declared.inst.Line.TheVariants.{Inst as Put, Bind}
 use Rattle.rv_inst.specs.declared.inst.Inst.{Inst}
-use Rattle.rv_inst.specs.declared.inst.Inst.TheVariants.{Nop0, Nop4, EBreak, SequencePoint, Args, Rets, DummyUse, Unwind, EmitIsland, RawData, Lui, Auipc, LoadInlineConst, AluRRR, AluRRImm12, Mov, MovFromPReg, Extend, Select, Load, Store, LoadAddr, LabelAddress, Ret, TrapIf, Jal, CondBr, BrTable, Udf, Jalr, Popcnt, Cltz, Brev8, StackProbeLoop, LoadExtNameGot, LoadExtNameNear, LoadExtNameFar, Call, CallInd, ReturnCall, ReturnCallInd}
+use Rattle.rv_inst.specs.declared.inst.Inst.TheVariants.{Nop0, Nop4, EBreak, SequencePoint, Args, Rets, DummyUse, Unwind, EmitIsland, RawData, Lui, Auipc, LoadInlineConst, AluRRR, AluRRImm12, Mov, MovFromPReg, Extend, Select, Load, Store, LoadAddr, LabelAddress, Ret, TrapIf, Jal, CondBr, BrTable, Udf, Jalr, StackProbeLoop, LoadExtNameGot, LoadExtNameNear, LoadExtNameFar, Call, CallInd, ReturnCall, ReturnCallInd}
 use Rattle.rv_inst.specs.declared.inst.CondBrTarget.{CondBrTarget}
 use Rattle.rv_inst.specs.declared.inst.CondBrTarget.TheVariants.{Label, Fallthrough}
 
@@ -175,6 +175,10 @@ after_island most space extra = record (words (AtMost most)) { request = Some (r
 abbrev pub unit_code : UnitWord → InstCode
 unit_code w = record (one_word w.operation) { records = λ start end. access_records start w.trap }
 
+abbrev pub described_code : Description → InstCode
+described_code (Word w) = unit_code w
+described_code (Computes s with) = words (AtMost (4 * most_words s.computation))
+
 -- A trap where a comparison holds is a branch over a trap. What a label's or a constant's address is taken by, and auipc, have
 -- no forms of sixteen bits. What goes to a label has its distance beside it, and is no operation of these. The instruction of an access
 -- is the last of its sequence, but for the words that box a half, and so are the eight bytes with a symbol's address, and the two instructions that go to one.
@@ -209,9 +213,6 @@ inst_code context (CondBr taken not_taken kind) = words (Exactly (branch_size co
 inst_code context (BrTable index tmp1 tmp2 targets) = after_island (table_space (length targets)) (λ rest. table_space (length targets)) (8 * length targets)
 inst_code context (Udf code) = record (words (Exactly (trap_size context.flags))) { records = λ start end. noted start (event.Trap code) }
 inst_code context (Jalr rd base offset) = one_word (short_jalr context.flags (number_of rd.reg) (number_of base) offset.value)
-inst_code context (Popcnt info) = words (AtMost (4 * 11))
-inst_code context (Cltz leading info) = words (AtMost (4 * 11))
-inst_code context (Brev8 info) = words (AtMost (4 * 19))
 inst_code context (StackProbeLoop guard_size probe_count tmp) = words (AtMost (number_limit + number_limit + 4 * 5))
 inst_code context (LoadExtNameGot rd name) = record (words (Exactly 8)) { records = λ start end. part_records start RiscvGotHi20 name (pos 0) }
 inst_code context (LoadExtNameNear rd name offset) = record (words (Exactly 8)) { records = λ start end. part_records start RiscvPCRelHi20 name offset }
@@ -220,7 +221,7 @@ inst_code context (Call info) = record (words (AtMost (call_limit 8 (loads_unles
 inst_code context (CallInd info) = record (words (AtMost (call_limit 4 (result_loads info.defs)))) { records = λ start end. return_records context.frame (start + (short_jalr context.flags 1 (number_of info.dest) (pos 0)).len) info.stack_map info.try_call_info; request = call_request 4 (result_loads info.defs) }
 inst_code context (ReturnCall info) = record (after_island (return_limit context.frame + 8) (λ rest. rest) (32 * length context.frame.clobbered_callee_saves)) { records = λ start end. noted (end - 8) event.CallSite ++ noted (end - 8) (event.Reloc RiscvCallPlt (ToName info.dest) (pos 0)) }
 inst_code context (ReturnCallInd info) = after_island (return_limit context.frame + 4) (λ rest. rest + 4 - (short_jalr context.flags 0 5 (pos 0)).len) (32 * length context.frame.clobbered_callee_saves)
-inst_code context inst = unit_code (unit_of inst refl)
+inst_code context inst = described_code (description_of inst refl)
 
 abbrev pub inst_size : Context → Inst → Size
 inst_size context inst = (inst_code context inst).size

@@ -6,9 +6,10 @@ ghost use Rattle.rv_inst.specs.Operands.{all_of};
 ghost use Rattle.rv_inst.specs.Faults.{has_zero, has_clash};
 ghost use Rattle.rv_inst.specs.Rules.{is_zero, same_class, same_register, is_base, is_one_of, clash, is_uneven, select_clash, is_stack};
 
-use crate::inst::{CountInfo, Inst};
+use crate::inst::{Family, Inst};
 use crate::registers::is_real_x;
 use crate::results::results_clash;
+use crate::sequence::{sequence_has_clash, sequence_has_zero};
 use rv_base::{Reg, RegClass, ValueRegs, WritableReg};
 use rv_ops::IntegerCompare;
 
@@ -56,7 +57,7 @@ pub fn is_one_of(reg: Reg, others: &[Reg]) -> bool
     others.iter().any(|other| same_register(reg, *other))
 }
 
-fn any_is_zero(registers: &[Reg]) -> bool
+pub fn any_is_zero(registers: &[Reg]) -> bool
     ensures { result ≡ list_any is_zero registers.now }
 {
     registers.iter().any(|r| is_zero(*r))
@@ -70,7 +71,7 @@ fn two_clash(first: Reg, second: Reg, input: Reg) -> bool
 }
 
 /// Three registers that are written while one is still read.
-fn three_clash(first: Reg, second: Reg, third: Reg, input: Reg) -> bool
+pub fn three_clash(first: Reg, second: Reg, third: Reg, input: Reg) -> bool
     ensures { result ≡ clash (first ∷ second ∷ third ∷ []) (input ∷ []) }
 {
     is_one_of(first, &[second, third, input])
@@ -79,22 +80,10 @@ fn three_clash(first: Reg, second: Reg, third: Reg, input: Reg) -> bool
 }
 
 /// Four registers that are written while one is still read.
-fn four_clash(first: Reg, second: Reg, third: Reg, fourth: Reg, input: Reg) -> bool
+pub fn four_clash(first: Reg, second: Reg, third: Reg, fourth: Reg, input: Reg) -> bool
     ensures { result ≡ clash (first ∷ second ∷ third ∷ fourth ∷ []) (input ∷ []) }
 {
     is_one_of(first, &[second, third, fourth, input]) || three_clash(second, third, fourth, input)
-}
-
-fn count_has_zero(info: &CountInfo) -> bool
-    ensures { result ≡ list_any is_zero (info.now.sum.reg ∷ info.now.tmp.reg ∷ info.now.step.reg ∷ []) }
-{
-    any_is_zero(&[info.sum.reg, info.tmp.reg, info.step.reg])
-}
-
-fn count_clashes(info: &CountInfo) -> bool
-    ensures { result ≡ clash (info.now.sum.reg ∷ info.now.tmp.reg ∷ info.now.step.reg ∷ []) (info.now.rs ∷ []) }
-{
-    three_clash(info.sum.reg, info.tmp.reg, info.step.reg, info.rs)
 }
 
 /// Returns whether values are held in other numbers of registers.
@@ -171,12 +160,6 @@ pub fn has_zero(inst: &Inst) -> bool
             tmp2,
             targets: _,
         } => any_is_zero(&[tmp1.reg, tmp2.reg]),
-        Inst::Popcnt { info } => count_has_zero(info.as_ref()),
-        Inst::Cltz { leading: _, info } => count_has_zero(info.as_ref()),
-        Inst::Brev8 { info } => {
-            let info = info.as_ref();
-            any_is_zero(&[info.rd.reg, info.tmp.reg, info.tmp2.reg, info.step.reg])
-        }
         Inst::StackProbeLoop {
             guard_size: _,
             probe_count: _,
@@ -193,7 +176,10 @@ pub fn has_zero(inst: &Inst) -> bool
             name: _,
             offset: _,
         } => any_is_zero(&[rd.reg]),
-        _ => false,
+        _ => match inst.family() {
+            Family::Loop => sequence_has_zero(inst),
+            _ => false,
+        },
     }
 }
 
@@ -215,18 +201,6 @@ pub fn has_clash(inst: &Inst) -> bool
             tmp2,
             targets: _,
         } => two_clash(tmp1.reg, tmp2.reg, *index),
-        Inst::Popcnt { info } => count_clashes(info.as_ref()),
-        Inst::Cltz { leading: _, info } => count_clashes(info.as_ref()),
-        Inst::Brev8 { info } => {
-            let info = info.as_ref();
-            four_clash(
-                info.rd.reg,
-                info.tmp.reg,
-                info.tmp2.reg,
-                info.step.reg,
-                info.rs,
-            )
-        }
         Inst::StackProbeLoop {
             guard_size: _,
             probe_count: _,
@@ -234,6 +208,9 @@ pub fn has_clash(inst: &Inst) -> bool
         } => is_stack(tmp.reg),
         Inst::Call { info } => results_clash(info.as_ref().defs.as_slice()),
         Inst::CallInd { info } => results_clash(info.as_ref().defs.as_slice()),
-        _ => false,
+        _ => match inst.family() {
+            Family::Loop => sequence_has_clash(inst),
+            _ => false,
+        },
     }
 }

@@ -8,8 +8,9 @@ ghost use Rattle.rv_inst.specs.Faults.{has_bad_type, is_out_of_range, has_empty_
 ghost use Rattle.rv_inst.specs.Rules.{is_float_type, is_high, is_int_type, is_movable, is_word_type, is_beyond};
 
 use crate::addresses::is_distant;
-use crate::inst::Inst;
+use crate::inst::{Family, Inst};
 use crate::results::{any_is_high, any_is_unloadable};
+use crate::sequence::sequence_has_bad_type;
 use rv_base::{CallRetPair as Def, IrType, Reg, RegClass};
 use rv_imms::Imm12;
 use rv_ops::AluOPRRI;
@@ -65,12 +66,12 @@ pub fn has_bad_type(inst: &Inst) -> bool
     match inst {
         Inst::LoadInlineConst { rd: _, ty, imm: _ } => !is_word_type(*ty),
         Inst::Mov { rd: _, rm, ty } => is_bad_move(*rm, *ty),
-        Inst::Popcnt { info } => !is_int_type(info.as_ref().ty),
-        Inst::Cltz { leading: _, info } => !is_int_type(info.as_ref().ty),
-        Inst::Brev8 { info } => !is_int_type(info.as_ref().ty),
         Inst::Call { info } => any_is_unloadable(info.as_ref().defs.as_slice()),
         Inst::CallInd { info } => any_is_unloadable(info.as_ref().defs.as_slice()),
-        _ => false,
+        _ => match inst.family() {
+            Family::Loop => sequence_has_bad_type(inst),
+            _ => false,
+        },
     }
 }
 

@@ -8,7 +8,8 @@ ghost use Rattle.rv_inst.specs.RegisterTests.{test_of};
 ghost use Rattle.rv_inst.specs.Rules.{is_x, is_real_x, is_reserved_x, is_stack_or_frame};
 
 use crate::addresses::address_has;
-use crate::inst::{CountInfo, Family, Inst, SelectInfo};
+use crate::inst::{Family, Inst, SelectInfo};
+use crate::sequence::sequence_has;
 use crate::units::unit_has;
 use rv_base::{
     ArgPair, CallArgPair, CallRetPair, PReg, Reg, RegClass, RetLocation, RetPair, UnwindInst,
@@ -103,7 +104,7 @@ pub fn is_real_x(reg: Reg, number: u8) -> bool
     }
 }
 
-fn any_of(test: RegisterTest, registers: &[Reg]) -> bool
+pub fn any_of(test: RegisterTest, registers: &[Reg]) -> bool
     ensures { result ≡ list_any (test_of test) registers.now }
 {
     registers.iter().any(|r| holds(test, *r))
@@ -330,38 +331,17 @@ pub fn control_has(test: RegisterTest, inst: &Inst) -> bool
     }
 }
 
-fn count_has(test: RegisterTest, info: &CountInfo) -> bool
-    ensures { result ≡ list_any (test_of test) (info.now.sum.reg ∷ info.now.tmp.reg ∷ info.now.step.reg ∷ info.now.rs ∷ []) }
-{
-    any_of(test, &[info.sum.reg, info.tmp.reg, info.step.reg, info.rs])
-}
-
 /// Returns whether the test holds of a register of an instruction that computes by a loop.
 pub fn loop_has(test: RegisterTest, inst: &Inst) -> bool
     ensures { family_of inst.now ≡ Loop → result ≡ list_any (test_of test) (inst_registers inst.now) }
 {
     match inst {
-        Inst::Popcnt { info } => count_has(test, info.as_ref()),
-        Inst::Cltz { leading: _, info } => count_has(test, info.as_ref()),
-        Inst::Brev8 { info } => {
-            let info = info.as_ref();
-            any_of(
-                test,
-                &[
-                    info.rs,
-                    info.step.reg,
-                    info.tmp.reg,
-                    info.tmp2.reg,
-                    info.rd.reg,
-                ],
-            )
-        }
         Inst::StackProbeLoop {
             guard_size: _,
             probe_count: _,
             tmp,
         } => any_of(test, &[tmp.reg]),
-        _ => false,
+        _ => sequence_has(test, inst),
     }
 }
 

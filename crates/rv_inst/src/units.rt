@@ -9,7 +9,7 @@ ghost use Rattle.rv_inst.specs.Faults.{has_bad_rounding, has_bad_width, is_mispl
 ghost use Rattle.rv_inst.specs.Operands.{family_of, inst_registers};
 ghost use Rattle.rv_inst.specs.RegisterTests.{test_of, place_test};
 ghost use Rattle.rv_inst.specs.Rules.{is_not_of};
-ghost use Rattle.rv_inst.specs.UnitWords.{IsFineUnit, UnitWord, all_replaced, conversion_trap, place, places_in, registers_in, regs, trap_in, unit_regs, unit_word, with_registers};
+ghost use Rattle.rv_inst.specs.Descriptions.{IsFineUnit, UnitWord, all_replaced, conversion_trap, place, places_in, registers_in, regs, trap_in, unit_regs, unit_word, with_registers};
 ghost use Rattle.rv_inst.specs.declared.inst.Family.TheVariants.{Float};
 
 use crate::clashes::same_class;
@@ -233,7 +233,7 @@ impl Inst {
     }
 
     /// An instruction of a unit with these registers in the places that it has, where they are given; any other is as it was.
-    #[tactic(auto, using(crate::proofs::UnitWords::own_put_back, crate::proofs::UnitWords::registers_after))]
+    #[tactic(auto, using(crate::proofs::Descriptions::own_put_back, crate::proofs::Descriptions::registers_after))]
     pub fn with_registers(self, registers: UnitRegs) -> Inst
         ensures same_kind { result ≡ with_registers self registers }
         ensures given { unit_regs result ≡ all_replaced registers (unit_regs self) }

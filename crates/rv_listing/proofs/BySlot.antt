@@ -149,14 +149,14 @@ cc_by_slot = by_slot name_of every (candidate every SLOTS FACTOR) cc_found cc_hi
 form_found : (form : Form) → form_named (form_name form) ≡ Some form
 unfolding form_named every_form form_of
 form_found forms.Nop0 = refl
-form_found (forms.Loop loops.Popcnt) = refl
+form_found (forms.Loop loops.StackProbeLoop) = refl
 form_found (forms.Float floats.Fli) = refl
 form_found _ = refl
 
 form_hit : (form : Form) → candidate every_form FORM_SLOTS FORM_FACTOR (form_name form) ≡ Some form
 unfolding every_form form_of candidate slot key
 form_hit forms.Nop0 = refl
-form_hit (forms.Loop loops.Popcnt) = refl
+form_hit (forms.Loop loops.StackProbeLoop) = refl
 form_hit (forms.Float floats.Fli) = refl
 form_hit _ = refl
 

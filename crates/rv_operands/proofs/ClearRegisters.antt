@@ -1,5 +1,5 @@
 -- A test that fails of every register that is chosen fails of all registers of the instruction but those that it names by itself.
-use Rattle.std.specs.Prelude.{◌++◌, ◌||◌, Bool, true, false, List, [], ◌∷◌, map}
+use Rattle.std.specs.Prelude.{◌++◌, ◌||◌, Bool, true, false, List, [], ◌∷◌, map, Option, None, Some}
 use Rattle.std.proofs.Common.{◌≡◌, refl, ap, sym, ◌∙◌, subst}
 use Rattle.std.specs.List.{list_any}
 use Rattle.std.proofs.lemmas.List.{map-append}
@@ -20,13 +20,15 @@ use Rattle.rv_base.specs.declared.value_regs.ValueRegs.TheVariants.{One, Two}
 use Rattle.rv_base.specs.AMode.{registers_of}
 use Rattle.rv_ops.specs.declared.compare.IntegerCompare.{IntegerCompare}
 use Rattle.rv_inst.specs.declared.inst.Inst.{Inst}
-use Rattle.rv_inst.specs.declared.inst.Inst.TheVariants.{Nop0, Nop4, EBreak, SequencePoint, Args, Rets, DummyUse, Unwind, EmitIsland, RawData, Lui, Auipc, LoadInlineConst, AluRRR, AluRRImm12, Mov, MovFromPReg, Extend, Select, Load, Store, LoadAddr, LabelAddress, Ret, TrapIf, Jal, CondBr, BrTable, Udf, Jalr, Popcnt, Cltz, Brev8, StackProbeLoop, LoadExtNameGot, LoadExtNameNear, LoadExtNameFar, Call, CallInd, ReturnCall, ReturnCallInd}
+use Rattle.rv_inst.specs.declared.inst.Inst.TheVariants.{Nop0, Nop4, EBreak, SequencePoint, Args, Rets, DummyUse, Unwind, EmitIsland, RawData, Lui, Auipc, LoadInlineConst, AluRRR, AluRRImm12, Mov, MovFromPReg, Extend, Select, Load, Store, LoadAddr, LabelAddress, Ret, TrapIf, Jal, CondBr, BrTable, Udf, Jalr, StackProbeLoop, LoadExtNameGot, LoadExtNameNear, LoadExtNameFar, Call, CallInd, ReturnCall, ReturnCallInd}
 use Rattle.rv_inst.specs.Operands.{all_of, written_in, location_registers, arg_registers, ret_registers, use_registers, def_registers, inst_registers}
 use Rattle.rv_inst.specs.Rules.{is_virtual, is_reserved}
-use Rattle.rv_inst.specs.UnitWords.{registers_in, unit_of}
+use Rattle.rv_inst.specs.Descriptions.{Description, Word, Computes, description_of, registers_in, third}
+use Rattle.rv_inst.specs.Operands as described
+use Rattle.rv_inst.specs.declared.sequence.Sequence.{Sequence}
 use Rattle.rv_inst.specs.declared.units.PlacedReg.{PlacedReg}
-use Rattle.rv_operands.specs.Operand.{Operand, reads_at, writes_at, constraint_of}
-use Rattle.rv_operands.specs.Operands.{address_operands, select_operands, arg_operand, ret_operand, use_operand, def_operand, located_operand, unit_operands, row_of, operands_of, constraints_of}
+use Rattle.rv_operands.specs.Operand.{Operand, reads, reads_at, scratches, writes_at, writes_early, constraint_of}
+use Rattle.rv_operands.specs.Operands.{address_operands, select_operands, arg_operand, ret_operand, use_operand, def_operand, located_operand, described_operands, third_operand, unit_operands, row_of, operands_of, constraints_of}
 use Rattle.rv_operands.specs.Meeting.{chosen, IsPlaced, ArePlaced, AreUsable}
 use Rattle.rv_operands.proofs.Keeping.{either, placed_before, results_placed}
 
@@ -125,6 +127,16 @@ unit_clear test (result ∷ sources) c =
     let parts = clear_both test (map reads_at sources) (writes_at result ∷ []) c in
     either parts.1.0 (sources_clear test sources parts.0)
 
+-- ---- sequences
+
+third_clear : (test : Reg → Bool) (s : Sequence) (tmp3 : Option (Writable Reg)) → AreClear test (chosen (reads s.rs ∷ scratches s.tmp1 ∷ scratches s.tmp2 ∷ third_operand tmp3 ++ writes_early s.rd ∷ [])) → list_any test (s.rs ∷ s.tmp1.reg ∷ s.tmp2.reg ∷ third tmp3 ++ s.rd.reg ∷ []) ≡ false
+third_clear test s None c = either c.0 (either c.1.0 (either c.1.1.0 (either c.1.1.1.0 refl)))
+third_clear test s (Some w) c = either c.0 (either c.1.0 (either c.1.1.0 (either c.1.1.1.0 (either c.1.1.1.1.0 refl))))
+
+described_clear : (test : Reg → Bool) (d : Description) → AreClear test (chosen (described_operands d)) → list_any test (described.described_operands d).registers ≡ false
+described_clear test (Word w) c = unit_clear test w.places c
+described_clear test (Computes s with) c = third_clear test s s.tmp3 c
+
 -- ---- every kind
 
 pub quiet : (test : Reg → Bool) (inst : Inst) → ArePlaced (constraints_of inst) (constraints_of inst) → AreClear test (chosen (operands_of inst)) → AreClear test (chosen (row_of inst).own) → list_any test (inst_registers inst) ≡ list_any test (row_of inst).named
@@ -158,9 +170,6 @@ quiet test (CondBr taken not_taken kind) placed c own = either c.0 (either c.1.0
 quiet test (BrTable index tmp1 tmp2 targets) placed c own = either c.0 (either c.1.0 (either c.1.1.0 refl))
 quiet test (Udf code) placed c own = refl
 quiet test (Jalr rd base offset) placed c own = either c.1.0 (either c.0 refl)
-quiet test (Popcnt info) placed c own = either c.1.1.1.0 (either c.1.0 (either c.1.1.0 (either c.0 refl)))
-quiet test (Cltz leading info) placed c own = either c.1.1.1.0 (either c.1.0 (either c.1.1.0 (either c.0 refl)))
-quiet test (Brev8 info) placed c own = either c.0 (either c.1.0 (either c.1.1.0 (either c.1.1.1.0 (either c.1.1.1.1.0 refl))))
 quiet test (StackProbeLoop guard_size probe_count tmp) placed c own = either own.0 refl
 quiet test (LoadExtNameGot rd name) placed c own = either c.0 refl
 quiet test (LoadExtNameNear rd name offset) placed c own = either c.0 refl
@@ -169,4 +178,4 @@ quiet test (Call info) placed c own = call_clear test _ info.uses info.defs _ pl
 quiet test (CallInd info) placed c own = either c.0 (call_clear test _ info.uses info.defs _ placed.1 c.1)
 quiet test (ReturnCall info) placed c own = uses_clear test _ info.uses (placed_before _ (map constraint_of (map use_operand info.uses)) [] placed) c
 quiet test (ReturnCallInd info) placed c own = either c.0 (uses_clear test _ info.uses (placed_before _ (map constraint_of (map use_operand info.uses)) [] placed.1) c.1)
-quiet test inst placed c own = unit_clear test (unit_of inst refl).places c
+quiet test inst placed c own = described_clear test (description_of inst refl) c

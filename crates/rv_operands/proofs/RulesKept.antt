@@ -1,7 +1,7 @@
 -- What registers that are chosen as they are asked for do for each kind of instruction.
-use Rattle.std.specs.Prelude.{◌++◌, ◌||◌, not, Bool, ℕ, false, List, [], ◌∷◌, map}
+use Rattle.std.specs.Prelude.{◌++◌, ◌||◌, not, ℕ, false, List, [], ◌∷◌, map, Option, None, Some}
 use Rattle.std.specs.List.{list_any}
-use Rattle.std.proofs.Common.{◌≡◌, refl, ap, sym, ◌∙◌, subst}
+use Rattle.std.proofs.Common.{◌≡◌, refl, ap, ◌∙◌, subst}
 use Rattle.rv_base.specs.declared.amode.AMode.{AMode}
 use Rattle.rv_base.specs.declared.amode.AMode.TheVariants.{RegOffset, SPOffset, FPOffset, SlotOffset, IncomingArg, Const, Label}
 use Rattle.rv_base.specs.declared.call.CallInfo.{CallInfo}
@@ -20,19 +20,18 @@ use Rattle.rv_ops.specs.declared.compare.IntegerCompare.{IntegerCompare}
 use Rattle.rv_ops.specs.declared.memory.LoadOP.{LoadOP}
 use Rattle.rv_ops.specs.declared.memory.StoreOP.{StoreOP}
 use Rattle.rv_ops.specs.Memory.{load_class, store_class}
-use Rattle.rv_inst.specs.declared.inst.Brev8Info.{Brev8Info}
-use Rattle.rv_inst.specs.declared.inst.CountInfo.{CountInfo}
 use Rattle.rv_inst.specs.declared.inst.SelectInfo.{SelectInfo}
 use Rattle.rv_inst.specs.declared.inst.Inst.{Inst}
-use Rattle.rv_inst.specs.declared.inst.Inst.TheVariants.{Nop0, Nop4, EBreak, SequencePoint, Args, Rets, DummyUse, Unwind, EmitIsland, RawData, Lui, Auipc, LoadInlineConst, AluRRR, AluRRImm12, Mov, MovFromPReg, Extend, Select, Load, Store, LoadAddr, LabelAddress, Ret, TrapIf, Jal, CondBr, BrTable, Udf, Jalr, Popcnt, Cltz, Brev8, StackProbeLoop, LoadExtNameGot, LoadExtNameNear, LoadExtNameFar, Call, CallInd, ReturnCall, ReturnCallInd}
+use Rattle.rv_inst.specs.declared.inst.Inst.TheVariants.{Nop0, Nop4, EBreak, SequencePoint, Args, Rets, DummyUse, Unwind, EmitIsland, RawData, Lui, Auipc, LoadInlineConst, AluRRR, AluRRImm12, Mov, MovFromPReg, Extend, Select, Load, Store, LoadAddr, LabelAddress, Ret, TrapIf, Jal, CondBr, BrTable, Udf, Jalr, StackProbeLoop, LoadExtNameGot, LoadExtNameNear, LoadExtNameFar, Call, CallInd, ReturnCall, ReturnCallInd}
 use Rattle.rv_inst.specs.Operands.{all_of, written_in}
 use Rattle.rv_inst.specs.Faults.{is_misplaced, has_zero, has_clash}
-use Rattle.rv_inst.specs.Rules.{is_virtual, is_reserved, is_out_of_place, is_uneven, values_differ, select_clash, clash, is_fifth, is_stack_or_frame, results_clash}
-use Rattle.rv_inst.specs.UnitWords.{unit_of}
+use Rattle.rv_inst.specs.Rules.{is_virtual, is_reserved, is_out_of_place, is_uneven, values_differ, select_clash, clash, is_fifth, is_other_class, is_stack_or_frame, is_zero, described_faults, results_clash}
+use Rattle.rv_inst.specs.Descriptions.{Description, Word, Computes, description_of, third}
+use Rattle.rv_inst.specs.declared.sequence.Sequence.{Sequence}
 use Rattle.rv_inst.specs.declared.units.PlacedReg.{PlacedReg}
-use Rattle.rv_operands.specs.Operand.{reads_at, writes_at, constraint_of}
-use Rattle.rv_operands.specs.Operands.{row_of, operands_of, unit_operands, use_operand, def_operand, select_operands}
-use Rattle.rv_operands.specs.Meeting.{chosen, definitions, AreDistinct, AreApart, AreMet, AreFree, ArePlaced, AreOfClasses, AreChosen, KeepsRules}
+use Rattle.rv_operands.specs.Operand.{reads, reads_at, scratches, writes_at, writes_early, constraint_of}
+use Rattle.rv_operands.specs.Operands.{row_of, operands_of, described_operands, third_operand, unit_operands, use_operand, def_operand, select_operands}
+use Rattle.rv_operands.specs.Meeting.{chosen, definitions, AreDistinct, AreMet, AreFree, ArePlaced, AreOfClasses, AreChosen, KeepsRules}
 use Rattle.rv_operands.proofs.ClearRegisters.{quiet, virtual_clear, reserved_clear}
 use Rattle.rv_operands.proofs.Keeping.{either, or_none, apart, absent, no_clash, same_stack, same_frame, not_other, alike, pairs_alike, args_alike, rets_alike, uses_alike, defs_alike, both_classes, into, call_written, results_placed, no_results_clash}
 
@@ -90,39 +89,6 @@ load_addr_keeps rd (IncomingArg o) c = record { class = either (not_other rd.reg
 load_addr_keeps rd (Const k) c = record { class = either (not_other rd.reg c.classes.0) refl; zero = c.free.0.not_zero; clash = refl }
 load_addr_keeps rd (Label l) c = record { class = either (not_other rd.reg c.classes.0) refl; zero = c.free.0.not_zero; clash = refl }
 
--- ---- temporaries
-
--- a sum and two temporaries, in the order in which rules name them
-in_order : (sum tmp step rs : Reg) → AreDistinct (tmp ∷ step ∷ sum ∷ []) → AreApart (tmp ∷ step ∷ sum ∷ []) (rs ∷ []) → clash (sum ∷ tmp ∷ step ∷ []) (rs ∷ []) ≡ false
-in_order sum tmp step rs d a = no_clash (sum ∷ tmp ∷ step ∷ []) (rs ∷ []) (((λ e. d.0.1.0 (sym e)), ((λ e. d.1.0.0 (sym e)), tt)), ((d.0.0, tt), (tt, tt))) (a.1.1.0, (a.0, (a.1.0, tt)))
-
--- a result and three temporaries
-four_in_order : (rd tmp tmp2 step rs : Reg) → AreDistinct (step ∷ tmp ∷ tmp2 ∷ rd ∷ []) → AreApart (step ∷ tmp ∷ tmp2 ∷ rd ∷ []) (rs ∷ []) → clash (rd ∷ tmp ∷ tmp2 ∷ step ∷ []) (rs ∷ []) ≡ false
-four_in_order rd tmp tmp2 step rs d a = no_clash (rd ∷ tmp ∷ tmp2 ∷ step ∷ []) (rs ∷ [])
-    (((λ e. d.1.0.1.0 (sym e)), ((λ e. d.1.1.0.0 (sym e)), ((λ e. d.0.1.1.0 (sym e)), tt))), ((d.1.0.0, ((λ e. d.0.0 (sym e)), tt)), (((λ e. d.0.1.0 (sym e)), tt), (tt, tt))))
-    (a.1.1.1.0, (a.1.0, (a.1.1.0, (a.0, tt))))
-
-popcnt_keeps : (info : CountInfo) → AreChosen (Popcnt info) → KeepsThree (Popcnt info)
-popcnt_keeps info c = record {
-  class = either (not_other info.sum.reg c.classes.1.1.1.0) (either (not_other info.tmp.reg c.classes.1.0) (either (not_other info.step.reg c.classes.1.1.0) (either (not_other info.rs c.classes.0) refl)));
-  zero = either c.free.1.1.0.not_zero (either c.free.0.not_zero (either c.free.1.0.not_zero refl));
-  clash = in_order info.sum.reg info.tmp.reg info.step.reg info.rs c.met.distinct c.met.early;
-}
-
-cltz_keeps : (leading : Bool) (info : CountInfo) → AreChosen (Cltz leading info) → KeepsThree (Cltz leading info)
-cltz_keeps leading info c = record {
-  class = either (not_other info.sum.reg c.classes.1.1.1.0) (either (not_other info.tmp.reg c.classes.1.0) (either (not_other info.step.reg c.classes.1.1.0) (either (not_other info.rs c.classes.0) refl)));
-  zero = either c.free.1.1.0.not_zero (either c.free.0.not_zero (either c.free.1.0.not_zero refl));
-  clash = in_order info.sum.reg info.tmp.reg info.step.reg info.rs c.met.distinct c.met.early;
-}
-
-brev8_keeps : (info : Brev8Info) → AreChosen (Brev8 info) → KeepsThree (Brev8 info)
-brev8_keeps info c = record {
-  class = either (not_other info.rs c.classes.0) (either (not_other info.step.reg c.classes.1.0) (either (not_other info.tmp.reg c.classes.1.1.0) (either (not_other info.tmp2.reg c.classes.1.1.1.0) (either (not_other info.rd.reg c.classes.1.1.1.1.0) refl))));
-  zero = either c.free.1.1.1.0.not_zero (either c.free.1.0.not_zero (either c.free.1.1.0.not_zero (either c.free.0.not_zero refl)));
-  clash = four_in_order info.rd.reg info.tmp.reg info.tmp2.reg info.step.reg info.rs c.met.distinct c.met.early;
-}
-
 -- ---- calls
 
 -- of a call's requests, after others that write nothing
@@ -164,6 +130,38 @@ unit_class (result ∷ sources) h =
     let parts = both_classes (map reads_at sources) (writes_at result ∷ []) h in
     either (alike (class_of result.reg) result.class parts.1.0) (pairs_alike reads_at is_out_of_place (λ p h. alike (class_of p.reg) p.class h) sources parts.0)
 
+-- ---- sequences
+
+third_class : (s : Sequence) (tmp3 : Option (Writable Reg)) → AreOfClasses (reads s.rs ∷ scratches s.tmp1 ∷ scratches s.tmp2 ∷ third_operand tmp3 ++ writes_early s.rd ∷ []) → list_any is_other_class (s.rs ∷ s.tmp1.reg ∷ s.tmp2.reg ∷ third tmp3 ++ s.rd.reg ∷ []) ≡ false
+third_class s None h = either (not_other s.rs h.0) (either (not_other s.tmp1.reg h.1.0) (either (not_other s.tmp2.reg h.1.1.0) (either (not_other s.rd.reg h.1.1.1.0) refl)))
+third_class s (Some w) h = either (not_other s.rs h.0) (either (not_other s.tmp1.reg h.1.0) (either (not_other s.tmp2.reg h.1.1.0) (either (not_other w.reg h.1.1.1.0) (either (not_other s.rd.reg h.1.1.1.1.0) refl))))
+
+-- the requests of the rest of a sequence's registers
+abbrev requests_with : Sequence → Option (Writable Reg) → List Constraint
+requests_with s tmp3 = map constraint_of (reads s.rs ∷ scratches s.tmp1 ∷ scratches s.tmp2 ∷ third_operand tmp3 ++ writes_early s.rd ∷ []) ++ []
+
+third_not_zero : (s : Sequence) (tmp3 : Option (Writable Reg)) → AreFree (definitions (requests_with s tmp3)) → list_any is_zero (s.tmp1.reg ∷ s.tmp2.reg ∷ third tmp3 ++ s.rd.reg ∷ []) ≡ false
+third_not_zero s None h = either h.0.not_zero (either h.1.0.not_zero (either h.1.1.0.not_zero refl))
+third_not_zero s (Some w) h = either h.0.not_zero (either h.1.0.not_zero (either h.1.1.0.not_zero (either h.1.1.1.0.not_zero refl)))
+
+third_apart : (s : Sequence) (tmp3 : Option (Writable Reg)) → AreMet (requests_with s tmp3) → clash (s.tmp1.reg ∷ s.tmp2.reg ∷ third tmp3 ++ s.rd.reg ∷ []) (s.rs ∷ []) ≡ false
+third_apart s None met = no_clash (s.tmp1.reg ∷ s.tmp2.reg ∷ s.rd.reg ∷ []) (s.rs ∷ []) met.distinct met.early
+third_apart s (Some w) met = no_clash (s.tmp1.reg ∷ s.tmp2.reg ∷ w.reg ∷ s.rd.reg ∷ []) (s.rs ∷ []) met.distinct met.early
+
+-- ---- each by its description
+
+described_class : (d : Description) → AreOfClasses (described_operands d) → (described_faults d).class ≡ false
+described_class (Word w) h = unit_class w.places h
+described_class (Computes s with) h = third_class s s.tmp3 h
+
+described_not_zero : (d : Description) → AreFree (definitions (map constraint_of (described_operands d) ++ [])) → (described_faults d).zeroed ≡ false
+described_not_zero (Word w) h = refl
+described_not_zero (Computes s with) h = third_not_zero s s.tmp3 h
+
+described_apart : (d : Description) → AreMet (map constraint_of (described_operands d) ++ []) → (described_faults d).clashing ≡ false
+described_apart (Word w) met = refl
+described_apart (Computes s with) met = third_apart s s.tmp3 met
+
 -- ---- every kind
 
 probe_keeps : (guard_size probe_count : ℕ) (tmp : Writable Reg) → AreChosen (StackProbeLoop guard_size probe_count tmp) → KeepsThree (StackProbeLoop guard_size probe_count tmp)
@@ -200,9 +198,6 @@ three (CondBr taken not_taken kind) c = record { class = either (not_other kind.
 three (BrTable index tmp1 tmp2 targets) c = record { class = either (not_other index c.classes.0) (either (not_other tmp1.reg c.classes.1.0) (either (not_other tmp2.reg c.classes.1.1.0) refl)); zero = either c.free.0.not_zero (either c.free.1.0.not_zero refl); clash = no_clash (tmp1.reg ∷ tmp2.reg ∷ []) (index ∷ []) c.met.distinct c.met.early }
 three (Udf code) c = record { class = refl; zero = refl; clash = refl }
 three (Jalr rd base offset) c = record { class = either (not_other rd.reg c.classes.1.0) (either (not_other base c.classes.0) refl); zero = refl; clash = refl }
-three (Popcnt info) c = popcnt_keeps info c
-three (Cltz leading info) c = cltz_keeps leading info c
-three (Brev8 info) c = brev8_keeps info c
 three (StackProbeLoop guard_size probe_count tmp) c = probe_keeps guard_size probe_count tmp c
 three (LoadExtNameGot rd name) c = record { class = either (not_other rd.reg c.classes.0) refl; zero = either c.free.0.not_zero refl; clash = refl }
 three (LoadExtNameNear rd name offset) c = record { class = either (not_other rd.reg c.classes.0) refl; zero = either c.free.0.not_zero refl; clash = refl }
@@ -211,7 +206,7 @@ three (Call info) c = call_keeps info c
 three (CallInd info) c = call_through_keeps info c
 three (ReturnCall info) c = record { class = uses_alike info.uses c.classes; zero = refl; clash = refl }
 three (ReturnCallInd info) c = tail_call_through_keeps info c
-three inst c = record { class = unit_class (unit_of inst refl).places c.classes; zero = refl; clash = refl }
+three inst c = let d = description_of inst refl in record { class = described_class d c.classes; zero = described_not_zero d c.free; clash = described_apart d c.met }
 
 pub keeps : (inst : Inst) → AreChosen inst → KeepsRules inst
 keeps inst c =

@@ -14,7 +14,7 @@ use Rattle.rv_base.specs.declared.value_regs.ValueRegs.{ValueRegs}
 use Rattle.rv_base.specs.declared.value_regs.ValueRegs.TheVariants.{One, Two}
 use Rattle.rv_base.specs.Regs.{number_of}
 use Rattle.rv_inst.specs.declared.inst.Inst.{Inst}
-use Rattle.rv_inst.specs.declared.inst.Inst.TheVariants.{Nop0, Nop4, EBreak, SequencePoint, Args, Rets, DummyUse, Unwind, EmitIsland, RawData, Lui, Auipc, LoadInlineConst, AluRRR, AluRRImm12, Mov, MovFromPReg, Extend, Select, Load, Store, LoadAddr, LabelAddress, Ret, TrapIf, Jal, CondBr, BrTable, Udf, Jalr, Popcnt, Cltz, Brev8, StackProbeLoop, LoadExtNameGot, LoadExtNameNear, LoadExtNameFar, Call, CallInd, ReturnCall, ReturnCallInd}
+use Rattle.rv_inst.specs.declared.inst.Inst.TheVariants.{Nop0, Nop4, EBreak, SequencePoint, Args, Rets, DummyUse, Unwind, EmitIsland, RawData, Lui, Auipc, LoadInlineConst, AluRRR, AluRRImm12, Mov, MovFromPReg, Extend, Select, Load, Store, LoadAddr, LabelAddress, Ret, TrapIf, Jal, CondBr, BrTable, Udf, Jalr, StackProbeLoop, LoadExtNameGot, LoadExtNameNear, LoadExtNameFar, Call, CallInd, ReturnCall, ReturnCallInd}
 use Rattle.rv_inst.specs.Operands.{inst_temporaries}
 use Rattle.rv_operands.specs.Operand.{Operand}
 use Rattle.rv_operands.specs.Operands.{address_operands, read_operands, written_operands, arg_operand, ret_operand, use_operand, def_operand, located_operand, row_of, operands_of}
@@ -88,9 +88,6 @@ temporaries (CondBr taken not_taken kind) = refl
 temporaries (BrTable index tmp1 tmp2 targets) = refl
 temporaries (Udf code) = refl
 temporaries (Jalr rd base offset) = refl
-temporaries (Popcnt info) = refl
-temporaries (Cltz leading info) = refl
-temporaries (Brev8 info) = refl
 temporaries (StackProbeLoop guard_size probe_count tmp) = refl
 temporaries (LoadExtNameGot rd name) = refl
 temporaries (LoadExtNameNear rd name offset) = refl

@@ -11,7 +11,7 @@ use Rattle.rv_base.specs.declared.call.CallRetPair.{CallRetPair}
 use Rattle.rv_base.specs.declared.call.RetLocation.{RetLocation}
 use Rattle.rv_base.specs.declared.call.RetLocation.TheVariants.{Reg as InReg, Stack as OnStack}
 use Rattle.rv_base.specs.declared.constraint.Constraint.{Constraint}
-use Rattle.rv_base.specs.declared.constraint.Constraint.TheVariants.{RegClobbers, RegDef, RegUse}
+use Rattle.rv_base.specs.declared.constraint.Constraint.TheVariants.{RegClobbers, RegDef, RegEarlyDef, RegUse}
 use Rattle.rv_base.specs.declared.regs.Reg.{Reg}
 use Rattle.rv_base.specs.declared.regs.Reg.TheVariants.{Real}
 use Rattle.rv_base.specs.declared.regs.Writable.{Writable}
@@ -20,13 +20,14 @@ use Rattle.rv_base.specs.declared.value_regs.ValueRegs.TheVariants.{One, Two}
 use Rattle.rv_base.specs.Regs.{class_of, int_reg}
 use Rattle.rv_ops.specs.Memory.{load_class, store_class}
 use Rattle.rv_inst.specs.declared.inst.Inst.{Inst}
-use Rattle.rv_inst.specs.declared.inst.Inst.TheVariants.{Nop0, Nop4, EBreak, SequencePoint, Args, Rets, DummyUse, Unwind, EmitIsland, RawData, Lui, Auipc, LoadInlineConst, AluRRR, AluRRImm12, Mov, MovFromPReg, Extend, Select, Load, Store, LoadAddr, LabelAddress, Ret, TrapIf, Jal, CondBr, BrTable, Udf, Jalr, Popcnt, Cltz, Brev8, StackProbeLoop, LoadExtNameGot, LoadExtNameNear, LoadExtNameFar, Call, CallInd, ReturnCall, ReturnCallInd}
+use Rattle.rv_inst.specs.declared.inst.Inst.TheVariants.{Nop0, Nop4, EBreak, SequencePoint, Args, Rets, DummyUse, Unwind, EmitIsland, RawData, Lui, Auipc, LoadInlineConst, AluRRR, AluRRImm12, Mov, MovFromPReg, Extend, Select, Load, Store, LoadAddr, LabelAddress, Ret, TrapIf, Jal, CondBr, BrTable, Udf, Jalr, StackProbeLoop, LoadExtNameGot, LoadExtNameNear, LoadExtNameFar, Call, CallInd, ReturnCall, ReturnCallInd}
 use Rattle.rv_inst.specs.declared.inst.SelectInfo.{SelectInfo}
+use Rattle.rv_inst.specs.declared.sequence.Sequence.{Sequence}
 use Rattle.rv_inst.specs.declared.units.PlacedReg.{PlacedReg}
 use Rattle.rv_inst.specs.declared.units.UnitRegs.{UnitRegs}
 use Rattle.rv_inst.specs.Operands.{unwind_registers, all_of, written_in}
 use Rattle.rv_inst.specs.Rules.{class_for, is_stack_or_frame, is_uneven, values_differ}
-use Rattle.rv_inst.specs.UnitWords.{place, unit_of}
+use Rattle.rv_inst.specs.Descriptions.{Description, Word, Computes, description_of, place}
 use Rattle.rv_operands.specs.Operand.{Operand, Reads, ReadsIn, Writes, WritesIn, WritesAnywhere, of_int, reads, reads_late, writes, writes_early, scratches, reads_at, writes_at, constraint_of, WritesEarly, of_any}
 
 -- ---- parts of instructions
@@ -94,6 +95,25 @@ written_request (Some w) = RegDef w ∷ []
 abbrev pub unit_requests : UnitRegs → List Constraint
 unit_requests r = read_request r.rs1 ++ (read_request r.rs2 ++ (read_request r.rs3 ++ written_request r.rd))
 
+abbrev pub early_request : Option (Writable Reg) → List Constraint
+early_request None = []
+early_request (Some w) = RegEarlyDef w ∷ []
+
+abbrev pub sequence_requests : Sequence → List Constraint
+sequence_requests s = RegUse s.rs ∷ (RegEarlyDef s.tmp1 ∷ RegEarlyDef s.tmp2 ∷ []) ++ (early_request s.tmp3 ++ RegEarlyDef s.rd ∷ [])
+
+-- Those of a sequence: its temporaries and its result are written while its source is still read.
+abbrev pub third_operand : Option (Writable Reg) → List Operand
+third_operand None = []
+third_operand (Some w) = scratches w ∷ []
+
+abbrev pub sequence_operands : Sequence → List Operand
+sequence_operands s = reads s.rs ∷ scratches s.tmp1 ∷ scratches s.tmp2 ∷ third_operand s.tmp3 ++ writes_early s.rd ∷ []
+
+abbrev pub described_operands : Description → List Operand
+described_operands (Word w) = unit_operands w.places
+described_operands (Computes s with) = sequence_operands s
+
 -- ---- the table
 
 -- The operands; the registers that the instruction overwrites beside; temporaries of its own that no allocator is asked for, since who
@@ -141,9 +161,6 @@ row_of (CondBr taken not_taken kind) = row (reads kind.rs1 ∷ reads kind.rs2 �
 row_of (BrTable index tmp1 tmp2 targets) = row (reads index ∷ scratches tmp1 ∷ scratches tmp2 ∷ [])
 row_of (Udf code) = row []
 row_of (Jalr rd base offset) = row (reads base ∷ writes rd ∷ [])
-row_of (Popcnt info) = row (reads info.rs ∷ scratches info.tmp ∷ scratches info.step ∷ writes_early info.sum ∷ [])
-row_of (Cltz leading info) = row (reads info.rs ∷ scratches info.tmp ∷ scratches info.step ∷ writes_early info.sum ∷ [])
-row_of (Brev8 info) = row (reads info.rs ∷ scratches info.step ∷ scratches info.tmp ∷ scratches info.tmp2 ∷ writes_early info.rd ∷ [])
 row_of (StackProbeLoop guard_size probe_count tmp) = record (row []) { own = scratches tmp ∷ [] }
 row_of (LoadExtNameGot rd name) = row (writes rd ∷ [])
 row_of (LoadExtNameNear rd name offset) = row (writes rd ∷ [])
@@ -152,7 +169,7 @@ row_of (Call info) = record (row (map use_operand info.uses ++ map def_operand i
 row_of (CallInd info) = record (row (reads info.dest ∷ map use_operand info.uses ++ map def_operand info.defs)) { clobbers = RegClobbers info.clobbers ∷ [] }
 row_of (ReturnCall info) = row (map use_operand info.uses)
 row_of (ReturnCallInd info) = row (of_int info.dest (ReadsIn fifth) ∷ map use_operand info.uses)
-row_of inst = row (unit_operands (unit_of inst refl).places)
+row_of inst = row (described_operands (description_of inst refl))
 
 abbrev pub operands_of : Inst → List Operand
 operands_of inst = (row_of inst).operands

@@ -4,9 +4,9 @@ use Rattle.std.proofs.Common.{refl}
 use Rattle.rv_base.specs.declared.regs.Reg.{Reg}
 use Rattle.rv_base.specs.declared.regs.Writable.{Writable}
 use Rattle.rv_base.specs.declared.call.TryCallInfo.{TryCallInfo}
-use Rattle.rv_inst.specs.UnitWords.{UnitWord, unit_of}
+use Rattle.rv_inst.specs.Descriptions.{Description, description_of}
 use Rattle.rv_inst.specs.declared.inst.Inst.{Inst}
-use Rattle.rv_inst.specs.declared.inst.Inst.TheVariants.{Nop0, Nop4, EBreak, SequencePoint, Args, Rets, DummyUse, Unwind, EmitIsland, RawData, Lui, Auipc, LoadInlineConst, AluRRR, AluRRImm12, Mov, MovFromPReg, Extend, Select, Load, Store, LoadAddr, LabelAddress, Ret, TrapIf, Jal, CondBr, BrTable, Udf, Jalr, Popcnt, Cltz, Brev8, StackProbeLoop, LoadExtNameGot, LoadExtNameNear, LoadExtNameFar, Call, CallInd, ReturnCall, ReturnCallInd}
+use Rattle.rv_inst.specs.declared.inst.Inst.TheVariants.{Nop0, Nop4, EBreak, SequencePoint, Args, Rets, DummyUse, Unwind, EmitIsland, RawData, Lui, Auipc, LoadInlineConst, AluRRR, AluRRImm12, Mov, MovFromPReg, Extend, Select, Load, Store, LoadAddr, LabelAddress, Ret, TrapIf, Jal, CondBr, BrTable, Udf, Jalr, StackProbeLoop, LoadExtNameGot, LoadExtNameNear, LoadExtNameFar, Call, CallInd, ReturnCall, ReturnCallInd}
 use Rattle.rv_operands.specs.declared.kinds.CallType.{CallType}
 use Rattle.rv_operands.specs.declared.kinds.CallType.TheVariants.{None as NoCall, Regular, TailCall}
 use Rattle.rv_operands.specs.declared.kinds.MachTerminator.{MachTerminator}
@@ -35,9 +35,9 @@ end_by (Some info) = Branch
 abbrev pub that_calls : Option TryCallInfo → Roles
 that_calls info = record plain { call = Regular; ends = end_by info }
 
--- a word of a unit is none of these
-abbrev pub unit_roles : UnitWord → Roles
-unit_roles w = plain
+-- a word of a unit and a sequence are none of these
+abbrev pub described_roles : Description → Roles
+described_roles d = plain
 
 abbrev pub roles_of : Inst → Roles
 roles_of Nop0 = plain
@@ -70,9 +70,6 @@ roles_of (CondBr taken not_taken kind) = that_ends Branch
 roles_of (BrTable index tmp1 tmp2 targets) = that_ends Branch
 roles_of (Udf code) = record plain { traps = true }
 roles_of (Jalr rd base offset) = that_ends Branch
-roles_of (Popcnt info) = plain
-roles_of (Cltz leading info) = plain
-roles_of (Brev8 info) = plain
 roles_of (StackProbeLoop guard_size probe_count tmp) = plain
 roles_of (LoadExtNameGot rd name) = plain
 roles_of (LoadExtNameNear rd name offset) = plain
@@ -81,7 +78,7 @@ roles_of (Call info) = that_calls info.try_call_info
 roles_of (CallInd info) = that_calls info.try_call_info
 roles_of (ReturnCall info) = record (that_ends RetCall) { call = TailCall }
 roles_of (ReturnCallInd info) = record (that_ends RetCall) { call = TailCall }
-roles_of inst = unit_roles (unit_of inst refl)
+roles_of inst = described_roles (description_of inst refl)
 
 -- a call that returns is a place where a collector may run
 abbrev pub is_regular : CallType → Bool

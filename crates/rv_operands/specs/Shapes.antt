@@ -17,12 +17,11 @@ use Rattle.rv_base.specs.declared.value_regs.ValueRegs.{ValueRegs}
 use Rattle.rv_base.specs.declared.value_regs.ValueRegs.TheVariants.{One, Two}
 use Rattle.rv_base.specs.Regs.{class_of}
 use Rattle.rv_ops.specs.declared.compare.IntegerCompare.{IntegerCompare}
-use Rattle.rv_inst.specs.declared.inst.Brev8Info.{Brev8Info}
-use Rattle.rv_inst.specs.declared.inst.CountInfo.{CountInfo}
 use Rattle.rv_inst.specs.declared.inst.SelectInfo.{SelectInfo}
 use Rattle.rv_inst.specs.declared.inst.Inst.{Inst}
-use Rattle.rv_inst.specs.declared.inst.Inst.TheVariants.{Nop0, Nop4, EBreak, SequencePoint, Args, Rets, DummyUse, Unwind, EmitIsland, RawData, Lui, Auipc, LoadInlineConst, AluRRR, AluRRImm12, Mov, MovFromPReg, Extend, Select, Load, Store, LoadAddr, LabelAddress, Ret, TrapIf, Jal, CondBr, BrTable, Udf, Jalr, Popcnt, Cltz, Brev8, StackProbeLoop, LoadExtNameGot, LoadExtNameNear, LoadExtNameFar, Call, CallInd, ReturnCall, ReturnCallInd}
-use Rattle.rv_inst.specs.UnitWords.{UnitWord, in_order, registers_in, regs, unit_of}
+use Rattle.rv_inst.specs.declared.inst.Inst.TheVariants.{Nop0, Nop4, EBreak, SequencePoint, Args, Rets, DummyUse, Unwind, EmitIsland, RawData, Lui, Auipc, LoadInlineConst, AluRRR, AluRRImm12, Mov, MovFromPReg, Extend, Select, Load, Store, LoadAddr, LabelAddress, Ret, TrapIf, Jal, CondBr, BrTable, Udf, Jalr, StackProbeLoop, LoadExtNameGot, LoadExtNameNear, LoadExtNameFar, Call, CallInd, ReturnCall, ReturnCallInd}
+use Rattle.rv_inst.specs.Descriptions.{Description, UnitWord, Word, Computes, description_of, in_order, registers_in, regs}
+use Rattle.rv_inst.specs.declared.sequence.Sequence.{Sequence}
 use Rattle.rv_inst.specs.declared.units.UnitRegs.{UnitRegs}
 
 -- ---- parts of instructions
@@ -60,12 +59,6 @@ compare_shape c = record c { rs1 = blank c.rs1; rs2 = blank c.rs2 }
 abbrev pub select_shape : SelectInfo → SelectInfo
 select_shape info = record { dst = written_shape info.dst; condition = compare_shape info.condition; x = read_shape info.x; y = read_shape info.y }
 
-abbrev pub count_shape : CountInfo → CountInfo
-count_shape info = record info { sum = blanked info.sum; tmp = blanked info.tmp; step = blanked info.step; rs = blank info.rs }
-
-abbrev pub brev8_shape : Brev8Info → Brev8Info
-brev8_shape info = record info { rs = blank info.rs; step = blanked info.step; tmp = blanked info.tmp; tmp2 = blanked info.tmp2; rd = blanked info.rd }
-
 abbrev pub arg_shape : ArgPair → ArgPair
 arg_shape p = record p { vreg = blanked p.vreg }
 
@@ -97,6 +90,14 @@ blank_regs r = regs (option_map blanked r.rd) (option_map blank r.rs1) (option_m
 
 abbrev pub unit_shape : UnitWord → Inst
 unit_shape w = w.with_registers (blank_regs (in_order (registers_in w.places)))
+
+-- and of a sequence
+abbrev pub sequence_shape : Sequence → Sequence
+sequence_shape s = record s { rs = blank s.rs; tmp1 = blanked s.tmp1; tmp2 = blanked s.tmp2; tmp3 = option_map blanked s.tmp3; rd = blanked s.rd }
+
+abbrev pub described_shape : Description → Inst
+described_shape (Word w) = unit_shape w
+described_shape (Computes s with) = with (sequence_shape s)
 
 -- ---- instructions
 
@@ -131,9 +132,6 @@ shape_of (CondBr taken not_taken kind) = CondBr taken not_taken (compare_shape k
 shape_of (BrTable index tmp1 tmp2 targets) = BrTable (blank index) (blanked tmp1) (blanked tmp2) targets
 shape_of (Udf code) = Udf code
 shape_of (Jalr rd base offset) = Jalr (blanked rd) (blank base) offset
-shape_of (Popcnt info) = Popcnt (count_shape info)
-shape_of (Cltz leading info) = Cltz leading (count_shape info)
-shape_of (Brev8 info) = Brev8 (brev8_shape info)
 shape_of (StackProbeLoop guard_size probe_count tmp) = StackProbeLoop guard_size probe_count tmp
 shape_of (LoadExtNameGot rd name) = LoadExtNameGot (blanked rd) name
 shape_of (LoadExtNameNear rd name offset) = LoadExtNameNear (blanked rd) name offset
@@ -142,4 +140,4 @@ shape_of (Call info) = Call (call_shape info)
 shape_of (CallInd info) = CallInd (call_through_shape info)
 shape_of (ReturnCall info) = ReturnCall (tail_call_shape info)
 shape_of (ReturnCallInd info) = ReturnCallInd (tail_call_through_shape info)
-shape_of inst = unit_shape (unit_of inst refl)
+shape_of inst = described_shape (description_of inst refl)

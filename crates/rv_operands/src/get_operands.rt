@@ -11,8 +11,8 @@ ghost use Rattle.rv_operands.specs.Shapes.{shape_of};
 use crate::calls::{calls, calls_through, tail_calls_through};
 use crate::groups::{
     addresses_and_reads, addresses_and_writes, addresses_and_writes_early, chooses, compares,
-    counts, reads_and_writes, reads_and_writes_two_early, reads_one, reads_sources_and_writes,
-    reads_two_and_writes, reverses, writes_one,
+    reads_and_computes, reads_and_writes, reads_and_writes_two_early, reads_one,
+    reads_sources_and_writes, reads_two_and_writes, writes_one,
 };
 use crate::pairs::hand_all;
 use rv_base::{OperandVisitor, OutOfMemory};
@@ -228,25 +228,17 @@ fn control_operands<V: OperandVisitor>(inst: Inst, collector: &mut V) -> Handed
     }
 }
 
-/// Of one that computes by a loop of its own. The temporary of a `StackProbeLoop` is chosen by who makes it.
+/// Of one that computes by a loop of its own: of a sequence. The temporary of a `StackProbeLoop` is chosen by who makes it.
 fn loop_operands<V: OperandVisitor>(inst: Inst, collector: &mut V) -> Handed
     ensures handed { family_of inst ≡ Loop → AreHandedOver V.recorded V.given result.1 collector.old collector.new (constraints_of inst) (constraints_of result.0) }
     ensures same { family_of inst ≡ Loop → shape_of result.0 ≡ shape_of inst }
 {
-    match inst {
-        Inst::Popcnt { mut info } => {
-            let handed = counts(info.as_mut(), collector);
-            (Inst::Popcnt { info }, handed)
+    match inst.sequence() {
+        Some(mut sequence) => {
+            let handed = reads_and_computes(&mut sequence, collector);
+            (inst.with_sequence(sequence), handed)
         }
-        Inst::Cltz { leading, mut info } => {
-            let handed = counts(info.as_mut(), collector);
-            (Inst::Cltz { leading, info }, handed)
-        }
-        Inst::Brev8 { mut info } => {
-            let handed = reverses(info.as_mut(), collector);
-            (Inst::Brev8 { info }, handed)
-        }
-        other => (other, Ok(())),
+        None => (inst, Ok(())),
     }
 }
 

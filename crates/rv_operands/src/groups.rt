@@ -5,12 +5,12 @@ ghost use Rattle.rv_base.specs.Regs.{class_of};
 ghost use Rattle.rv_base.specs.declared.constraint.Constraint.TheVariants.{RegUse, RegLateUse, RegDef, RegEarlyDef};
 ghost use Rattle.rv_operands.specs.Visits.{AreHandedOver};
 ghost use Rattle.rv_operands.specs.Operand.{constraint_of};
-ghost use Rattle.rv_operands.specs.Operands.{address_operands, read_operands, written_operands, select_operands, read_request, written_request, unit_requests};
-ghost use Rattle.rv_operands.specs.Shapes.{address_shape, blank, blanked, blank_regs, compare_shape, count_shape, brev8_shape, read_shape, written_shape, select_shape};
+ghost use Rattle.rv_operands.specs.Operands.{address_operands, read_operands, written_operands, select_operands, read_request, written_request, early_request, unit_requests, sequence_requests};
+ghost use Rattle.rv_operands.specs.Shapes.{address_shape, blank, blanked, blank_regs, compare_shape, read_shape, sequence_shape, written_shape, select_shape};
 
 use crate::visits::{reads, reads_late, writes, writes_early};
 use rv_base::{AMode, OperandVisitor, OutOfMemory, Reg, ValueRegs, WritableReg};
-use rv_inst::{Brev8Info, CountInfo, SelectInfo, UnitRegs};
+use rv_inst::{SelectInfo, Sequence, UnitRegs};
 use rv_ops::IntegerCompare;
 
 /// One that is read.
@@ -90,40 +90,6 @@ pub fn writes_two_early<V: OperandVisitor>(
     writes_early(second, collector)
 }
 
-/// Three that are.
-pub fn writes_three_early<V: OperandVisitor>(
-    first: &mut WritableReg,
-    second: &mut WritableReg,
-    third: &mut WritableReg,
-    collector: &mut V,
-) -> Result<(), OutOfMemory>
-    ensures handed { AreHandedOver V.recorded V.given result collector.old collector.new (RegEarlyDef first.old ∷ RegEarlyDef second.old ∷ RegEarlyDef third.old ∷ []) (RegEarlyDef first.new ∷ RegEarlyDef second.new ∷ RegEarlyDef third.new ∷ []) }
-    ensures class_of_first { class_of first.new.reg ≡ class_of first.old.reg }
-    ensures class_of_second { class_of second.new.reg ≡ class_of second.old.reg }
-    ensures class_of_third { class_of third.new.reg ≡ class_of third.old.reg }
-{
-    writes_early(first, collector)?;
-    writes_two_early(second, third, collector)
-}
-
-/// Four that are.
-pub fn writes_four_early<V: OperandVisitor>(
-    first: &mut WritableReg,
-    second: &mut WritableReg,
-    third: &mut WritableReg,
-    fourth: &mut WritableReg,
-    collector: &mut V,
-) -> Result<(), OutOfMemory>
-    ensures handed { AreHandedOver V.recorded V.given result collector.old collector.new (RegEarlyDef first.old ∷ RegEarlyDef second.old ∷ RegEarlyDef third.old ∷ RegEarlyDef fourth.old ∷ []) (RegEarlyDef first.new ∷ RegEarlyDef second.new ∷ RegEarlyDef third.new ∷ RegEarlyDef fourth.new ∷ []) }
-    ensures class_of_first { class_of first.new.reg ≡ class_of first.old.reg }
-    ensures class_of_second { class_of second.new.reg ≡ class_of second.old.reg }
-    ensures class_of_third { class_of third.new.reg ≡ class_of third.old.reg }
-    ensures class_of_fourth { class_of fourth.new.reg ≡ class_of fourth.old.reg }
-{
-    writes_early(first, collector)?;
-    writes_three_early(second, third, fourth, collector)
-}
-
 /// One that is read, and two temporaries.
 pub fn reads_and_writes_two_early<V: OperandVisitor>(
     rs: &mut Reg,
@@ -149,33 +115,6 @@ pub fn compares<V: OperandVisitor>(
     ensures same { compare_shape compare.new ≡ compare_shape compare.old }
 {
     reads_two(&mut compare.rs1, &mut compare.rs2, collector)
-}
-
-/// The registers of a count: what is counted, the temporaries and the sum.
-pub fn counts<V: OperandVisitor>(info: &mut CountInfo, collector: &mut V) -> Result<(), OutOfMemory>
-    ensures handed { AreHandedOver V.recorded V.given result collector.old collector.new (RegUse info.old.rs ∷ RegEarlyDef info.old.tmp ∷ RegEarlyDef info.old.step ∷ RegEarlyDef info.old.sum ∷ []) (RegUse info.new.rs ∷ RegEarlyDef info.new.tmp ∷ RegEarlyDef info.new.step ∷ RegEarlyDef info.new.sum ∷ []) }
-    ensures same { count_shape info.new ≡ count_shape info.old }
-{
-    reads(&mut info.rs, collector)?;
-    writes_three_early(&mut info.tmp, &mut info.step, &mut info.sum, collector)
-}
-
-/// The registers of a reversal: what is reversed, the temporaries and the result.
-pub fn reverses<V: OperandVisitor>(
-    info: &mut Brev8Info,
-    collector: &mut V,
-) -> Result<(), OutOfMemory>
-    ensures handed { AreHandedOver V.recorded V.given result collector.old collector.new (RegUse info.old.rs ∷ RegEarlyDef info.old.step ∷ RegEarlyDef info.old.tmp ∷ RegEarlyDef info.old.tmp2 ∷ RegEarlyDef info.old.rd ∷ []) (RegUse info.new.rs ∷ RegEarlyDef info.new.step ∷ RegEarlyDef info.new.tmp ∷ RegEarlyDef info.new.tmp2 ∷ RegEarlyDef info.new.rd ∷ []) }
-    ensures same { brev8_shape info.new ≡ brev8_shape info.old }
-{
-    reads(&mut info.rs, collector)?;
-    writes_four_early(
-        &mut info.step,
-        &mut info.tmp,
-        &mut info.tmp2,
-        &mut info.rd,
-        collector,
-    )
 }
 
 /// The register of an address.
@@ -360,4 +299,47 @@ pub fn reads_sources_and_writes<V: OperandVisitor>(
     reads_any(&mut registers.rs2, collector)?;
     reads_any(&mut registers.rs3, collector)?;
     writes_any(&mut registers.rd, collector)
+}
+
+/// One that is written before all others are read, where there is one.
+fn writes_any_early<V: OperandVisitor>(
+    tmp: &mut Option<WritableReg>,
+    collector: &mut V,
+) -> Result<(), OutOfMemory>
+    ensures handed { AreHandedOver V.recorded V.given result collector.old collector.new (early_request tmp.old) (early_request tmp.new) }
+    ensures same { option_map blanked tmp.new ≡ option_map blanked tmp.old }
+{
+    match *tmp {
+        Some(mut w) => {
+            let handed = writes_one_early(&mut w, collector);
+            *tmp = Some(w);
+            handed
+        }
+        None => Ok(()),
+    }
+}
+
+/// One that is written before all others are read.
+fn writes_one_early<V: OperandVisitor>(
+    rd: &mut WritableReg,
+    collector: &mut V,
+) -> Result<(), OutOfMemory>
+    ensures handed { AreHandedOver V.recorded V.given result collector.old collector.new (RegEarlyDef rd.old ∷ []) (RegEarlyDef rd.new ∷ []) }
+    ensures class { class_of rd.new.reg ≡ class_of rd.old.reg }
+{
+    writes_early(rd, collector)
+}
+
+/// The registers of a sequence: its source, its temporaries, and its result.
+pub fn reads_and_computes<V: OperandVisitor>(
+    sequence: &mut Sequence,
+    collector: &mut V,
+) -> Result<(), OutOfMemory>
+    ensures handed { AreHandedOver V.recorded V.given result collector.old collector.new (sequence_requests sequence.old) (sequence_requests sequence.new) }
+    ensures same { sequence_shape sequence.new ≡ sequence_shape sequence.old }
+{
+    reads(&mut sequence.rs, collector)?;
+    writes_two_early(&mut sequence.tmp1, &mut sequence.tmp2, collector)?;
+    writes_any_early(&mut sequence.tmp3, collector)?;
+    writes_one_early(&mut sequence.rd, collector)
 }

@@ -31,7 +31,7 @@ use Rattle.rv_inst.specs.Sizes.{Request, inst_records, request_of}
 use Rattle.rv_inst.specs.declared.code.Code.{Code}
 use Rattle.rv_inst.specs.declared.code.LineSpan.{LineSpan}
 use Rattle.rv_inst.specs.declared.inst.Inst.{Inst}
-use Rattle.rv_inst.specs.UnitWords.{conversion_trap}
+use Rattle.rv_inst.specs.Descriptions.{conversion_trap}
 use Rattle.rv_ops.specs.Fpu.{is_to_integer}
 use Rattle.rv_inst.specs.declared.inst.Inst.TheVariants.{Load, Store, LoadExtNameGot, LoadExtNameNear, LoadExtNameFar, Call, CallInd, ReturnCall, FpuRR}
 use Rattle.rv_inst.specs.declared.inst.Line.{Line}

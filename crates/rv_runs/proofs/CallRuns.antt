@@ -1,7 +1,7 @@
 -- Calls, from where they are made and from where they return, and tail calls.
 use Rattle.std.proofs.Common.{Bool, List, None, Option, Some, [], ap, arith, false, if◌then◌else◌, length, lit<, not, pos, refl, rules, subst, suc, sym, true, zero, ℕ, ℤ, ◌%◌, ◌*◌, ◌++◌, ◌+◌, ◌-ℤ◌, ◌-◌, ◌/◌, ◌<◌, ◌==◌, ◌^◌, ◌||◌, ◌∙◌, ◌∷◌, ◌≡◌, ◌≤◌}
 use Rattle.rv_runs.proofs.Words.{AddressOf, AreStackLoads, Ask, Base, Call, CallInd, CallSite, Comes, ComesOut, EmitVState, Enters, ExternalName, Float, FrameLayout, GapIn, Goes, InCourse}
-use Rattle.rv_runs.proofs.Words.{Inst, IsAs, IsAt, IsPlacedAt, IsRestorable, IsState, IsaFlags, Keeps, Ld, Leave, Notes, Op, Part, PartsStand, Reg, Resumes, Return, ReturnCall, ReturnCallInd, Site, Slot, Slots, StackLoad, StandsIn, State, TailCall, TryCallInfo, UserStackMap, Values, Writable}
+use Rattle.rv_runs.proofs.Words.{Inst, IsAs, IsAt, IsPlacedAt, IsRestorable, IsState, IsaFlags, Keeps, Ld, Leave, Records, Op, Part, PartsStand, Reg, Resumes, Return, ReturnCall, ReturnCallInd, Site, Slot, Slots, StackLoad, StandsIn, State, TailCall, TryCallInfo, UserStackMap, Values, Writable}
 use Rattle.rv_runs.proofs.Words.{address_sums, are_values_set, at, back_number, call_parts, call_to, code_after, comes_goes, comes_on, course_before, decoded, decoded_jalr, environment, fallen, frame_above, frame_left, goes_first, goes_none, goes_second, inst_rule, is_bad_frame_for, is_float_class}
 use Rattle.rv_runs.proofs.Words.{is_float_load, is_integer, is_restorable, jalr_acts, jalr_sized, keeps, led_on, list_any, loads_float, low64, lower_of, not_true, number_of, or_parts, parts_of, plus_none, reads_back, reads_other, reg, restores, restores_float, return_of, return_slots, same_Some}
 use Rattle.rv_runs.proofs.Words.{set_at, set_reg, set_twice, short_jalr, size_append, size_of, small_number, spare_set, stack_load_slots, stack_loaded, stack_step_slots, stands_split, step_at, step_comes, symbol_address, t0_other, tail_call_of, try_call_of, try_exit, upper_of, window_some, wrap}
@@ -98,7 +98,7 @@ call_goes {site} {offset} {s} link tmp name some lt is_state h f =
     goes_first (step_at first (second ∷ []) s1 h (omega arith) f.has refl)
     (step_at second [] (at (symbol_address site (AddressOf name (pos 0)) / 2 * 2) (set_reg s1.values link (wrap (s.pc + 8)))) h1 (omega arith) (code_after site offset first (second ∷ []) f.has) (λ i. Some (at (there i / 2 * 2) (set_reg s1.values link (next i)))))
 
-pub symbol_out : {site : Site} {start after : ℕ} {s : State} {w : Values} (name : ExternalName) → IsLeft site (Notes CallSite ∷ call_to 0 31 name ∷ []) w s → ComesOut site start after (Leave (symbol_at (environment site start after) name (pos 0) / 2 * 2)) [] w s
+pub symbol_out : {site : Site} {start after : ℕ} {s : State} {w : Values} (name : ExternalName) → IsLeft site (Records CallSite ∷ call_to 0 31 name ∷ []) w s → ComesOut site start after (Leave (symbol_at (environment site start after) name (pos 0) / 2 * 2)) [] w s
 symbol_out {site} {w = w} name l =
     let c = l.comes.course in
     let t = l.comes.state in
@@ -150,7 +150,7 @@ pub return_call_runs : (site : Site) (setting : EmitVState) (start after : ℕ) 
 return_call_runs site setting start after s v info core fine e clear =
     let tail : TailCall = record { stack_arg_size = info.new_stack_arg_size; by_register = false } in
     let h = is_restorable site.context.frame tail fine in
-    symbol_out info.dest (frame_leaves _ info.new_stack_arg_size (Notes CallSite ∷ call_to 0 31 info.dest ∷ []) h (integer_restores site.context.frame tail h core) e)
+    symbol_out info.dest (frame_leaves _ info.new_stack_arg_size (Records CallSite ∷ call_to 0 31 info.dest ∷ []) h (integer_restores site.context.frame tail h core) e)
 
 pub return_call_ind_runs : (site : Site) (setting : EmitVState) (start after : ℕ) (s : State) (v : Values) (info : ReturnCallInfo Reg) → number_of info.dest ≡ 5 → restores_float site.context.frame (tail_call_of (ReturnCallInd info)) ≡ false →
     is_bad_frame_for site.context.frame (tail_call_of (ReturnCallInd info)) ≡ false → RunsHere site setting (ReturnCallInd info) start after s v

@@ -3,8 +3,8 @@ use Rattle.std.proofs.Common.{Bool, List, Some, [], ap, arith, bit_and, false, i
 use Rattle.rv_runs.proofs.Words.{Addi, AluOPRRI, And, AreInRange, AreValues, Bind, Branch, Do, Equal, NotEqual, Piece, Rri, Rrr, SameBut, Site, Slli, Srli, State, Values, after}
 use Rattle.rv_runs.proofs.Words.{alu_rri, and_comm, and_pow, and_then, are_values_set, bit_at, bit_at-lt, count_set, evaluate, half_power, ints, low64, none_below, not_zero, point, pow_below, pow_pos, reads_other, reads_set, reg, set_reg, signed_below, slots_of, small_shift, temporary_set, to, wrap}
 use Rattle.rv_code.proofs.{Registers.Count, Registers.Counted, Registers.InCount, Registers.IsCount, Registers.TestsBit, Registers.counted, Registers.same_beside, Registers.source_kept, Registers.spare_kept, Registers.written, ZeroNumbers.counts_on, ZeroNumbers.ends_at, ZeroNumbers.index_of}
-use Rattle.rv_code.{proofs.ZeroNumbers.none_to_count, proofs.ZeroNumbers.power_is, proofs.ZeroNumbers.power_next, proofs.ZeroNumbers.power_of, proofs.ZeroNumbers.zeros_all, proofs.ZeroNumbers.zeros_few, proofs.ZeroNumbers.zeros_left, proofs.ZeroNumbers.zeros_more, specs.Counts.count_down}
-use Rattle.{rv_code.specs.Counts.count_start, rv_code.specs.Counts.count_test, rv_code.specs.Counts.ones_pieces, rv_code.specs.Counts.ones_turn, rv_code.specs.Counts.zeros_pieces, rv_code.specs.Counts.zeros_turn, rv_inst.specs.Bits.ones, rv_inst.specs.Bits.zeros, rv_inst.specs.Sizes.bit_shift}
+use Rattle.rv_code.{proofs.ZeroNumbers.none_to_count, proofs.ZeroNumbers.power_is, proofs.ZeroNumbers.power_next, proofs.ZeroNumbers.power_of, proofs.ZeroNumbers.zeros_all, proofs.ZeroNumbers.zeros_few, proofs.ZeroNumbers.zeros_left, proofs.ZeroNumbers.zeros_more, specs.Sequences.count_down}
+use Rattle.{rv_code.specs.Sequences.count_start, rv_code.specs.Sequences.count_test, rv_code.specs.Sequences.ones_pieces, rv_code.specs.Sequences.ones_turn, rv_code.specs.Sequences.zeros_pieces, rv_code.specs.Sequences.zeros_turn, rv_inst.specs.Bits.ones, rv_inst.specs.Bits.zeros, rv_inst.specs.Sizes.bit_shift}
 use Rattle.{rv_runs.proofs.Exits.Reaches, rv_runs.proofs.Exits.SlotsOut, rv_runs.proofs.Exits.goes_on, rv_runs.proofs.Exits.pieces_out, rv_runs.proofs.Exits.reaches_such, rv_runs.proofs.Exits.same_but, std.proofs.lemmas.Nat.Bits.bit_at-suc, std.proofs.lemmas.Nat.Bits.bit_at_lowest}
 
 -- What sequences that count bits of a register have in common: how their loop begins, tests the next bit, and goes on.

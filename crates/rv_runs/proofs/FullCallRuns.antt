@@ -1,7 +1,7 @@
 -- Calls and tail calls on the machine with all units, where registers of both files come from the stack.
 use Rattle.std.proofs.Common.{Bool, List, None, Option, Some, [], ap, arith, false, is_some, length, lit<, pos, refl, rules, subst, sym, true, ℕ, ◌*◌, ◌++◌, ◌+◌, ◌/◌, ◌<◌, ◌^◌, ◌∙◌, ◌∷◌, ◌≡◌, ◌≤◌}
 use Rattle.rv_runs.proofs.Words.{AreStackLoads, Ask, Based, Call, CallInd, CallSite, Comes, ComesOut, EmitVState, Enters, Exit, FloatFormat, FrameLayout, FullComesOut, FullEnds, FullState, FullValues, InCourse, Inst, IsAs}
-use Rattle.rv_runs.proofs.Words.{IsAt, IsFullState, IsRestorable, Keeps, Leave, Notes, Op, Resumes, Return, ReturnCall, ReturnCallInd, Site, Slot, Slots, StackLoad, StandsIn, State, TailCall, TryCallInfo, UserStackMap, Values, call_parts, call_to, call_usable, code_limit, comes_here, environment}
+use Rattle.rv_runs.proofs.Words.{IsAt, IsFullState, IsRestorable, Keeps, Leave, Records, Op, Resumes, Return, ReturnCall, ReturnCallInd, Site, Slot, Slots, StackLoad, StandsIn, State, TailCall, TryCallInfo, UserStackMap, Values, call_parts, call_to, call_usable, code_limit, comes_here, environment}
 use Rattle.rv_runs.proofs.Words.{fallen, fiter_none, float_loaded, frame_above, frame_left, inst_effect, inst_exit, inst_temporaries, integer_run, is_bad_frame_for, is_float_load, is_restorable, load_format, load_line_slots, loads_float, low64, or_parts, parts_of, put, reads_other, reg, restores}
 use Rattle.rv_runs.proofs.Words.{restores_float, return_of, return_slots, same_Some, short_jalr, size_append, size_of, slots_alone, small_number, stack_load_slots, stack_loaded, stack_step_slots, stands_split, step_comes, t0_other, tail_call_of, target_fine, try_call_of, try_exit, with_ints, wrap}
 use Rattle.{rv_code.proofs.StackRuns.AreOthersAs, rv_code.proofs.StackRuns.IsLoadableAs, rv_code.proofs.StackRuns.IsOtherAs, rv_code.proofs.StackRuns.integer_loaded, rv_code.proofs.StackRuns.line_comes, rv_code.proofs.StackRuns.one_other as integer_other, rv_inst.specs.Meaning.loaded}
@@ -174,7 +174,7 @@ module _ {site : Site} (short : length site.bytes < code_limit) (labels : (label
         let frame = site.context.frame in
         let n = info.new_stack_arg_size in
         subst (λ (t : TailCall). Enters site start after (parts_of site.context setting (ReturnCall info)) b.state v.ints → FullEnds site start after (inst_exit (environment site start after) (ReturnCall info) v.ints) [] (full_left frame t.stack_arg_size v) [] b) (same_Some _ tail is)
-        (λ e. let l = frame_leaves _ n (Notes CallSite ∷ call_to 0 31 info.dest ∷ []) (is_restorable frame (record { stack_arg_size = n; by_register = false }) fine) units full e in ends_by l.comes (symbol_out info.dest l.left))
+        (λ e. let l = frame_leaves _ n (Records CallSite ∷ call_to 0 31 info.dest ∷ []) (is_restorable frame (record { stack_arg_size = n; by_register = false }) fine) units full e in ends_by l.comes (symbol_out info.dest l.left))
     full_leaves setting (ReturnCallInd info) tail k is fine =
         let frame = site.context.frame in
         let n = info.new_stack_arg_size in

@@ -4,8 +4,10 @@ use Rattle.rv_runs.proofs.Words.{AluRRImm12, AluRRR, AtLabel, Auipc, Call, CallI
 use Rattle.rv_runs.proofs.Words.{EmitVState, Extend, FrameLayout, GapIn, Inst, Jalr, Keeps, Label, Load, LoadAddr, LoadExtNameFar, LoadExtNameGot, LoadInlineConst, Lui, Mov, MovFromPReg, Nop0, Nop4, Op, Ret, ReturnCall, ReturnCallInd, Select, Site, State, Store, Values, and_parts, call_usable}
 use Rattle.rv_runs.proofs.Words.{compares, decoded_addi, goes_none, inst_rule, is_bad_frame_for, is_float_load, is_float_store, is_integer, is_integer_in, jump_to, keeps, location_of, low_word, not_true, number_of, reg, restores, restores_float, signed, tail_call_of, target_fine, to, window_some}
 use Rattle.rv_code.proofs.LineOperands.{label_address_kept, load_addr_kept, load_kept, store_kept}
-use Rattle.rv_code.proofs.Operands.{all_integers, are_usable, constant_kept, extend_kept, is_count, is_probe, is_reversal, is_table, move_usable, not_zero, or_left, preg_usable, reversal_of, trap_if_usable, zeros_count}
+use Rattle.rv_code.proofs.Operands.{all_integers, are_usable, constant_kept, extend_kept, is_count, is_probe, is_reversal, is_table, move_usable, not_zero, or_left, preg_usable, reversal_of, trap_if_usable}
 use Rattle.{rv_code.proofs.OperationActs.ebreak_breaks, rv_code.proofs.OperationActs.ebreak_sized, rv_code.proofs.Registers.count_of, rv_code.specs.InstParts.trap_slots, rv_code.specs.InstRuns.RunsIn, rv_inst.specs.Forms.short_ebreak, rv_inst.specs.Rules.is_zero}
+use Rattle.rv_inst.specs.Descriptions.{counts, sequence_registers}
+use Rattle.rv_inst.specs.declared.sequence.Computation.TheVariants.{Ones, Zeros}
 use Rattle.rv_inst.specs.declared.inst.Inst.TheVariants.{Args, BrTable, Brev8, Cltz, DummyUse, EmitIsland, Jal, LabelAddress, LoadExtNameNear, Popcnt, RawData, Rets, SequencePoint, StackProbeLoop, TrapIf, Udf, Unwind}
 use Rattle.rv_runs.proofs.CallRuns.{call_ind_out, call_out, return_call_ind_runs, return_call_runs}
 use Rattle.rv_runs.proofs.{CountRuns.popcnt_out, CountRuns.zeros_out, Exits.RunsHere, Exits.break_out, Exits.comes_out, Exits.gap_out, Exits.starts_at, Exits.starts_beside, Exits.trap_out, Exits.trap_some, MemoryRuns.address_out, MemoryRuns.constant_runs, MemoryRuns.load_runs, MemoryRuns.store_runs}
@@ -48,9 +50,9 @@ module _ (site : Site) (setting : EmitVState) (start after : ℕ) (s : State) (v
   kept_out (BrTable index tmp1 tmp2 (default ∷ labels)) core k r e clear = table_out _ (number_of index) (number_of tmp1.reg) (number_of tmp2.reg) default labels (is_table index tmp1 tmp2 (default ∷ labels) k) e
   kept_out (Udf code) core k r e clear = let some = trap_some site.context.flags in trap_out code (starts_at (trap_slots site.context.flags code) e) (omega arith) e.stands.1.0 (e.stands.1.1.0 s.values.mem e.placed) (omega arith) (let ends = e.stands.2 in omega arith) (starts_beside [] e)
   kept_out (Jalr rd base offset) core k r e clear = let all = are_usable (rd.reg ∷ base ∷ []) k.real k.placed k.free in jalr_runs site setting start after s v rd base offset all.0 all.1.0 e clear
-  kept_out (Popcnt info) core k r e clear = popcnt_out (count_of info.sum info.tmp info.step info.rs info.ty) (is_count info.sum info.tmp info.step info.rs info.ty (are_usable (info.sum.reg ∷ info.tmp.reg ∷ info.step.reg ∷ info.rs ∷ []) k.real k.placed k.free) k.counted k.apart k.typed) e
-  kept_out (Cltz leading info) core k r e clear = zeros_out leading (count_of info.sum info.tmp info.step info.rs info.ty) (zeros_count info.sum info.tmp info.step info.rs leading info.ty k) e
-  kept_out (Brev8 info) core k r e clear = reverse_out (reversal_of info.rs info.ty info.step info.tmp info.tmp2 info.rd) (is_reversal info.rs info.ty info.step info.tmp info.tmp2 info.rd k) e
+  kept_out (Popcnt info) core k r e clear = popcnt_out (count_of info.sum info.tmp info.step info.rs info.ty) (is_count info Ones (are_usable (sequence_registers (counts Ones info)) k.real k.placed k.free) k.counted k.apart k.typed) e
+  kept_out (Cltz leading info) core k r e clear = zeros_out leading (count_of info.sum info.tmp info.step info.rs info.ty) (is_count info (Zeros leading) (are_usable (sequence_registers (counts (Zeros leading) info)) k.real k.placed k.free) k.counted k.apart k.typed) e
+  kept_out (Brev8 info) core k r e clear = reverse_out (reversal_of info) (is_reversal info k) e
   kept_out (StackProbeLoop guard_size probe_count tmp) core k r e clear = probe_out (number_of tmp.reg) (low_word guard_size) (low_word probe_count) (is_probe guard_size probe_count tmp k) (omega arith) (omega arith) e clear
   kept_out (LoadExtNameGot rd name) core k r e clear = let h = (are_usable (rd.reg ∷ []) k.real k.placed k.free).0 in got_runs site setting start after s v rd name h (not_zero rd.reg h (or_left (is_zero rd.reg) false k.counted)) e clear
   kept_out (LoadExtNameNear rd name offset) core k r e clear = let h = (are_usable (rd.reg ∷ []) k.real k.placed k.free).0 in near_out (number_of rd.reg) name offset h.1 (not_zero rd.reg h (or_left (is_zero rd.reg) false k.counted)) e

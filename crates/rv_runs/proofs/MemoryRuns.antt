@@ -1,5 +1,5 @@
 -- Loads, stores, addresses and constants: where the code before an access comes, and what comes of the access.
-use Rattle.std.proofs.Common.{Bool, List, None, Option, Some, [], ap, append-nil, arith, false, if◌then◌else◌, length, lit<, lit≤, nat_eq, pos, refl, rules, slice_index, subst, suc, sym, true, zero, ℕ, ℤ, ◌%◌, ◌++◌, ◌+◌, ◌/◌, ◌<◌, ◌^◌, ◌||◌, ◌∙◌, ◌∷◌, ◌≡◌, ◌≢◌, ◌≤◌}
+use Rattle.std.proofs.Common.{Bool, List, None, Option, Some, [], ap, append-nil, arith, false, if◌then◌else◌, length, lit<, lit≤, nat_eq, pos, refl, rules, slice_index, subst, suc, sym, true, zero, ℕ, ℤ, ◌%◌, ◌++◌, ◌+◌, ◌<◌, ◌^◌, ◌||◌, ◌∙◌, ◌∷◌, ◌≡◌, ◌≢◌, ◌≤◌}
 use Rattle.rv_runs.proofs.Words.{AMode, AllByRecursion, AnswerFits, AreOutside, AreShort, AreUnits, AreValues, AtLabel, Based, BytesAt, CodeHas, Comes, ComesOut, Decoded, Does, EmitVState, Enters, FullComesOut, FullState, FullValues}
 use Rattle.rv_runs.proofs.Words.{HasSize, InCourse, IrType, IsIntegerLoad, IsIntegerStore, IsPlacedAt, IsUsable, IsUsableAt, IsaFlags, Label, Ld, Load, LoadInlineConst, LoadOP, Location, MachLabel, MemFlagsData, Memory, Next, Op, Part, PartsStand, Reg, Same, SameBut, SameFull, Sets, Site, Slot}
 use Rattle.rv_runs.proofs.Words.{StandsIn, State, Store, StoreOP, TrapCode, Units, Values, Writable, access_slots, act, act_on, address_at, address_slots, addresses_from, are_values_set, at, between, byte, cast_signed, comes_here, decoded_load, eight_there, environment, equals_itself, fiter_after}
@@ -8,7 +8,7 @@ use Rattle.rv_runs.proofs.Words.{or_parts, placed_after, plus_none, put, put_byt
 use Rattle.{mach_uses.specs.Labels.constant_label, rv_base.specs.declared.ir_type.IrType.TheVariants.I32, rv_base.specs.declared.ir_type.IrType.TheVariants.I64}
 use Rattle.rv_code.proofs.Courses.{IsApartAt, IsRealAt, address_even, address_fits, address_goes, address_same, in_three, inline_goes, inline_size, label_address, lower_sums, sets_comes, upper_goes, upper_sum}
 use Rattle.rv_code.proofs.OperationActs.{has_integer_load, has_integer_store, integer_load, integer_store, load_sized, short_load_either, short_store_either, store_sized}
-use Rattle.rv_code.{proofs.Registers.own_set as set_beside, proofs.StackRuns.stored_bytes, proofs.StackRuns.stored_length, specs.InstParts.inline_slots, specs.InstParts.label_load_slots, specs.Slots.Aim}
+use Rattle.rv_code.{proofs.Registers.own_set as set_beside, proofs.StackRuns.stored_bytes, proofs.StackRuns.stored_length, specs.InstParts.inline_slots, specs.InstParts.label_load_slots, specs.Slots.Fixup}
 use Rattle.{rv_encode.specs.Operations.decoded_store, rv_encode.specs.Operations.load_row, rv_encode.specs.Operations.store_op, rv_encode.specs.Operations.store_row, rv_inst.specs.Addresses.AtConstant, rv_inst.specs.Forms.short_load, rv_inst.specs.Forms.short_store, rv_inst.specs.Rules.is_word_type}
 use Rattle.{rv_inst.specs.declared.label_use.LabelUse.TheVariants.PCRelLo12I, rv_machine.specs.Arithmetic.extend_word, rv_machine.specs.Memory.store_bytes, rv_machine.specs.declared.ops.MOp.MOp, rv_ops.specs.Memory.store_size, rv_ops.specs.declared.memory.LoadOP.TheVariants.Lw}
 use Rattle.rv_runs.proofs.{Exits.RunsHere, Exits.SlotsOut, Exits.comes_out, Exits.same_but, Exits.starts_at, Exits.writes_beside, UnitRuns.extended_fits, UnitRuns.fiter_one, UnitRuns.unit_next_at}
@@ -140,7 +140,7 @@ own_base loc rd lt real = record { low = omega arith; real = real; spare = λ m 
 label_ready : {site : Site} {start after : ℕ} {s : State} {v : Values} (free : List ℕ) (rd : ℕ) (op : LoadOP) (r : ℕ) (l : MachLabel) (trap : Option TrapCode) → IsBase free (AtLabel l) r → Enters site start after (slots_alone (label_load_slots r rd op trap l)) s v →
     IsReadyAt site after free (load_row op) (λ d. d.rd) rd (label_address site l) v s
 label_ready {site} {start} {s = s} {v} free rd op r l trap base e =
-    let last = Aim PCRelLo12I (Label l) (λ z. decoded_load op rd r (lower_of_distance z) ∷ []) ∷ [] in
+    let last = Fixup PCRelLo12I (Label l) (λ z. decoded_load op rd r (lower_of_distance z) ∷ []) ∷ [] in
     let slots = label_load_slots r rd op trap l in
     let long : 8 ≡ size_of slots = (let rest = access_size trap last in omega arith) in
     let h = shorter 8 (starts_at slots e) (omega arith) in

@@ -6,7 +6,7 @@ use Rattle.rv_runs.proofs.Words.{Ret, Row, RowAsks, RowGoes, RowsAgree, Rri, Sam
 use Rattle.rv_runs.proofs.Words.{has_store, inst_exit, inst_meaning, inst_rule, inst_temporaries, integer_decodes, is_byte, is_float, is_float_class, is_float_load, is_float_store, is_integer, is_integer_family, is_integer_op, is_near, is_reserved, is_unit, is_virtual, keeps, list_any, load_slots}
 use Rattle.rv_runs.proofs.Words.{location_of, meaning_by, move_action, move_pieces, move_row, not_true, number_below, number_of, of_float_move, of_integers, op_of, operands_of, operation_of, operation_row, parts_of, row_takes, same_Some, slots_alone, slots_of, store_slots, unit_row, values_of, wrap}
 use Rattle.rv_code.proofs.{Operands.are_usable_in, OperationActs.Does, OperationActs.short_ebreak_is, OperationActs.short_jalr_does, OperationActs.short_load_does, OperationActs.short_lui_does, OperationActs.short_rri_does, OperationActs.short_rrr_does, OperationActs.short_store_does}
-use Rattle.{rv_code.specs.Pieces.Action, rv_inst.proofs.UnitWords.IsUnit, rv_inst.specs.Rules.Faults, rv_inst.specs.Sizes.address_operation, rv_inst.specs.Sizes.load_operation, rv_inst.specs.Sizes.move_op, rv_inst.specs.Sizes.move_operation, rv_inst.specs.Sizes.store_operation}
+use Rattle.{rv_code.specs.Pieces.Action, rv_inst.proofs.Descriptions.IsUnit, rv_inst.specs.Rules.Faults, rv_inst.specs.Sizes.address_operation, rv_inst.specs.Sizes.load_operation, rv_inst.specs.Sizes.move_op, rv_inst.specs.Sizes.move_operation, rv_inst.specs.Sizes.store_operation}
 use Rattle.{rv_machine.proofs.States.zero_state, rv_machine.proofs.UnitOperations.acts_integer, rv_machine.specs.Decode.decode, rv_machine.specs.Decode.int_decode, rv_machine.specs.Steps.zero_at, rv_ops.specs.FloatFields.width_of, rv_ops.specs.declared.float_fields.FpuOPWidth.TheVariants.D}
 use Rattle.rv_runs.proofs.{Exits.comes_out, Exits.same_but, FullCallRuns.ends_at_once, PlainRuns.nothing_out, UnitRuns.fiter_one, UnitRuns.parts_are, UnitRuns.row_comes, UnitRuns.shape_agrees, UnitRuns.unit_next_at, UnitRuns.unit_operation}
 use Rattle.rv_runs.specs.FullInstRuns.{FullyAsks}

@@ -3,7 +3,7 @@ use Rattle.std.proofs.Common.{List, Some, [], ap, arith, bit_and, bit_or, false,
 use Rattle.rv_runs.proofs.Words.{Addi, And, AreValues, Bind, Branch, Do, Equal, Or, Piece, Rri, Rrr, SameBut, Site, Slli, Srli, State, Values, alu_rri, alu_rrr, and_comm, and_pow, and_then}
 use Rattle.rv_runs.proofs.Words.{are_values_set, bit_at, bit_at-lt, count_set, evaluate, half_power, ints, low64, nat_tests, none_below, not_zero, point, pow_below, pow_pos, reads_other, reads_set, reg, set_reg, signed64, signed_below, slots_of, small_number, small_shift, temporary_set, wrap}
 use Rattle.rv_code.proofs.ReversedBytes.{Holds, InReversal, IsClear, IsReversal, Reversal, Tests, all_clear, clear_after, mirrored, mirrored_bits, or_plus, place_down, place_first, place_fits, place_of, place_up, same_beside, source_kept, spare_tests, step_set, tmp_set, whole_bytes, written}
-use Rattle.{rv_code.specs.Pieces.Jump, rv_code.specs.Reversals.reverse_down, rv_code.specs.Reversals.reverse_move, rv_code.specs.Reversals.reverse_pieces, rv_code.specs.Reversals.reverse_turn, rv_inst.specs.Bits.reversed_bytes, rv_ops.specs.declared.alu.AluOPRRR.TheVariants.Rem}
+use Rattle.{rv_code.specs.Pieces.Jump, rv_code.specs.Sequences.reverse_down, rv_code.specs.Sequences.reverse_move, rv_code.specs.Sequences.reverse_pieces, rv_code.specs.Sequences.reverse_turn, rv_inst.specs.Bits.reversed_bytes, rv_ops.specs.declared.alu.AluOPRRR.TheVariants.Rem}
 use Rattle.rv_runs.proofs.Exits.{Reaches, SlotsOut, goes_on, pieces_out, reaches_such, same_but}
 
 abbrev whole_of : Reversal → List Piece

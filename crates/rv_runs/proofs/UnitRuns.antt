@@ -1,5 +1,5 @@
 -- What the machine with all units does at an operation of a unit, and which instructions are one.
-use Rattle.std.proofs.Common.{Bool, FitsSigned, List, None, Option, Some, T, [], ap, arith, false, if◌then◌else◌, inl, inr, leb, length, lt_of_le_of_lt, nat_eq, refl, rules, slice_index, slice_set, subst, sym, true, unwrap_or, w16, w32, w64, ℕ, ◌%◌, ◌+◌, ◌-◌, ◌<◌, ◌^◌, ◌∙◌, ◌∷◌, ◌≡◌, ◌≢◌, ◌⊎◌}
+use Rattle.std.proofs.Common.{Bool, FitsSigned, List, None, Option, Some, T, [], ap, arith, false, if◌then◌else◌, inl, inr, leb, length, lt_of_le_of_lt, nat_eq, refl, rules, slice_index, slice_set, subst, sym, true, unwrap_or, w16, w32, w64, ℕ, ◌%◌, ◌+◌, ◌-◌, ◌<◌, ◌^◌, ◌∙◌, ◌∷◌, ◌≡◌, ◌⊎◌}
 use Rattle.rv_runs.proofs.Words.{AllByRecursion}
 use Rattle.rv_runs.proofs.Words.{Answer, AnswerFits, AreUnits, AreUsableIn, AreValues, CodeHas, Context, D, Decoded, Does, EmitVState, FloatFormat, FullState, FullValues, H, Inst, IsAt, IsUsableIn, IsaFlags, Nop0, Row, RowAsks, RowGoes, RowsAgree, S, SameFull, Sign, Site, State, Units}
 use Rattle.rv_runs.proofs.Words.{act, are_values_set, boxed, cast_signed, decodes_at, extended, fiter_after, fiter_none, format_of, freg, full_at, inputs_of, ints, low64, low_part, number_of, number_row, or_lt, parts_of, put_f, put_units, row_next, same_set, set_freg, unit_row, values_of, wrap}
@@ -7,7 +7,7 @@ use Rattle.rv_code.specs.{InstParts.unit_parts, UnitRuns.Agree, UnitRuns.IsUsabl
 use Rattle.{rv_encode.specs.Operations.decoded_csr_imm, rv_encode.specs.Operations.decoded_csr_reg, rv_full.specs.Atomics.csr_result, rv_full.specs.Atomics.csr_row, rv_full.specs.Floats.float_shape, rv_full.specs.Floats.is_move}
 use Rattle.rv_full.specs.{Floats.put_number, Floats.shape_row, Rows.Absent, Rows.OneNumber, Rows.Takes, Rows.bits_of, Rows.entry_of, Rows.fits, Rows.noted, Rows.x_of, Steps.Asks, Steps.Goes, Steps.Halts, Steps.fiter, Steps.fnext, Steps.next_by, Steps.stepped, Steps.unit_on, Units.set_frm}
 use Rattle.rv_full.specs.declared.{answer.Answer.TheVariants.Bits, shapes.FloatShape.FloatShape, shapes.FloatShape.TheVariants.Answered, shapes.FloatShape.TheVariants.ToFloat, shapes.FloatShape.TheVariants.ToInteger, shapes.Sources.Sources, shapes.Target.Target}
-use Rattle.rv_inst.specs.{UnitWords.UnitWord, UnitWords.unit_word, declared.inst.Inst.TheVariants.CsrImm, declared.inst.Inst.TheVariants.CsrReg, declared.inst.Inst.TheVariants.Fli, declared.inst.Inst.TheVariants.FpuRR, declared.inst.Inst.TheVariants.FpuRRR, declared.inst.Inst.TheVariants.FpuRRRR}
+use Rattle.rv_inst.specs.{Descriptions.UnitWord, Descriptions.unit_word, declared.inst.Inst.TheVariants.CsrImm, declared.inst.Inst.TheVariants.CsrReg, declared.inst.Inst.TheVariants.Fli, declared.inst.Inst.TheVariants.FpuRR, declared.inst.Inst.TheVariants.FpuRRR, declared.inst.Inst.TheVariants.FpuRRRR}
 use Rattle.{rv_inst.specs.declared.units.PlacedReg.PlacedReg, rv_machine.proofs.UnitOperations.same_step, rv_machine.specs.Steps.step_on}
 use Rattle.rv_machine.specs.declared.ops.{CsrOp.CsrOp, CsrOp.TheVariants.Csrrc, CsrOp.TheVariants.Csrrci, CsrOp.TheVariants.Csrrs, CsrOp.TheVariants.Csrrsi, CsrOp.TheVariants.Csrrw, CsrOp.TheVariants.Csrrwi, FloatOp.TheVariants.Fli as FloatFli}
 use Rattle.rv_ops.specs.{Csr.csr_imm_op, Csr.csr_reg_op, Fpu.fpu_rr_files, Fpu.fpu_rr_op, Fpu.fpu_rrr_op, Fpu.fpu_rrr_result, Fpu.fpu_rrrr_op}

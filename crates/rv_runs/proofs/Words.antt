@@ -14,11 +14,11 @@ pub use Rattle.rv_code.specs.{Evaluation.evaluate, Evaluation.next, Evaluation.p
 pub use Rattle.rv_code.specs.InstParts.{access_slots, address_slots, call_parts, call_to, half_load_slots, half_store_slots, jump_to, label_base, load_line_slots, load_slots, number_slots, parts_of, return_slots, slots_alone, stack_load_slots, stack_step_slots, store_slots}
 pub use Rattle.rv_code.specs.{InstRuns.Arrives, InstRuns.ComesOut, InstRuns.Enters, InstRuns.Resumes, InstRuns.environment, InstRuns.least_steps, Operations.decoded_addi, Operations.decoded_jalr, Operations.jump_size, Operations.short_jump, Pieces.AreInRange, Pieces.Bind, Pieces.Branch, Pieces.Do}
 pub use Rattle.rv_code.specs.{Pieces.Piece, Pieces.Rri, Pieces.Rrr, Pieces.after, Pieces.op_of, Pieces.slots_of, Sites.AimsFrom, Sites.BytesAt, Sites.CodeHas, Sites.GapIn, Sites.IsPlacedAt, Sites.PartsStand, Sites.Site, Sites.StandsIn, Sites.symbol_address, Slots.AddressOf, Slots.Ask, Slots.Label}
-pub use Rattle.rv_code.specs.{Slots.Notes, Slots.Op, Slots.Part, Slots.Slot, Slots.Slots, Slots.between, Slots.size_of, UnitRuns.AreUsableIn, UnitRuns.FullComesOut, UnitRuns.IsUsableIn, UnitRuns.RowAsks, UnitRuns.RowGoes, UnitRuns.RowsAgree, Usable.IsUsable, declared.state.EmitVState.EmitVState}
+pub use Rattle.rv_code.specs.{Slots.Records, Slots.Op, Slots.Part, Slots.Slot, Slots.Slots, Slots.between, Slots.size_of, UnitRuns.AreUsableIn, UnitRuns.FullComesOut, UnitRuns.IsUsableIn, UnitRuns.RowAsks, UnitRuns.RowGoes, UnitRuns.RowsAgree, Usable.IsUsable, declared.state.EmitVState.EmitVState}
 pub use Rattle.rv_encode.specs.{Operations.decoded, Operations.decoded_load, Operations.has_load, Operations.has_store, Operations.load_op, Registers.IsIntRegister}
 pub use Rattle.rv_full.{proofs.LargerMachine.integer_run, proofs.Runs.fiter_after, proofs.Runs.fiter_none, specs.Floats.boxed, specs.Floats.extended, specs.Floats.format_bytes, specs.Floats.inputs_of, specs.Floats.low_part, specs.Floats.number_row, specs.Rows.Does, specs.Rows.Row, specs.Rows.put_f}
 pub use Rattle.rv_full.specs.{Rows.put_units, Rows.row_takes, Steps.row_next, UnitRows.unit_row, Units.AnswerFits, Units.AreUnits, Units.FullState, Units.FullValues, Units.IsFullState, Units.Units, Units.freg, Units.full_at, Units.put, Units.set_freg, Units.values_of, declared.answer.Answer.Answer}
-pub use Rattle.{rv_full.specs.declared.shapes.FloatShape.TheVariants.Sign, rv_inst.proofs.Sequences.number_below, rv_inst.proofs.UnitWords.is_unit, rv_inst.specs.Addresses.AtLabel, rv_inst.specs.Addresses.Based, rv_inst.specs.Addresses.Location, rv_inst.specs.Addresses.is_near}
+pub use Rattle.{rv_full.specs.declared.shapes.FloatShape.TheVariants.Sign, rv_inst.proofs.Sequences.number_below, rv_inst.proofs.Descriptions.is_unit, rv_inst.specs.Addresses.AtLabel, rv_inst.specs.Addresses.Based, rv_inst.specs.Addresses.Location, rv_inst.specs.Addresses.is_near}
 pub use Rattle.rv_inst.specs.{Addresses.location_of, Context.Context, Context.context_by, Core.is_integer, Core.is_integer_family, Core.is_integer_in, Core.restores_float, Operands.family_of, Forms.short_jalr, Forms.short_lui, Forms.short_rri, Forms.short_rrr, Frames.is_bad_frame_for}
 pub use Rattle.rv_inst.specs.Meaning.{AreOutside, Environment, Exit, Leave, Next, To, address_at, addresses_from, alu_rri, alu_rrr, compares, fallen, frame_left, inst_effect, inst_exit, inst_writes, put_bytes, stack_loaded, try_exit}
 pub use Rattle.rv_inst.specs.Operands.{Return, all_of, inst_temporaries, is_float, is_float_class, loads_float, operands_of, return_of, tail_call_of, try_call_of, written_in}

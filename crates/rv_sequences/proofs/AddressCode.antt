@@ -2,7 +2,7 @@
 pub use Rattle.rv_inst.proofs.Immediates.{upper_is, lower_is, splits, splits_not}
 use Rattle.rv_sequences.proofs.{SlotsPut.{alone, aim_put_at, none_put, both_alone, alone_long, alone_usable}, Terms.{Ld, Trap, PlaceLabel, ◌≡◌, ◌≢◌, zero, suc, refl, ◌-◌, ◌^◌, ◌<◌, ◌==◌, true, false, ℤ, pos, negsuc, ◌≤ℤ◌, ap, arith, ℕ, ◌+◌, ◌≤◌, List, [], ◌∷◌, ◌++◌, length, Option, Some, sym}}
 use Rattle.rv_sequences.proofs.Terms.{subst, append_assoc, ◌∙◌, cast_unsigned, w16, to_le_bytes, w64, w32, nat_tests, ints, IsSigned, low64, is_near, Location, AtLabel, AtConstant, if◌then◌else◌, ◌&&◌, IsaFlags, VCodeConstant, MachLabel, TrapCode, value_of, IsSplittable, Decoded, Addi, LabelUse}
-use Rattle.rv_sequences.proofs.Terms.{word_bytes, use_at, shape_of, bytes_of, allocated_of, with_bytes, with_use, with_record, with_named, Shape, constant_label, Buffer, IsSoundBuffer, PutsAlone, upper_of, lower_of, short_rri, Slot, Op, Aim, Names, Label, IsPatchable, Puts, access_slots}
+use Rattle.rv_sequences.proofs.Terms.{word_bytes, use_at, shape_of, bytes_of, allocated_of, with_bytes, with_use, with_record, with_named, Shape, constant_label, Buffer, IsSoundBuffer, PutsAlone, upper_of, lower_of, short_rri, Slot, Op, Fixup, Names, Label, IsPatchable, Puts, access_slots}
 use Rattle.rv_sequences.proofs.Terms.{Constant, Do, Rri, immediate_pieces, slots_of}
 use Rattle.rv_sequences.proofs.Terms.{immediate_slots, inline_slots, labelled, lower_slots, naming_slots, offset_slots, number_slots, half_load_slots, half_store_slots, load_line_slots, load_slots, moved_to_integer, store_line_slots, store_slots, IsPlain, IsShort, is_low, slots_by, LoadOP, StoreOP}
 use Rattle.rv_sequences.proofs.Terms.{Sh, has_load, has_store, loaded, IsFinePlace, Place, load_most}
@@ -28,7 +28,7 @@ bits_zero (negsuc n) low e = let h : n < 2048 = omega (arith, ints) in let l : c
 -- ---- one slot
 
 -- a use of a label whose window is a word
-pub aim_put : (flags : IsaFlags) (kind : LabelUse) (ops : ℤ → List Decoded) (old new : Buffer) (w : ℕ) (label : MachLabel) → IsPatchable flags kind (word_bytes w) ops → shape_of new ≡ with_bytes (word_bytes w) (with_use (use_at (length (bytes_of old)) label kind) (shape_of old)) → IsSoundBuffer new → PutsAlone flags (Aim kind (Label label) ops ∷ []) old new
+pub aim_put : (flags : IsaFlags) (kind : LabelUse) (ops : ℤ → List Decoded) (old new : Buffer) (w : ℕ) (label : MachLabel) → IsPatchable flags kind (word_bytes w) ops → shape_of new ≡ with_bytes (word_bytes w) (with_use (use_at (length (bytes_of old)) label kind) (shape_of old)) → IsSoundBuffer new → PutsAlone flags (Fixup kind (Label label) ops ∷ []) old new
 aim_put flags kind ops old new w label is put sound = alone (aim_put_at flags kind ops old new w label is put sound)
 
 pub access_put : (flags : IsaFlags) (old new : Buffer) (trap : Option TrapCode) (code : TrapCode) → trap ≡ Some code → shape_of new ≡ with_record (Trap code) (shape_of old) → IsSoundBuffer new → PutsAlone flags (access_slots trap) old new

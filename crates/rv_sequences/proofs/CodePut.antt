@@ -2,7 +2,7 @@
 use Rattle.{rv_base.specs.declared.regs.RegClass.TheVariants.Int, rv_sequences.proofs.{BufferAfterSlots.puts_bytes, PlainSlots.plain_keeps, SlotsPut.{alone, puts_after}, Terms.{◌≡◌, true, refl, subst, ◌≢◌, ℕ, suc, ◌+◌, ◌^◌, ◌<◌, ◌≤◌, ℤ, Bool, false, nat_eq, [], ◌∷◌, ◌++◌, List, length}}}
 use Rattle.rv_sequences.proofs.Terms.{drop-cons, append_assoc, arith, sym, ap, ◌∙◌, unwrap_or, if◌then◌else◌, IrType, F16, F32, F64, Reg, Real, Virtual, Float, class_of, number_of, IsIntRegister, D, is_width, width_of, is_float_type, is_movable, IsMove, drop_of_length-le, or_parts, nat_tests}
 use Rattle.rv_sequences.proofs.Terms.{IsaFlags, MachLabel, branch_of, is_reversed, IntegerCompare, Decoded, Base, decoded, decoded_branch, branch_op, is_among, use_at, LabelUse, B12, first_inner, inner_count, shape_of, allocated_of, Shape, with_bytes, with_use, Buffer, IsSoundBuffer, PutsAlone}
-use Rattle.rv_sequences.proofs.Terms.{PutsSlots, branch_to, Puts, IsPatchable, Label, own_label, RegClass, move_action, move_pieces, Action, Rri, Piece, Do, Branch, branches, slots_for, slots_of, pieces_most, shown, pieces_of, AreSound, IsLabelled, IsBaseFor, IsNext, CodePiece, OwnLabels}
+use Rattle.rv_sequences.proofs.Terms.{PutsSlots, branch_to, Puts, IsPatchable, Label, own_label, RegClass, move_action, move_pieces, Action, Piece, Do, Branch, branches, slots_for, slots_of, pieces_most, shown, pieces_of, AreSound, IsLabelled, IsBaseFor, IsNext, CodePiece, OwnLabels}
 use Rattle.rv_sequences.proofs.Terms.{canonical_type, cast_signed, code_most, drop, get_or, lit≤, None, Some, IsPlain, most_of, number_by, number_pieces, number_slots, pieces_few, pieces_long, w64}
 use Rattle.rv_sequences.specs.declared.code.CodePiece.TheVariants as code
 

@@ -1,16 +1,16 @@
 -- What an instruction without labels of its own adds to a buffer, and that its parts are self-contained.
 use Rattle.rv_sequences.proofs.{BufferAfterSlots.{lasts_after_slots, puts_bytes, puts_uses, puts_records, puts_named, puts_constants}, Sequences.no_own, Terms.{◌≡◌, ℕ, ◌+◌, List, [], ◌∷◌, ◌++◌, length, drop, refl, ap, sym, ◌∙◌, subst, append-nil, arith, length-append, length-drop, take-append-drop}}
 use Rattle.rv_sequences.proofs.Terms.{IsaFlags, Context, Inst, LabelUse, IsOfSize, inst_size, request_of, space_in, inst_records, uses_in, Use, Shape, shape_of, bytes_of, allocated_of, named_of, Buffer, IsSoundBuffer, AppendsCode, AppendsSequence, Appends, HasReturn, IsFarUse, IsOwnUse, Slot, Op}
-use Rattle.rv_sequences.proofs.Terms.{Aim, Notes, Allocate, Here, Fill, CallTo, size_of, uses_of, records_of, names_of, PutsSlot, Puts, slots_alone, PutsParts, inst_constant, named_by, IsPlain, IsSummed, Lasts, label_kinds, table_of, place_of, slice_get, is_some, Some, None, ◌⊎◌, ◌≤◌}
+use Rattle.rv_sequences.proofs.Terms.{Fixup, Records, Allocate, Here, RelocPair, CallTo, size_of, uses_of, records_of, names_of, PutsSlot, Puts, slots_alone, PutsParts, inst_constant, named_by, IsPlain, IsSummed, Lasts, label_kinds, table_of, place_of, slice_get, is_some, Some, None, ◌⊎◌, ◌≤◌}
 
 -- a plain slot allocates no label and binds none
 slot_keeps : (flags : IsaFlags) (allocated : ℕ) (slot : Slot) (slots : List Slot) (s t : Shape LabelUse) → IsPlain (slot ∷ slots) → PutsSlot flags allocated slot s t → IsPlain slots × (t.place ≡ s.place) × (t.labels ≡ s.labels) × (t.allocated ≡ s.allocated)
 slot_keeps flags allocated (Op d) slots s t plain p = (plain, λ i. (p.3 i).place, λ i. (p.3 i).labels, λ i. (p.3 i).allocated)
-slot_keeps flags allocated (Aim kind target ops) slots s t plain p = (plain, λ i. (p.2 i).place, λ i. (p.2 i).labels, λ i. (p.2 i).allocated)
-slot_keeps flags allocated (Notes event) slots s t plain p = (plain, λ i. (p.1 i).place, λ i. (p.1 i).labels, λ i. (p.1 i).allocated)
+slot_keeps flags allocated (Fixup kind target ops) slots s t plain p = (plain, λ i. (p.2 i).place, λ i. (p.2 i).labels, λ i. (p.2 i).allocated)
+slot_keeps flags allocated (Records event) slots s t plain p = (plain, λ i. (p.1 i).place, λ i. (p.1 i).labels, λ i. (p.1 i).allocated)
 slot_keeps flags allocated Allocate slots s t plain p = absurd plain
 slot_keeps flags allocated (Here k) slots s t plain p = absurd plain
-slot_keeps flags allocated (Fill symbol upper lower) slots s t plain p = (plain, λ i. (p.4 i).place, λ i. (p.4 i).labels, λ i. (p.4 i).allocated)
+slot_keeps flags allocated (RelocPair symbol upper lower) slots s t plain p = (plain, λ i. (p.4 i).place, λ i. (p.4 i).labels, λ i. (p.4 i).allocated)
 slot_keeps flags allocated (CallTo name ops) slots s t plain p = (plain, λ i. (p.2 i).place, λ i. (p.2 i).labels, λ i. (p.2 i).allocated)
 slot_keeps flags allocated slot slots s t plain p = (plain, λ i. (p i).place, λ i. (p i).labels, λ i. (p i).allocated)
 

@@ -1,7 +1,7 @@
 -- The slots that calls put, one call after the other.
 use Rattle.rv_sequences.proofs.{BufferAfterSlots.{lasts_after_slots, puts_bytes}, Encoded.{word_encodes, half_jump_patchable, half_encodes}, OwnForms.own_word, PlainSlots.plain_keeps, Terms.{Ld, Lw, Trap, ◌≡◌, ◌≢◌, ℕ, ◌+◌, true, false, nat_eq, List, [], ◌∷◌, length, ℤ, IsPatchable, Some, refl, ap}}
 use Rattle.rv_sequences.proofs.Terms.{sym, ◌∙◌, subst, arith, inl, inr, ◌++◌, ◌<◌, if◌then◌else◌, ◌%◌, ◌^◌, to_le_bytes, w16, w32, w64, length-append, nat_tests, IsaFlags, MachLabel, Decoded, decode, compressed, Base, Jal, decoded_jump, IntegerCompare, LabelUse, Jal20, RVCJump, word_bytes, half_at}
-use Rattle.rv_sequences.proofs.Terms.{use_at, shape_of, bytes_of, allocated_of, with_bytes, with_use, Shape, IsUsable, with_record, Buffer, IsSoundBuffer, PutsAlone, PutsSlots, Label, Slot, Op, Aim, Data, size_of, PutsSlot, Puts, jump_to, wide_jump_to, branch_to, trap_bytes, trap_slots}
+use Rattle.rv_sequences.proofs.Terms.{use_at, shape_of, bytes_of, allocated_of, with_bytes, with_use, Shape, IsUsable, with_record, Buffer, IsSoundBuffer, PutsAlone, PutsSlots, Label, Slot, Op, Fixup, Data, size_of, PutsSlot, Puts, jump_to, wide_jump_to, branch_to, trap_bytes, trap_slots}
 use Rattle.rv_sequences.proofs.Terms.{inline_slots, constant_slots, IrType, RegClass, move_op, move_pieces, move_by, slots_of, bits_of, TrapCode, label_kinds, Lasts, IsPlain, decode_half, IsOwnForm, IsHalf}
 
 -- ---- one call
@@ -23,17 +23,17 @@ pub op_put : (flags : IsaFlags) (old new : Buffer) (w : ℕ) (bytes : List ℕ) 
 op_put flags old new w bytes d four e is put sound = alone (slot_put (Op d) old new (word_bytes w, sym four, word_encodes flags w d e, put ∙ ap (λ b. with_bytes b (shape_of old)) is, own_word d (half_at (word_bytes w)) four) sound)
 
 -- a use of a label whose window is a word, as a jump or a branch
-pub aim_put_at : (flags : IsaFlags) (kind : LabelUse) (ops : ℤ → List Decoded) (old new : Buffer) (w : ℕ) (label : MachLabel) → IsPatchable flags kind (word_bytes w) ops → shape_of new ≡ with_bytes (word_bytes w) (with_use (use_at (length (bytes_of old)) label kind) (shape_of old)) → IsSoundBuffer new → PutsSlots flags (Aim kind (Label label) ops ∷ []) old new
-aim_put_at flags kind ops old new w label is put sound = slot_put (Aim kind (Label label) ops) old new (word_bytes w, is, put) sound
+pub aim_put_at : (flags : IsaFlags) (kind : LabelUse) (ops : ℤ → List Decoded) (old new : Buffer) (w : ℕ) (label : MachLabel) → IsPatchable flags kind (word_bytes w) ops → shape_of new ≡ with_bytes (word_bytes w) (with_use (use_at (length (bytes_of old)) label kind) (shape_of old)) → IsSoundBuffer new → PutsSlots flags (Fixup kind (Label label) ops ∷ []) old new
+aim_put_at flags kind ops old new w label is put sound = slot_put (Fixup kind (Label label) ops) old new (word_bytes w, is, put) sound
 
 -- where there is no c.j, that is the jump
 pub whole_jump_put : (flags : IsaFlags) (old new : Buffer) (label : MachLabel) → flags.has_zca ≡ false → PutsSlots flags (wide_jump_to (Label label) ∷ []) old new → PutsSlots flags (jump_to flags (Label label) ∷ []) old new
-whole_jump_put flags old new label off p = subst (λ c. PutsSlots flags (Aim (if c then RVCJump else Jal20) (Label label) (λ d. (if c then compressed (Base Jal) 0 0 0 d else decoded_jump d) ∷ []) ∷ []) old new) (sym off) p
+whole_jump_put flags old new label off p = subst (λ c. PutsSlots flags (Fixup (if c then RVCJump else Jal20) (Label label) (λ d. (if c then compressed (Base Jal) 0 0 0 d else decoded_jump d) ∷ []) ∷ []) old new) (sym off) p
 
 -- and c.j, where there is one
 pub half_jump_put : (flags : IsaFlags) → flags.has_zca ≡ true → (old mid new : Buffer) (label : MachLabel) (half here : ℕ) → half ≡ 0xa001 → here ≡ length (bytes_of old) → shape_of mid ≡ with_use (use_at here label RVCJump) (shape_of old) → shape_of new ≡ with_bytes (to_le_bytes w16 half) (shape_of mid) → IsSoundBuffer new → PutsSlots flags (jump_to flags (Label label) ∷ []) old new
-half_jump_put flags on old mid new label half here is at used put sound = subst (λ c. PutsSlots flags (Aim (if c then RVCJump else Jal20) (Label label) (λ d. (if c then compressed (Base Jal) 0 0 0 d else decoded_jump d) ∷ []) ∷ []) old new) (sym on)
-    (slot_put (Aim RVCJump (Label label) (λ d. compressed (Base Jal) 0 0 0 d ∷ [])) old new (0x01 ∷ 0xa0 ∷ [], half_jump_patchable flags on, put ∙ (λ i. with_bytes (to_le_bytes w16 (is i)) (used i)) ∙ ap (λ n. with_bytes (0x01 ∷ 0xa0 ∷ []) (with_use (use_at n label RVCJump) (shape_of old))) at) sound)
+half_jump_put flags on old mid new label half here is at used put sound = subst (λ c. PutsSlots flags (Fixup (if c then RVCJump else Jal20) (Label label) (λ d. (if c then compressed (Base Jal) 0 0 0 d else decoded_jump d) ∷ []) ∷ []) old new) (sym on)
+    (slot_put (Fixup RVCJump (Label label) (λ d. compressed (Base Jal) 0 0 0 d ∷ [])) old new (0x01 ∷ 0xa0 ∷ [], half_jump_patchable flags on, put ∙ (λ i. with_bytes (to_le_bytes w16 (is i)) (used i)) ∙ ap (λ n. with_bytes (0x01 ∷ 0xa0 ∷ []) (with_use (use_at n label RVCJump) (shape_of old))) at) sound)
 
 -- four bytes longer
 pub word_longer : (old new : Buffer) (w : ℕ) (label : MachLabel) (kind : LabelUse) → shape_of new ≡ with_bytes (word_bytes w) (with_use (use_at (length (bytes_of old)) label kind) (shape_of old)) → length (bytes_of new) ≡ length (bytes_of old) + 4

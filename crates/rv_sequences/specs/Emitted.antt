@@ -21,7 +21,6 @@ use Rattle.rv_inst.specs.Rules.{inst_rule}
 use Rattle.rv_inst.specs.Sizes.{IsOfSize, first_in, space_in, inst_size, most_bytes, request_of, line_space, inst_sum, inst_records}
 use Rattle.rv_inst.specs.Uses.{use_at, uses_in, least_reach}
 use Rattle.mach_buffer.specs.declared.buffer.MachBuffer.{MachBuffer}
-use Rattle.mach_records.specs.declared.records.MachRecord.{MachRecord}
 use Rattle.mach_uses.specs.declared.uses.Use.{Use}
 use Rattle.mach_buffer.specs.Islands.{aligned, island_end, is_far, AddsOwn}
 use Rattle.mach_uses.specs.Reach.{AllOf, is_needed, is_reached}

@@ -8,49 +8,53 @@ ghost use Rattle.rv_base.specs.declared.condcodes.IntCC.TheVariants.{Equal, NotE
 ghost use Rattle.rv_encode.specs.Registers.{IsIntRegister};
 ghost use Rattle.rv_inst.specs.Rules.{is_int_type};
 ghost use Rattle.mach_buffer.specs.Buffer.{bytes_of, allocated_of, spoiled_of};
-ghost use Rattle.rv_code.specs.Counts.{ones_pieces, zeros_pieces};
 ghost use Rattle.rv_code.specs.Pieces.{slots_of};
+ghost use Rattle.rv_code.specs.Sequences.{ones_pieces, sequence_pieces, zeros_pieces};
+ghost use Rattle.rv_code.specs.Usable.{IsFineSequence};
 ghost use Rattle.rv_sequences.specs.Code.{code_most, pieces_of, AreSound, IsLabelled};
 ghost use Rattle.rv_sequences.specs.Emitted.{IsSoundBuffer};
 ghost use Rattle.rv_sequences.specs.Parts.{PutsAlone};
 
 use crate::code::{CodePiece, bind, branch, jump, put_code, rri, rrr};
+use crate::reverse::reverse_code;
 use mach_buffer::MachBuffer;
 use rv_base::{
     IntCC, IrType, IsaFlags, OutOfMemory, Reg, WritableReg, spilltmp_reg2, writable_spilltmp_reg2,
     zero_reg,
 };
 use rv_imms::Imm12;
-use rv_inst::LabelUse;
+use rv_inst::{Computation, LabelUse, Sequence};
 use rv_ops::{AluOPRRI, AluOPRRR, IntegerCompare};
+
+/// Puts a sequence that computes one register of another: of its low bits, as many as its type has. The first two temporaries hold
+/// how many of them are left and which is the next one.
+pub fn put_computation(
+    sink: &mut MachBuffer<LabelUse>,
+    flags: IsaFlags,
+    sequence: Sequence,
+) -> Result<(), OutOfMemory>
+    requires fine { IsFineSequence sequence }
+    requires few { allocated_of sink.old < 2 ^ 29 }
+    requires room { length (bytes_of sink.old) + 80 < code_limit }
+    requires sound { IsSoundBuffer sink.old }
+    ensures slots { OnOk result (PutsAlone flags (slots_of flags (sequence_pieces sequence)) sink.old sink.new) }
+    ensures refused { OnErr result (spoiled_of sink.new ≡ true) }
+{
+    let (rd, tmp1, tmp2) = (sequence.rd, sequence.tmp1, sequence.tmp2);
+    let (rs, ty) = (sequence.rs, sequence.ty);
+    match sequence.computation {
+        Computation::Ones => put_code(sink, flags, &popcnt_code(rd, tmp1, tmp2, rs, ty)),
+        Computation::Zeros { leading } => put_zeros(sink, flags, leading, rd, tmp1, tmp2, rs, ty),
+        Computation::ReversedBytes => {
+            let tmp3 = sequence.tmp3.unwrap_or(tmp2);
+            put_code(sink, flags, &reverse_code(rd, tmp2, tmp3, tmp1, rs, ty))
+        }
+    }
+}
 
 // ---- the ones
 
-/// Counts the ones of a register's low bits, as many as the type has, from the highest on: `step` counts the bits that are
-/// left, and `tmp` holds the next one.
-pub fn put_popcnt(
-    sink: &mut MachBuffer<LabelUse>,
-    flags: IsaFlags,
-    sum: WritableReg,
-    tmp: WritableReg,
-    step: WritableReg,
-    rs: Reg,
-    ty: IrType,
-) -> Result<(), OutOfMemory>
-    requires sum { IsIntRegister sum.reg }
-    requires tmp { IsIntRegister tmp.reg }
-    requires step { IsIntRegister step.reg }
-    requires rs { IsIntRegister rs }
-    requires ty { is_int_type ty ≡ true }
-    requires few { allocated_of sink.old < 2 ^ 29 }
-    requires room { length (bytes_of sink.old) + 48 < code_limit }
-    requires sound { IsSoundBuffer sink.old }
-    ensures slots { OnOk result (PutsAlone flags (slots_of flags (ones_pieces (number_of sum.reg) (number_of tmp.reg) (number_of step.reg) (number_of rs) (bits_of ty))) sink.old sink.new) }
-    ensures refused { OnErr result (spoiled_of sink.new ≡ true) }
-{
-    put_code(sink, flags, &popcnt_code(sum, tmp, step, rs, ty))
-}
-
+/// The ones are counted, from the highest bit on.
 fn popcnt_code(
     sum: WritableReg,
     tmp: WritableReg,
@@ -91,9 +95,8 @@ fn popcnt_code(
 
 // ---- the zeros before the first one
 
-/// Counts the zeros of a register's low bits, as many as the type has, from the highest on or from the lowest, until one is a
-/// one: `step` counts the bits that are left, and `tmp` holds the next one.
-pub fn put_zeros(
+/// The zeros are counted, from the highest bit on or from the lowest, until one is a one.
+fn put_zeros(
     sink: &mut MachBuffer<LabelUse>,
     flags: IsaFlags,
     leading: bool,

@@ -15,7 +15,7 @@ mod shortest;
 mod words;
 
 pub use choices::{put_extend, put_select};
-pub use counts::{put_popcnt, put_zeros};
+pub use counts::put_computation;
 pub use expansions::{put_bytes, put_constant, put_load_over, put_trap, put_trap_if};
 pub use halves::{has_load, put_half_load, put_load_line, put_store_line};
 pub use memory::{
@@ -25,6 +25,5 @@ pub use memory::{
 pub use moves::put_move;
 pub use numbers::put_number;
 pub use probes::put_probe_loop;
-pub use reverse::put_reverse;
 pub use shortest::{put_ebreak, put_jalr, put_lui, put_rri, put_rrr};
 pub use words::{put_branch, put_jump, put_use, put_wide_jump, put_word};

@@ -1,59 +1,24 @@
 //! The code that reverses the bits of a register's bytes. Label 0 is the loop's, 1 the end's, 2 stands past the operation that sets a
 //! bit, 3 where the next bit goes on in its byte, and 4 where a turn ends.
 
-ghost use Rattle.std.specs.Prelude.{◌≡◌, [], ◌+◌, ◌-◌, ◌<◌, ◌^◌, length, pos, OnOk, OnErr, true};
+ghost use Rattle.std.specs.Prelude.{◌≡◌, [], ◌-◌, pos, true};
 ghost use Rattle.rv_base.specs.IrType.{bits_of};
-ghost use Rattle.rv_base.specs.LabelUse.{code_limit};
 ghost use Rattle.rv_base.specs.Regs.{number_of};
 ghost use Rattle.rv_base.specs.declared.condcodes.IntCC.TheVariants.{NotEqual};
 ghost use Rattle.rv_encode.specs.Registers.{IsIntRegister};
 ghost use Rattle.rv_inst.specs.Rules.{is_int_type};
-ghost use Rattle.mach_buffer.specs.Buffer.{bytes_of, allocated_of, spoiled_of};
-ghost use Rattle.rv_code.specs.Pieces.{slots_of};
-ghost use Rattle.rv_code.specs.Reversals.{reverse_pieces};
+ghost use Rattle.rv_code.specs.Sequences.{reverse_pieces};
 ghost use Rattle.rv_sequences.specs.Code.{code_most, pieces_of, AreSound, IsLabelled};
-ghost use Rattle.rv_sequences.specs.Emitted.{IsSoundBuffer};
-ghost use Rattle.rv_sequences.specs.Parts.{PutsAlone};
 
-use crate::code::{CodePiece, bind, branch, jump, put_code, rri, rrr};
+use crate::code::{CodePiece, bind, branch, jump, rri, rrr};
 use crate::counts::{bits, highest, is_zero_bit, less, none_left, width};
-use mach_buffer::MachBuffer;
-use rv_base::{
-    IntCC, IrType, IsaFlags, OutOfMemory, Reg, WritableReg, spilltmp_reg2, writable_spilltmp_reg2,
-    zero_reg,
-};
+use rv_base::{IntCC, IrType, Reg, WritableReg, spilltmp_reg2, writable_spilltmp_reg2, zero_reg};
 use rv_imms::Imm12;
-use rv_inst::LabelUse;
 use rv_ops::{AluOPRRI, AluOPRRR, IntegerCompare};
 
-/// Sets the bits of a register's low bytes in reverse order, as many as the type has, from the highest bit on: `step` counts the
-/// bits that are left, `tmp` holds the next one, and `tmp2` the one to which it goes.
-pub fn put_reverse(
-    sink: &mut MachBuffer<LabelUse>,
-    flags: IsaFlags,
-    rd: WritableReg,
-    tmp: WritableReg,
-    tmp2: WritableReg,
-    step: WritableReg,
-    rs: Reg,
-    ty: IrType,
-) -> Result<(), OutOfMemory>
-    requires rd { IsIntRegister rd.reg }
-    requires tmp { IsIntRegister tmp.reg }
-    requires tmp2 { IsIntRegister tmp2.reg }
-    requires step { IsIntRegister step.reg }
-    requires rs { IsIntRegister rs }
-    requires ty { is_int_type ty ≡ true }
-    requires few { allocated_of sink.old < 2 ^ 29 }
-    requires room { length (bytes_of sink.old) + 80 < code_limit }
-    requires sound { IsSoundBuffer sink.old }
-    ensures slots { OnOk result (PutsAlone flags (slots_of flags (reverse_pieces (number_of rd.reg) (number_of tmp.reg) (number_of tmp2.reg) (number_of step.reg) (number_of rs) (bits_of ty))) sink.old sink.new) }
-    ensures refused { OnErr result (spoiled_of sink.new ≡ true) }
-{
-    put_code(sink, flags, &reverse_code(rd, tmp, tmp2, step, rs, ty))
-}
-
-fn reverse_code(
+/// The bits of a register's low bytes are set in reverse order, from the highest bit on: `step` counts the bits that are left, `tmp`
+/// holds the next one, and `tmp2` the one to which it goes.
+pub(crate) fn reverse_code(
     rd: WritableReg,
     tmp: WritableReg,
     tmp2: WritableReg,

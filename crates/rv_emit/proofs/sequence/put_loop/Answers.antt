@@ -1,14 +1,22 @@
-use Rattle.rv_emit.proofs.{StackMaps.put_as, Terms.sym, Terms.ap, Terms.◌∙◌, Terms.Popcnt, Terms.Cltz, Terms.Brev8, Terms.EmitsAnyhow}
+use Rattle.{std.specs.Prelude.IfSome, std.specs.Prelude.Some, std.specs.Prelude.List, std.proofs.Common.rules, std.proofs.Common.◌≡◌, std.proofs.Common.refl, std.proofs.Common.subst}
+use Rattle.rv_emit.proofs.{StackMaps.put_as, Terms.sym, Terms.◌∙◌, Terms.arith, Terms.Context, Terms.EmitVState, Terms.EmitsAnyhow, Terms.Inst, Terms.Nop0, Terms.PutsParts, Terms.parts_of, Terms.slots_alone, Terms.slots_of, Terms.context_by}
+use Rattle.{rv_base.specs.declared.constant.Constant.Constant, rv_inst.specs.Descriptions.sequence_of, rv_inst.specs.declared.sequence.Sequence.Sequence, rv_code.specs.Sequences.sequence_pieces, rv_code.specs.Usable.IsFine, rv_code.specs.Usable.IsFineSequence}
 use Rattle.rv_emit.proofs.sequence.put_loop.Goals as goal
 
-pub returns-in-Popcnt-clause-parts : goal.returns-in-Popcnt-clause-parts
-returns-in-Popcnt-clause-parts c = λ family. put_as _ (λ i. EmitsAnyhow c.args.flags i c.args.sink.now c.put_popcnt.new.sink) (c.in-Popcnt.is ∙ sym (ap Popcnt c.as_ref-info.ensures)) (λ p frame constants setting. p) c.put_popcnt.ensures.slots
+sequence_fine : (constants : List Constant) (inst : Inst) → IsFine constants inst → IfSome (sequence_of inst) (λ (s : Sequence). IsFineSequence s)
+sequence_fine constants Nop0 h = tt
+sequence_fine constants inst h = search rules
 
-pub returns-in-Cltz-clause-parts : goal.returns-in-Cltz-clause-parts
-returns-in-Cltz-clause-parts c = λ family. put_as _ (λ i. EmitsAnyhow c.args.flags i c.args.sink.now c.put_zeros.new.sink) (c.in-Cltz.is ∙ sym (ap (Cltz c.in-Cltz.leading) c.as_ref-info-in-Cltz.ensures)) (λ p frame constants setting. p) c.put_zeros.ensures.slots
-
-pub returns-in-Brev8-clause-parts : goal.returns-in-Brev8-clause-parts
-returns-in-Brev8-clause-parts c = λ family. put_as _ (λ i. EmitsAnyhow c.args.flags i c.args.sink.now c.put_reverse.new.sink) (c.in-Brev8.is ∙ sym (ap Brev8 c.as_ref-info-in-Brev8.ensures)) (λ p frame constants setting. p) c.put_reverse.ensures.slots
+sequence_parts : (context : Context) (setting : EmitVState) (inst : Inst) (s : Sequence) → sequence_of inst ≡ Some s → slots_alone (slots_of context.flags (sequence_pieces s)) ≡ parts_of context setting inst
+sequence_parts context setting Nop0 s e = absurd (cc)
+sequence_parts context setting inst s e = cc
 
 pub returns-in-StackProbeLoop-clause-parts : goal.returns-in-StackProbeLoop-clause-parts
 returns-in-StackProbeLoop-clause-parts c = λ family. put_as _ (λ i. EmitsAnyhow c.args.flags i c.args.sink.now c.put_probe_loop.new.sink) c.in-StackProbeLoop.is (λ p frame constants setting. p) c.put_probe_loop.ensures.slots
+
+pub put_computation-requires : goal.put_computation-requires
+put_computation-requires c = record { fine = subst (λ o. IfSome o (λ (s : Sequence). IsFineSequence s)) (sym c.sequence.ensures ∙ c.in-Some.is) (sequence_fine _ _ c.requires.fine); few = c.requires.few; room = omega (arith, c.requires.room); sound = c.requires.sound }
+
+pub returns-in-Some-clause-parts : goal.returns-in-Some-clause-parts
+returns-in-Some-clause-parts c = λ family. put_as {inst = c.args.inst.now} c.put_computation.result (λ i. EmitsAnyhow c.args.flags i c.args.sink.now c.put_computation.new.sink) refl
+    (λ p frame constants setting. subst (λ parts. PutsParts c.args.flags parts c.args.sink.now c.put_computation.new.sink) (sequence_parts (context_by c.args.flags frame constants) setting c.args.inst.now c.in-Some.sequence (sym c.sequence.ensures ∙ c.in-Some.is)) p) c.put_computation.ensures.slots

@@ -1,4 +1,4 @@
-use Rattle.rv_emit.proofs.Terms.{true, false, sym, ◌∙◌, w64, to_z-of_z, on_ok_weaker, real_number}
+use Rattle.rv_emit.proofs.Terms.{sym, ◌∙◌, w64, to_z-of_z, on_ok_weaker, real_number}
 use Rattle.rv_emit.proofs.stack.put_stack_load.Goals as goal
 
 pub returns-then-has_load-clause-slots : goal.returns-then-has_load-clause-slots

@@ -1,4 +1,4 @@
-use Rattle.{rv_emit.proofs.{Islands.room_left, TailCallCode.real_int, TailCallCode.tail_put}, rv_emit.proofs.Terms.{◌+◌, ◌*◌, [], ◌∷◌, length, arith, no_flags, Notes, real_number, alone_long, alone_sound, return_most}}
+use Rattle.{rv_emit.proofs.{Islands.room_left, TailCallCode.real_int, TailCallCode.tail_put}, rv_emit.proofs.Terms.{◌+◌, ◌*◌, [], ◌∷◌, length, arith, no_flags, Records, real_number, alone_long, alone_sound, return_most}}
 use Rattle.mach_records.specs.declared.records.Event.TheVariants as event
 use Rattle.rv_emit.proofs.stack.put_tail_call.Goals as goal
 
@@ -13,7 +13,7 @@ put_call_to-requires c =
     record {
       link = real_int _ _ c.writable_zero_reg.ensures;
       tmp = real_int _ _ c.writable_spilltmp_reg.ensures;
-      room = omega (arith, room_left (c.in_ok-size.size + 8) (32 * length c.args.frame.now.clobbered_callee_saves + 96) c.args.sink.now c.emit_island_if_needed.new.sink c.in_ok-emit_island_if_needed.field-0 (omega (arith, c.requires.room)) island, alone_long {flags = no_flags} (Notes event.CallSite ∷ []) c.put_return.new.sink c.put_call_site.new.sink (c.in_ok-put_call_site.ensures.slots no_flags));
+      room = omega (arith, room_left (c.in_ok-size.size + 8) (32 * length c.args.frame.now.clobbered_callee_saves + 96) c.args.sink.now c.emit_island_if_needed.new.sink c.in_ok-emit_island_if_needed.field-0 (omega (arith, c.requires.room)) island, alone_long {flags = no_flags} (Records event.CallSite ∷ []) c.put_return.new.sink c.put_call_site.new.sink (c.in_ok-put_call_site.ensures.slots no_flags));
       sound = alone_sound {flags = no_flags} _ _ _ (c.in_ok-put_call_site.ensures.slots no_flags);
     }
 

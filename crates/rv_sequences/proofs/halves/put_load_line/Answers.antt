@@ -1,4 +1,4 @@
-use Rattle.rv_sequences.proofs.Terms.{true, false, sym, ◌∙◌}
+use Rattle.rv_sequences.proofs.Terms.{sym, ◌∙◌}
 use Rattle.rv_sequences.proofs.halves.put_load_line.Goals as goal
 
 pub returns-then-has_load-clause-slots : goal.returns-then-has_load-clause-slots

@@ -1,6 +1,6 @@
--- What holds of every instruction that is one word of a unit, since all tables over instructions go by that word.
+-- What holds of every instruction that is one word of a unit, or a sequence, since all tables over instructions go by its description.
 use Rattle.std.proofs.Common.{◌≡◌, false, List, [], ◌∷◌, Some, refl, ap}
-use Rattle.std.specs.Prelude.{◌||◌}
+use Rattle.std.specs.Prelude.{◌||◌, option_map}
 use Rattle.std.specs.List.{list_any}
 use Rattle.rv_inst.specs.Context.{Context}
 use Rattle.rv_inst.specs.Core.{is_integer_family}
@@ -11,11 +11,12 @@ use Rattle.rv_inst.specs.RegisterTests.{place_test, test_of}
 use Rattle.rv_inst.specs.Faults.{is_misplaced}
 use Rattle.rv_inst.specs.Rules.{faults_of, unit_faults}
 use Rattle.rv_inst.specs.Sizes.{inst_code, unit_code}
-use Rattle.rv_inst.specs.UnitWords.{UnitWord, all_replaced, given, places_in, registers_in, unit_regs, unit_word, with_registers}
+use Rattle.rv_inst.specs.Descriptions.{UnitWord, all_replaced, given, places_in, registers_in, replaced_by, sequence_of, unit_regs, unit_word, with_registers, with_sequence}
 use Rattle.rv_inst.specs.declared.inst.Family.TheVariants.{Float}
 use Rattle.rv_inst.specs.declared.inst.Inst.{Inst}
 use Rattle.rv_inst.specs.declared.inst.Inst.TheVariants.{Nop0}
 use Rattle.rv_inst.specs.declared.registers.RegisterTest.{RegisterTest}
+use Rattle.rv_inst.specs.declared.sequence.Sequence.{Sequence}
 use Rattle.rv_inst.specs.declared.units.PlacedReg.{PlacedReg}
 use Rattle.rv_inst.specs.declared.units.PlaceTest.TheVariants.{Register, OutOfPlace}
 use Rattle.rv_inst.specs.declared.units.UnitRegs.{UnitRegs}
@@ -61,3 +62,13 @@ registers_after inst registers = cc
 pub family_after : (inst : Inst) (registers : UnitRegs) → family_of (with_registers inst registers) ≡ family_of inst
 family_after Nop0 registers = refl
 family_after inst registers = cc
+
+-- ---- sequences
+
+pub own_sequence : (inst : Inst) (s : Sequence) → sequence_of inst ≡ Some s → with_sequence inst s ≡ inst
+own_sequence Nop0 s e = refl
+own_sequence inst s e = cc
+
+pub sequence_after : (inst : Inst) (other : Sequence) → sequence_of (with_sequence inst other) ≡ option_map (replaced_by other) (sequence_of inst)
+sequence_after Nop0 other = refl
+sequence_after inst other = cc
