@@ -19,7 +19,7 @@ use crate::returns::add_return;
 use mach_buffer::MachBuffer;
 use rv_base::{Constant, FrameLayout, IsaFlags, List, OutOfMemory};
 use rv_emit::{EmitInfo, EmitState, MachInstEmitState};
-use rv_inst::{Code, EmitError, LabelUse, Line};
+use rv_inst::{Code, Context, EmitError, LabelUse, Line};
 use std::alloc::Global;
 
 /// The code of a listing, which runs as its lines say on a machine with these flags. With `has_zca` an instruction that has a
@@ -39,7 +39,12 @@ pub fn assemble(
     ensures ranges { IfOk result CodeFits }
     ensures refused { Finds (refusal (job_of lines.now flags frame.now constants.now)) result }
 {
-    refuse(alloc, lines, flags, frame, constants)?;
+    let context = Context {
+        flags,
+        frame,
+        constants,
+    };
+    refuse(alloc, lines, &context)?;
     match build(alloc, lines, flags, frame, constants) {
         Ok(code) => {
             code_fits(&code);

@@ -2,8 +2,8 @@
 
 ghost use Rattle.std.specs.List.{AllByRecursion};
 ghost use Rattle.std.specs.Prelude.{◌<◌, ◌^◌};
-ghost use Rattle.rv_listing.specs.CodeRanges.{SpanFits, ReturnFits, LabelFits, ConstFits, RelocFits, TargetFits, TrapFits, CallFits, FrameFits, HandlerFits, TryFits, PatchFits, EntryFits, MapFits, StepFits, UnwindFits, CodeFits};
-ghost use Rattle.rv_asm.specs.SavedRegisters.{SavesReal, StepSaves};
+ghost use Rattle.rv_listing.specs.CodeRanges.{SpanFits, ReturnFits, LabelFits, ConstFits, RelocFits, TargetFits, TrapFits, CallFits, FrameFits, HandlerFits, TryFits, PatchFits, EntryFits, MapFits, UnwindFits, CodeFits};
+ghost use Rattle.rv_asm.specs.SavedRegisters.{SavesReal, StepRanged, UnwindRanged};
 
 use mach_buffer::FinalizedRelocTarget;
 use rv_base::{IrType, UnwindInst};
@@ -12,195 +12,99 @@ use rv_inst::{
     MachPatchable, MachReloc, MachStackMap, MachTrap, MachTryCallSite, MachUnwind,
 };
 
+/// A type of whose values it is known what its numbers' types say.
+trait Ranged {
+    ghost fits: { Self → Type 0 };
+
+    fn known(&self)
+        ensures { fits self.now };
+}
+
 /// The numbers of a code are in the ranges of their types, and saved registers are the machine's.
 pub(crate) fn code_fits(code: &Code)
     requires saved { AllByRecursion SavesReal code.now.unwinds }
     ensures { CodeFits code.now }
 {
     bytes_fit(code.bytes.as_slice());
-    spans_fit(code.lines.as_slice());
-    returns_fit(code.returns.as_slice());
-    labels_fit(code.labels.as_slice());
-    constants_fit(code.constants.as_slice());
-    relocs_fit(code.relocs.as_slice());
-    traps_fit(code.traps.as_slice());
-    call_sites_fit(code.call_sites.as_slice());
-    tries_fit(code.try_call_sites.as_slice());
-    patches_fit(code.patchable_call_sites.as_slice());
-    maps_fit(code.stack_maps.as_slice());
+    all_known(code.lines.as_slice());
+    all_known(code.returns.as_slice());
+    all_known(code.labels.as_slice());
+    all_known(code.constants.as_slice());
+    all_known(code.relocs.as_slice());
+    all_known(code.traps.as_slice());
+    offsets_fit(code.call_sites.as_slice());
+    all_known(code.try_call_sites.as_slice());
+    all_known(code.patchable_call_sites.as_slice());
+    all_known(code.stack_maps.as_slice());
     unwinds_fit(code.unwinds.as_slice());
     offset_fits(code.end);
 }
 
-fn offset_fits(offset: u32)
-    ensures { offset < 2 ^ 32 }
-{}
+fn all_known<T: Ranged>(items: &[T])
+    ensures { AllByRecursion T.fits items.now }
+{
+    for item in items {
+        item.known();
+    }
+}
 
 fn bytes_fit(bytes: &[u8])
     ensures { AllByRecursion (λ b. b < 256) bytes.now }
 {}
 
-fn spans_fit(spans: &[LineSpan])
-    ensures { AllByRecursion SpanFits spans.now }
-{
-    for span in spans {
-        span_fits(*span);
-    }
-}
-
-fn span_fits(span: LineSpan)
-    ensures { SpanFits span }
+fn offsets_fit(offsets: &[u32])
+    ensures { AllByRecursion CallFits offsets.now }
 {}
 
-fn returns_fit(returns: &[CallReturn])
-    ensures { AllByRecursion ReturnFits returns.now }
-{
-    for place in returns {
-        return_fits(*place);
-    }
-}
-
-fn return_fits(place: CallReturn)
-    ensures { ReturnFits place }
+fn offset_fits(offset: u32)
+    ensures { offset < 2 ^ 32 }
 {}
 
-fn labels_fit(labels: &[LabelPlace])
-    ensures { AllByRecursion LabelFits labels.now }
-{
-    for label in labels {
-        label_fits(*label);
+impl Ranged for LineSpan {
+    ghost fits = { SpanFits };
+
+    fn known(&self) {
+        let _index = self.index;
+        let _start = self.start;
+        let _end = self.end;
     }
 }
 
-fn label_fits(label: LabelPlace)
-    ensures { LabelFits label }
-{}
+impl Ranged for CallReturn {
+    ghost fits = { ReturnFits };
 
-fn constants_fit(constants: &[ConstPlace])
-    ensures { AllByRecursion ConstFits constants.now }
-{
-    for constant in constants {
-        constant_fits(*constant);
+    fn known(&self) {
+        let _index = self.index;
+        let _offset = self.offset;
     }
 }
 
-fn constant_fits(constant: ConstPlace)
-    ensures { ConstFits constant }
-{}
+impl Ranged for LabelPlace {
+    ghost fits = { LabelFits };
 
-fn traps_fit(traps: &[MachTrap])
-    ensures { AllByRecursion TrapFits traps.now }
-{
-    for trap in traps {
-        trap_fits(*trap);
+    fn known(&self) {
+        let _label = self.label.number;
+        let _offset = self.offset;
     }
 }
 
-fn trap_fits(trap: MachTrap)
-    ensures { TrapFits trap }
-{}
+impl Ranged for ConstPlace {
+    ghost fits = { ConstFits };
 
-fn call_sites_fit(call_sites: &[u32])
-    ensures { AllByRecursion CallFits call_sites.now }
-{
-    for call_site in call_sites {
-        offset_fits(*call_site);
+    fn known(&self) {
+        let _constant = self.constant.number;
+        let _offset = self.offset;
     }
 }
 
-fn tries_fit(tries: &[MachTryCallSite])
-    ensures { AllByRecursion TryFits tries.now }
-{
-    for site in tries {
-        try_fits(site);
+impl Ranged for MachReloc {
+    ghost fits = { RelocFits };
+
+    fn known(&self) {
+        let _offset = self.offset;
+        let _addend = self.addend;
+        target_fits(self.target);
     }
-}
-
-fn try_fits(site: &MachTryCallSite)
-    ensures { TryFits site.now }
-{
-    offset_fits(site.offset);
-    frame_fits(site.frame_offset);
-    handlers_fit(site.handlers.as_slice());
-}
-
-fn frame_fits(offset: Option<u32>)
-    ensures { FrameFits offset }
-{
-    match offset {
-        None => {}
-        Some(offset) => offset_fits(offset),
-    }
-}
-
-fn handlers_fit(handlers: &[FinalizedMachExceptionHandler])
-    ensures { AllByRecursion HandlerFits handlers.now }
-{
-    for handler in handlers {
-        handler_fits(*handler);
-    }
-}
-
-fn handler_fits(handler: FinalizedMachExceptionHandler)
-    ensures { HandlerFits handler }
-{
-    match handler {
-        FinalizedMachExceptionHandler::Tag(tag, offset) => {
-            offset_fits(tag);
-            offset_fits(offset);
-        }
-        FinalizedMachExceptionHandler::Default(offset) => offset_fits(offset),
-    }
-}
-
-fn maps_fit(maps: &[MachStackMap])
-    ensures { AllByRecursion MapFits maps.now }
-{
-    for map in maps {
-        map_fits(map);
-    }
-}
-
-fn map_fits(map: &MachStackMap)
-    ensures { MapFits map.now }
-{
-    offset_fits(map.offset);
-    offset_fits(map.span);
-    entries_fit(map.map.entries.as_slice());
-}
-
-fn entries_fit(entries: &[(IrType, u32)])
-    ensures { AllByRecursion EntryFits entries.now }
-{
-    for entry in entries {
-        offset_fits(entry.1);
-    }
-}
-
-fn patches_fit(patches: &[MachPatchable])
-    ensures { AllByRecursion PatchFits patches.now }
-{
-    for patch in patches {
-        patch_fits(*patch);
-    }
-}
-
-fn patch_fits(patch: MachPatchable)
-    ensures { PatchFits patch }
-{}
-
-fn relocs_fit(relocs: &[MachReloc])
-    ensures { AllByRecursion RelocFits relocs.now }
-{
-    for reloc in relocs {
-        reloc_fits(*reloc);
-    }
-}
-
-fn reloc_fits(reloc: MachReloc)
-    ensures { RelocFits reloc }
-{
-    target_fits(reloc.target);
 }
 
 fn target_fits(target: FinalizedRelocTarget)
@@ -212,25 +116,92 @@ fn target_fits(target: FinalizedRelocTarget)
     }
 }
 
+impl Ranged for MachTrap {
+    ghost fits = { TrapFits };
+
+    fn known(&self) {
+        let _offset = self.offset;
+    }
+}
+
+impl Ranged for MachTryCallSite {
+    ghost fits = { TryFits };
+
+    fn known(&self) {
+        let _offset = self.offset;
+        frame_fits(self.frame_offset);
+        all_known(self.handlers.as_slice());
+    }
+}
+
+fn frame_fits(offset: Option<u32>)
+    ensures { FrameFits offset }
+{
+    match offset {
+        None => {}
+        Some(offset) => offset_fits(offset),
+    }
+}
+
+impl Ranged for FinalizedMachExceptionHandler {
+    ghost fits = { HandlerFits };
+
+    fn known(&self) {
+        match *self {
+            FinalizedMachExceptionHandler::Tag(tag, offset) => {
+                offset_fits(tag);
+                offset_fits(offset);
+            }
+            FinalizedMachExceptionHandler::Default(offset) => offset_fits(offset),
+        }
+    }
+}
+
+impl Ranged for MachStackMap {
+    ghost fits = { MapFits };
+
+    fn known(&self) {
+        let _offset = self.offset;
+        let _span = self.span;
+        all_known(self.map.entries.as_slice());
+    }
+}
+
+impl Ranged for (IrType, u32) {
+    ghost fits = { EntryFits };
+
+    fn known(&self) {
+        let _offset = self.1;
+    }
+}
+
+impl Ranged for MachPatchable {
+    ghost fits = { PatchFits };
+
+    fn known(&self) {
+        let _offset = self.offset;
+        let _len = self.len;
+    }
+}
+
 fn unwinds_fit(unwinds: &[MachUnwind])
     requires { AllByRecursion SavesReal unwinds.now }
     ensures { AllByRecursion UnwindFits unwinds.now }
 {
-    for unwind in unwinds {
-        unwind_fits(*unwind);
+    all_known(unwinds);
+}
+
+impl Ranged for MachUnwind {
+    ghost fits = { UnwindRanged };
+
+    fn known(&self) {
+        let _offset = self.offset;
+        step_fits(self.inst);
     }
 }
 
-fn unwind_fits(unwind: MachUnwind)
-    requires { SavesReal unwind }
-    ensures { UnwindFits unwind }
-{
-    step_fits(unwind.inst);
-}
-
 fn step_fits(inst: UnwindInst)
-    requires { StepSaves inst }
-    ensures { StepFits inst }
+    ensures { StepRanged inst }
 {
     match inst {
         UnwindInst::PushFrameRegs {

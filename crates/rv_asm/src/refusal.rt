@@ -7,49 +7,38 @@ ghost use Rattle.std.specs.List.{list_any};
 ghost use Rattle.rv_inst.specs.Operands.{handler_label as label_of_handler, named_labels, inst_labels, labels_of, target_labels, targets_of, try_labels};
 ghost use Rattle.rv_inst.specs.Context.{context_by};
 ghost use Rattle.rv_asm.specs.Refusal.{is_unfit, size_limit, is_bound, broken_from, binds, twice_of, twice_in, twice_from, unbound_among, unbound_in, constants_sum, lines_sum, size_sum, lines_refusal, refusal, Finds};
-ghost use Rattle.rv_asm.specs.Job.{job_of};
+ghost use Rattle.rv_asm.specs.Job.{job_in};
 ghost use Rattle.rv_asm.specs.BoundLabels.{is_in};
 
 use crate::survey::survey;
 use mach_labels::LabelTable;
-use rv_base::{Constant, FrameLayout, IsaFlags, MachLabel, TryCallHandler, TryCallInfo};
+use rv_base::{Constant, FrameLayout, MachLabel, TryCallHandler, TryCallInfo};
 use rv_inst::{
-    CondBrTarget, EmitError, Inst, Line, Targets, handler_label, is_bad_frame, is_unrestorable_for,
+    CondBrTarget, Context, EmitError, Inst, Line, Targets, handler_label, is_bad_frame,
+    is_unrestorable_for,
 };
 use std::alloc::Global;
 
 /// Refuses a job for its first cause, where it has one. One pass over the lines tells of nearly every job that it has no cause
 /// but labels that aren't bound; of the others each cause is looked for, in their order.
-pub fn refuse(
-    alloc: Global,
-    lines: &[Line],
-    flags: IsaFlags,
-    frame: &FrameLayout,
-    constants: &[Constant],
-) -> Result<(), EmitError>
-    ensures { Finds (refusal (job_of lines.now flags frame.now constants.now)) result }
+pub fn refuse(alloc: Global, lines: &[Line], context: &Context<'_>) -> Result<(), EmitError>
+    ensures { Finds (refusal (job_in lines.now context.now)) result }
 {
-    match survey(alloc, lines, flags, frame, constants) {
+    match survey(alloc, lines, context) {
         Some(bound) => find_all(&bound, lines),
-        None => refuse_in_order(alloc, lines, flags, frame, constants),
+        None => refuse_in_order(alloc, lines, context),
     }
 }
 
 /// The same, looking for each cause by itself.
 #[tactic(auto, unfolding(crate::specs::Refusal::refusal))]
-fn refuse_in_order(
-    alloc: Global,
-    lines: &[Line],
-    flags: IsaFlags,
-    frame: &FrameLayout,
-    constants: &[Constant],
-) -> Result<(), EmitError>
-    ensures { Finds (refusal (job_of lines.now flags frame.now constants.now)) result }
+fn refuse_in_order(alloc: Global, lines: &[Line], context: &Context<'_>) -> Result<(), EmitError>
+    ensures { Finds (refusal (job_in lines.now context.now)) result }
 {
-    if is_bad_frame(frame) || any_is_unfit(lines, frame) {
+    if is_bad_frame(context.frame) || any_is_unfit(lines, context.frame) {
         return Err(EmitError::BadFrame);
     }
-    refuse_lines(alloc, lines, flags, frame, constants)
+    refuse_lines(alloc, lines, context)
 }
 
 /// Returns whether one of the lines is a tail call that can't restore the frame.
@@ -71,35 +60,24 @@ pub fn is_unfit(line: &Line, frame: &FrameLayout) -> bool
 
 /// Refuses lines for their first cause, where they have one.
 #[tactic(auto, unfolding(crate::specs::Refusal::lines_refusal))]
-fn refuse_lines(
-    alloc: Global,
-    lines: &[Line],
-    flags: IsaFlags,
-    frame: &FrameLayout,
-    constants: &[Constant],
-) -> Result<(), EmitError>
-    ensures { Finds (lines_refusal (context_by flags frame.now constants.now) lines.now) result }
+fn refuse_lines(alloc: Global, lines: &[Line], context: &Context<'_>) -> Result<(), EmitError>
+    ensures { Finds (lines_refusal context.now lines.now) result }
 {
-    check_rules(lines, flags, frame, constants)?;
+    check_rules(lines, context)?;
     let bound = bind_labels(alloc, lines)?;
     find_all(&bound, lines)?;
-    if is_too_large(lines, frame, constants) {
+    if is_too_large(lines, context) {
         return Err(EmitError::TooLarge);
     }
     Ok(())
 }
 
 /// Refuses the first line that breaks a rule.
-fn check_rules(
-    lines: &[Line],
-    flags: IsaFlags,
-    frame: &FrameLayout,
-    constants: &[Constant],
-) -> Result<(), EmitError>
-    ensures { Finds (broken_from (context_by flags frame.now constants.now) 0 lines.now) result }
+fn check_rules(lines: &[Line], context: &Context<'_>) -> Result<(), EmitError>
+    ensures { Finds (broken_from context.now 0 lines.now) result }
 {
     for (index, line) in lines.iter().enumerate() {
-        if let Some(rule) = line.check(flags, frame, constants) {
+        if let Some(rule) = line.check(context) {
             return Err(EmitError::Malformed { index, rule });
         }
     }
@@ -255,11 +233,11 @@ fn find_label(bound: &LabelTable<()>, label: MachLabel) -> Result<(), EmitError>
 const SIZE_LIMIT: u64 = 1 << 30;
 
 /// Returns whether the lines and the constants count for more bytes than they may.
-fn is_too_large(lines: &[Line], frame: &FrameLayout, constants: &[Constant]) -> bool
-    ensures { (flags : Flags) → result ≡ nat_lt size_limit (size_sum (context_by flags frame.now constants.now) lines.now) }
+fn is_too_large(lines: &[Line], context: &Context<'_>) -> bool
+    ensures { result ≡ nat_lt size_limit (size_sum context.now lines.now) }
 {
-    match left_by_constants(constants) {
-        Some(left) => count_for_more(lines, frame, left),
+    match left_by_constants(context.constants) {
+        Some(left) => count_for_more(lines, context.frame, left),
         None => true,
     }
 }

@@ -1,33 +1,26 @@
 //! One pass over the lines of a job, which tells of nearly every job that nothing is wrong but labels that aren't bound.
 
 ghost use Rattle.std.specs.Prelude.{◌≡◌, ◌+◌, true, IfSome};
-ghost use Rattle.rv_inst.specs.Context.{Context, context_by};
+ghost use Rattle.rv_inst.specs.Context.{Context as Shown};
 ghost use Rattle.rv_asm.specs.Survey.{IsPlainLine, IsPassed, IsSurveyed};
 
 use crate::refusal::{bind_label_of, is_unfit, left_by_constants};
 use mach_labels::{FIRST_INNER, LabelTable};
-use rv_base::{Constant, FrameLayout, IsaFlags};
-use rv_inst::{Line, is_bad_frame};
+use rv_inst::{Context, Line, is_bad_frame};
 use std::alloc::Global;
 
 /// The labels that the lines bind; none where there may be another cause to refuse the job than a label that isn't bound, or where
 /// memory ran out.
-pub fn survey(
-    alloc: Global,
-    lines: &[Line],
-    flags: IsaFlags,
-    frame: &FrameLayout,
-    constants: &[Constant],
-) -> Option<LabelTable<()>>
-    ensures { IfSome result (IsSurveyed (context_by flags frame.now constants.now) lines.now) }
+pub fn survey(alloc: Global, lines: &[Line], context: &Context<'_>) -> Option<LabelTable<()>>
+    ensures { IfSome result (IsSurveyed context.now lines.now) }
 {
-    if is_bad_frame(frame) {
+    if is_bad_frame(context.frame) {
         return None;
     }
-    let mut left = left_by_constants(constants)?;
+    let mut left = left_by_constants(context.constants)?;
     let mut bound = LabelTable::new(alloc);
     for line in lines {
-        left = left_after(line, flags, frame, constants, left)?;
+        left = left_after(line, context, left)?;
         let bind = bind_label_of(&mut bound, line);
         match bind {
             Ok(()) => {}
@@ -39,26 +32,20 @@ pub fn survey(
 
 /// How many of the bytes that are left a line leaves, where it breaks no rule and can restore the frame.
 #[inline(always)]
-fn left_after(
-    line: &Line,
-    flags: IsaFlags,
-    frame: &FrameLayout,
-    constants: &[Constant],
-    left: u64,
-) -> Option<u64>
-    ensures { IfSome result (IsPassed (context_by flags frame.now constants.now) line.now left) }
+fn left_after(line: &Line, context: &Context<'_>, left: u64) -> Option<u64>
+    ensures { IfSome result (IsPassed context.now line.now left) }
 {
     if is_plain(line) {
         left_of(left, 128)
     } else {
-        left_after_other(line, flags, frame, constants, left)
+        left_after_other(line, context, left)
     }
 }
 
 /// Returns whether a line is a plain instruction, or binds a label of the listing's own.
 #[inline(always)]
 fn is_plain(line: &Line) -> bool
-    ensures { (context : Context) → result ≡ true → IsPlainLine context line.now }
+    ensures { (context : Shown) → result ≡ true → IsPlainLine context line.now }
 {
     match line {
         Line::Inst(inst) => inst.is_plain(),
@@ -67,21 +54,15 @@ fn is_plain(line: &Line) -> bool
 }
 
 /// The same as `left_after`, for any line.
-fn left_after_other(
-    line: &Line,
-    flags: IsaFlags,
-    frame: &FrameLayout,
-    constants: &[Constant],
-    left: u64,
-) -> Option<u64>
-    ensures { IfSome result (IsPassed (context_by flags frame.now constants.now) line.now left) }
+fn left_after_other(line: &Line, context: &Context<'_>, left: u64) -> Option<u64>
+    ensures { IfSome result (IsPassed context.now line.now left) }
 {
-    if is_unfit(line, frame) {
+    if is_unfit(line, context.frame) {
         return None;
     }
-    match line.check(flags, frame, constants) {
+    match line.check(context) {
         Some(_) => None,
-        None => left_of(left, line.size_sum(frame)),
+        None => left_of(left, line.size_sum(context.frame)),
     }
 }
 

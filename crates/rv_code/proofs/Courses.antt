@@ -1,18 +1,15 @@
 -- Offsets, addresses and numbers that are computed in registers, and the way of a machine through a sequence.
+use Rattle.{rv_code.proofs.Registers.{are_values_set, reads_back, reads_other}, rv_code.proofs.Steps.{at_next, goes_at_least, goes_both, goes_none, goes_second, istep_here, iter_after, iter_one, lands, pc_in_code, step_at}, rv_code.proofs.Words.{Values, upper_of_distance, upper_part, w64, wrap}}
+use Rattle.{rv_code.specs.Evaluation.{AreShort, literal_value, symbol_value}, rv_code.specs.InstRuns.environment, rv_code.specs.Sites.symbol_address, rv_machine.specs.Steps.iter, std.proofs.Common.w32}
+use Rattle.rv_code.proofs.Words.{AddressOf, SlotOf, Symbol, Constant, Literal, NameAddress, Word32, Word64, cast_signed, extend_word, inline_size, label_slots, literal_size, literal_slot, literal_slots, lower_word, symbol_slots, upper_word}
 use Rattle.std.proofs.Common.{◌≡◌, ℕ, suc, ◌+◌, ◌-◌, ◌*◌, ◌/◌, ◌%◌, ◌^◌, ◌<◌, ◌≤◌, true, ℤ, pos, negsuc, ◌+ℤ◌, ◌-ℤ◌, arith, ap, ◌∙◌, ⊎_elim, ◌≢◌, Bool, false, List, [], ◌∷◌, ◌++◌, length, Some, refl, sym, subst, lit<, eqb-true, None, ◌==◌, lit≤, if◌then◌else◌, unwrap_or, slice_index, rules}
 use Rattle.rv_code.proofs.Words.{act, Add, Addi, address_at, address_slots, AimsFrom, Allocate, alu_rri, alu_rrr, AluOPRRI, AluOPRRR, and_parts, at, AtConstant, AtLabel, Base, Based, between, byte, BytesAt, cases_lt, CodeHas, constant_label, Decoded, decoded, decoded_addi, decoded_load, Environment}
-use Rattle.rv_machine.specs.Steps.{iter}
-use Rattle.rv_code.proofs.Words.{Goes, Here, istep, immediate_of, inline_slots, ints, is_beyond, is_near, is_splittable, IsaFlags, IsAt, IsState, jump_size, Label, load_bytes, load_op, load_over, load_result, LoadOP, Location, low32, low64, lower_of, lower_of_distance, lower_part}
+use Rattle.rv_code.proofs.Words.{Goes, Here, istep, immediate_of, ints, is_beyond, is_near, is_splittable, IsaFlags, IsAt, IsState, jump_size, Label, load_bytes, load_op, load_over, load_result, LoadOP, Location, low32, low64, lower_of, lower_of_distance, lower_part}
 use Rattle.rv_code.proofs.Words.{MachLabel, Memory, Names, nat_tests, Records, number_slots, offset_slots, Op, PCRelHi20, reg, Same, same_Some, set_reg, shift_limit, short_jump, short_lui, short_rri, short_rrr, signed, Site, size_of, Slot, slot_size, slots_of, StandsIn, State, to_le_bytes, upper_of}
-use Rattle.rv_code.proofs.Words.{upper_of_distance, upper_part, Values, w64, wrap}
-use Rattle.rv_base.specs.LabelUse.{code_limit}
 pub use Rattle.rv_inst.proofs.ImmediateSums.{IsRead, read_low, sum_of_parts, sum_of_negative, offset_sums, address_sums}
 pub use Rattle.rv_inst.proofs.Sequences.{set_twice, bits_back}
-use Rattle.rv_code.proofs.Steps.{lands, goes_both, goes_at_least, goes_none, goes_second, iter_one, iter_after, istep_here, pc_in_code, step_at, at_next}
 pub use Rattle.rv_code.proofs.LineSlots.{size_append, closed_even, offset_by, offsets, addresses, numbers, is_low, slots_by}
-use Rattle.rv_code.specs.InstRuns.{environment}
 use Rattle.rv_code.proofs.OperationActs.{IsIntegerLoad, rrr_acts, rri_acts, lui_acts, jump_acts, rrr_sized, rri_sized, lui_sized, jump_len, least_even, least_some, least_few, load_acts_wide, small_number, HasSize, rrr_fits}
-use Rattle.rv_code.proofs.Registers.{are_values_set, reads_back, reads_other}
 use Rattle.rv_ops.specs.declared.memory.LoadOP.TheVariants as loads
 use Rattle.rv_machine.specs.declared.ops.BaseOp.TheVariants as base
 
@@ -104,16 +101,16 @@ sets_then {site} {s = s} d k n x y f g lt fits even some is_state h long has act
     let next : IsState s1 = record { pc = omega arith; values = are_values_set s.values n x is_state.values lt fits } in
     subst (λ m. Sets site.context.flags m s n y) (sym long) (sets_both k d.len n x y g (sets_one d n y (set_at k n x (shorter (k + d.len) h (omega arith)) even) some has (acts s1 next ∙ ap (λ z. Some (at (wrap (s1.pc + d.len)) (set_reg s1.values n z))) same)))
 
--- in three steps
-pub record SetsInThree (flags : IsaFlags) (size : ℕ) (s : State) (n x : ℕ) : Type 0 where
-  pub ran : iter flags 3 s ≡ Some (at (wrap (s.pc + size)) (set_reg s.values n x))
+-- in exactly so many steps
+pub record SetsIn (count : ℕ) (flags : IsaFlags) (size : ℕ) (s : State) (n x : ℕ) : Type 0 where
+  pub ran : iter flags count s ≡ Some (at (wrap (s.pc + size)) (set_reg s.values n x))
 
-pub in_three : {flags : IsaFlags} {size n x : ℕ} {s : State} → SetsInThree flags size s n x → Sets flags size s n x
-in_three h = record { steps = 3; moved = lit≤ tt; ran = h.ran }
+pub in_steps : {count size n x : ℕ} {flags : IsaFlags} {s : State} → SetsIn count flags size s n x → Sets flags size s n x
+in_steps {count} h = record { steps = count; moved = omega arith; ran = h.ran }
 
 -- the auipc, the load of bytes that stand after the code, and the jump over them
 pub over_goes : {site : Site} {offset : ℕ} {s : State} (allocated rd size x : ℕ) (op : LoadOP) (bytes : List ℕ) → IsIntegerLoad op → 0 < rd → rd < 32 → size < 16 → length bytes ≡ size → ((mem : Memory) (a : ℕ) → BytesAt mem a bytes → load_result (load_op op) mem a ≡ x) → 0 < size → IsState s →
-    IsAt site offset (8 + jump_size site.context.flags + size) s → StandsIn site allocated offset (load_over site.context.flags rd op size) → BytesAt s.values.mem (site.base + (offset + 4 + 4 + (short_jump site.context.flags (pos (size + jump_size site.context.flags))).len)) bytes → SetsInThree site.context.flags (8 + jump_size site.context.flags + size) s rd x
+    IsAt site offset (8 + jump_size site.context.flags + size) s → StandsIn site allocated offset (load_over site.context.flags rd op size) → BytesAt s.values.mem (site.base + (offset + 4 + 4 + (short_jump site.context.flags (pos (size + jump_size site.context.flags))).len)) bytes → SetsIn 3 site.context.flags (8 + jump_size site.context.flags + size) s rd x
 over_goes {site} {offset} {s} allocated rd size x op bytes integer some lt little long reads filled is_state whole stands there =
     let flags = site.context.flags in
     let j = jump_size flags in
@@ -143,22 +140,35 @@ over_goes {site} {offset} {s} allocated rd size x op bytes integer some lt littl
     let third : istep flags s2 ≡ Some s3 = istep_here jump [] s3 h2 (omega arith) (subst (λ n. CodeHas site n (jump ∷ [])) (omega arith) stands.1.1.0) (jump_acts flags far s2 ∙ (λ i. Some (at (jumped i) s2.values))) in
     record { ran = iter_after flags 1 2 s s2 s3 (iter_after flags 1 1 s s1 s2 (iter_one flags s s1 first) (iter_one flags s1 s2 second)) (iter_one flags s2 s3 third) }
 
--- how long the code of an inline constant is
-pub inline_size : (flags : IsaFlags) (rd size : ℕ) (op : LoadOP) (bytes : List ℕ) → length bytes ≡ size → size_of (inline_slots flags rd op size bytes) ≡ 8 + jump_size flags + size
-inline_size flags rd size op bytes long = let jump = jump_len flags (pos (size + jump_size flags)) in omega arith
-
--- those bytes are a constant
-pub inline_goes : {site : Site} {offset : ℕ} {s : State} (allocated rd size x : ℕ) (op : LoadOP) (bytes : List ℕ) → IsIntegerLoad op → 0 < rd → rd < 32 → size < 16 → length bytes ≡ size → ((mem : Memory) (a : ℕ) → BytesAt mem a bytes → load_result (load_op op) mem a ≡ x) → 0 < size → IsState s →
-    IsAt site offset (size_of (inline_slots site.context.flags rd op size bytes)) s → StandsIn site allocated offset (inline_slots site.context.flags rd op size bytes) → SetsInThree site.context.flags (8 + jump_size site.context.flags + size) s rd x
-inline_goes {site} {offset} {s} allocated rd size x op bytes integer some lt little long reads filled is_state h stands =
-    let e = inline_size site.context.flags rd size op bytes long in
-    over_goes allocated rd size x op bytes integer some lt little long reads filled is_state (shorter (8 + jump_size site.context.flags + size) h (omega arith)) (stands.0, (stands.1.0, (stands.1.1.0, tt))) (stands.1.1.1.0 s.values.mem h.placed)
-
 -- eight bytes that stand in the memory, as a number
 pub eight_there : (mem : Memory) (a w : ℕ) → BytesAt mem a (to_le_bytes w64 w) → load_bytes mem a 8 ≡ wrap w
 eight_there mem a w there =
     let each : (k : ℕ) → k < 8 → byte mem (wrap (a + k)) ≡ slice_index (to_le_bytes w64 w) k = λ k lt. let e : wrap (a + k) ≡ a + k = omega arith in ap (byte mem) e ∙ there.there k lt in
     omega (arith, each 0 (lit< tt), each 1 (lit< tt), each 2 (lit< tt), each 3 (lit< tt), each 4 (lit< tt), each 5 (lit< tt), each 6 (lit< tt), each 7 (lit< tt))
+
+-- four bytes that stand in the memory, as a number
+four_there : (mem : Memory) (a w : ℕ) → w < 2 ^ 32 → BytesAt mem a (to_le_bytes w32 w) → load_bytes mem a 4 ≡ w
+four_there mem a w small at =
+    let each : (k : ℕ) → k < 4 → byte mem (wrap (a + k)) ≡ slice_index (to_le_bytes w32 w) k = λ k lt. let e : wrap (a + k) ≡ a + k = omega arith in ap (byte mem) e ∙ at.there k lt in
+    omega (arith, each 0 (lit< tt), each 1 (lit< tt), each 2 (lit< tt), each 3 (lit< tt))
+
+-- what stands among the code is loaded, and jumped over
+pub literal_long : (flags : IsaFlags) (rd : ℕ) (l : Literal) → size_of (literal_slots flags rd l) ≡ inline_size flags (literal_size l)
+literal_long flags rd l =
+    let jump = jump_len flags (pos (literal_size l + jump_size flags)) in
+    let bytes : slot_size (literal_slot l) ≡ literal_size l = elim l as (λ l. slot_size (literal_slot l) ≡ literal_size l) [ Word32 n ↦ refl | Word64 n ↦ refl | NameAddress name addend ↦ refl ] in
+    omega arith
+
+pub literal_goes : {site : Site} {offset : ℕ} {s : State} (first last allocated rd : ℕ) (l : Literal) → 0 < rd → rd < 32 → IsState s → IsAt site offset (inline_size site.context.flags (literal_size l)) s → StandsIn site allocated offset (literal_slots site.context.flags rd l) →
+    SetsIn 3 site.context.flags (inline_size site.context.flags (literal_size l)) s rd (literal_value (environment site first last) l)
+literal_goes {s = s} first last allocated rd (Word32 n) some lt is_state h stands =
+    over_goes allocated rd 4 (extend_word n) loads.Lw (to_le_bytes w32 (n % 2 ^ 32)) refl some lt (lit< tt) refl (λ mem a there. ap (λ m. low64 (cast_signed w32 m)) (four_there mem a (n % 2 ^ 32) (omega arith) there)) (lit< tt) is_state h (stands.0, (stands.1.0, (stands.1.1.0, tt))) (stands.1.1.1.0 s.values.mem h.placed)
+literal_goes {s = s} first last allocated rd (Word64 n) some lt is_state h stands =
+    over_goes allocated rd 8 (wrap n) loads.Ld (to_le_bytes w64 n) refl some lt (lit< tt) refl (λ mem a there. eight_there mem a n there) (lit< tt) is_state h (stands.0, (stands.1.0, (stands.1.1.0, tt))) (stands.1.1.1.0 s.values.mem h.placed)
+literal_goes {site} {s = s} first last allocated rd (NameAddress name addend) some lt is_state h stands =
+    let x = symbol_address site (AddressOf name addend) in
+    let whole : wrap x ≡ x = omega arith in
+    over_goes allocated rd 8 x loads.Ld (to_le_bytes w64 x) refl some lt (lit< tt) refl (λ mem a there. eight_there mem a x there ∙ whole) (lit< tt) is_state h (stands.0, (stands.1.0, (stands.1.1.0, tt))) (stands.1.1.1.0 s.values.mem h.placed)
 
 -- an offset is put into a register
 pub offset_goes : {site : Site} {offset : ℕ} {s : State} (allocated rd : ℕ) (o : ℤ) → 0 < rd → rd < 32 → IsState s → IsAt site offset (size_of (offset_slots site.context.flags rd o)) s → StandsIn site allocated offset (offset_slots site.context.flags rd o) → Sets site.context.flags (size_of (offset_slots site.context.flags rd o)) s rd (wrap (low64 o))
@@ -173,8 +183,9 @@ offset_goes {site} {offset} {s} allocated rd o some lt is_state =
     (λ fits none h stands. sets_alone allocated up rd u (wrap (low64 o)) up_size (omega (arith, offset_sums o fits, none)) (lui_acts flags rd (upper_of o) s is_state) h stands)
     (λ fits h stands. sets_then down up.len rd u (wrap (low64 o)) (λ v. wrap (reg v rd + low64 (lower_of o))) (sets_one up rd u h (omega (arith, up_size.some)) stands.0 (lui_acts flags rd (upper_of o) s is_state))
     lt (omega arith) up_size.even (omega (arith, down_size.some)) is_state h (omega arith) stands.1.0 (λ t is. rri_acts flags Addi rd rd (lower_of o) t refl is) ((λ i. wrap (reads_back s.values rd u is_state.values some lt i + low64 (lower_of o))) ∙ offset_sums o fits))
-    (λ far h stands. subst (λ n. Sets flags n s rd (wrap (low64 o))) (sym (inline_size flags rd 8 loads.Ld (to_le_bytes w64 (low64 o)) refl))
-    (in_three (inline_goes allocated rd 8 (wrap (low64 o)) loads.Ld (to_le_bytes w64 (low64 o)) refl some lt (lit< tt) refl (λ mem a there. eight_there mem a (low64 o) there) (lit< tt) is_state h stands)))
+    (λ far h stands.
+    let long : size_of (slots_of flags (Constant rd (Word64 (low64 o)) ∷ [])) ≡ inline_size flags 8 = literal_long flags rd (Word64 (low64 o)) in
+    subst (λ n. Sets flags n s rd (wrap (low64 o))) (sym long) (in_steps (literal_goes 0 0 allocated rd (Word64 (low64 o)) some lt is_state (shorter (inline_size flags 8) h (omega arith)) stands)))
 
 -- the slots of an address that counts from a register, by whether it is near
 abbrev based_slots : IsaFlags → ℕ → ℕ → ℤ → Bool → List Slot
@@ -207,11 +218,6 @@ label_address site l = wrap (site.base + unwrap_or (site.place l.number) 0)
 abbrev pub upper_sum : ℕ → ℕ → ℕ → ℕ
 upper_sum pc from to = wrap (pc + low64 (upper_of_distance (between from to)) * 2 ^ 12)
 
--- code that is short enough for every distance in it, and in which labels are bound
-pub record AreShort (site : Site) : Type 0 where
-  pub short : length site.bytes < code_limit
-  pub labels : (label at : ℕ) → site.place label ≡ Some at → at ≤ length site.bytes
-
 -- the first of two words, whatever the second one does
 pub upper_goes : {site : Site} {offset size allocated : ℕ} {s : State} (rd : ℕ) (l : MachLabel) → IsAt site offset size s → 0 < size → (a : AimsFrom site allocated offset PCRelHi20 (Label l) (λ d. decoded (Base base.Auipc) rd 0 0 (upper_of_distance d) ∷ [])) → Sets site.context.flags 4 s rd (upper_sum s.pc offset a.to)
 upper_goes {offset = offset} {s = s} rd l h some a = sets_one (decoded (Base base.Auipc) rd 0 0 (upper_of_distance (between offset a.to))) rd (upper_sum s.pc offset a.to) h some a.has refl
@@ -227,18 +233,45 @@ lower_sums {site} {offset} {s = s} rd l to to_next some lt bounds is_state h bou
     ∙ (λ i. wrap (upper_sum (h.pc i) offset to + low64 (lower_of_distance (next i))))
     ∙ parts_sum (wrap (site.base + offset)) (between offset to) (grind (arith, ints, nat_tests)) ∙ lands site.base offset to (omega arith) ∙ ap (λ o. wrap (site.base + unwrap_or o 0)) (sym bound)
 
-pub label_goes : {site : Site} {offset : ℕ} {s : State} (allocated rd : ℕ) (l : MachLabel) → 0 < rd → rd < 32 → AreShort site → IsState s → IsAt site offset 8 s → StandsIn site allocated offset (address_slots site.context.flags rd (AtLabel l)) → Sets site.context.flags 8 s rd (label_address site l)
+-- the first of two words leaves a number in a register, and the second makes another of it
+pair_goes : {site : Site} {offset : ℕ} {s : State} (rd x y : ℕ) (first second : Decoded) → IsAt site offset 8 s → CodeHas site offset (first ∷ []) → act first s ≡ Some (at (wrap (s.pc + 4)) (set_reg s.values rd y)) → CodeHas site (offset + 4) (second ∷ []) →
+    act second (at (wrap (s.pc + 4)) (set_reg s.values rd y)) ≡ Some (at (wrap (wrap (s.pc + 4) + 4)) (set_reg (set_reg s.values rd y) rd x)) → SetsIn 2 site.context.flags 8 s rd x
+pair_goes {site} {offset} {s} rd x y first second h has acts has_second acts_second =
+    let flags = site.context.flags in
+    let s1 = at (wrap (s.pc + 4)) (set_reg s.values rd y) in
+    let s2 = at (wrap (s.pc + 8)) (set_reg s.values rd x) in
+    let next : wrap (wrap (s.pc + 4) + 4) ≡ wrap (s.pc + 8) = omega arith in
+    let h1 : IsAt site offset 4 s = shorter 4 h (omega arith) in
+    let h2 : IsAt site (offset + 4) 4 s1 = set_at 4 rd y h refl in
+    record { ran = iter_after flags 1 1 s s1 s2 (iter_one flags s s1 (istep_here first [] s1 h1 (lit< tt) has acts)) (iter_one flags s1 s2 (istep_here second [] s2 h2 (lit< tt) has_second (acts_second ∙ (λ i. Some (at (next i) (set_twice s.values rd y x i)))))) }
+
+pub label_goes : {site : Site} {offset : ℕ} {s : State} (allocated rd : ℕ) (l : MachLabel) → 0 < rd → rd < 32 → AreShort site → IsState s → IsAt site offset 8 s → StandsIn site allocated offset (label_slots rd l) → SetsIn 2 site.context.flags 8 s rd (label_address site l)
 label_goes {site} {offset} {s} allocated rd l some lt bounds is_state h stands =
     let a = stands.0 in
     let b = stands.1.0 in
+    let y = upper_sum s.pc offset a.to in
     let z = lower_of_distance (between (offset + 4) b.to) in
-    sets_then (decoded_addi rd rd z) 4 rd (upper_sum s.pc offset a.to) (label_address site l) (λ v. wrap (reg v rd + low64 z)) (upper_goes rd l h (omega arith) a) lt (omega arith) refl (lit< tt) is_state h refl b.has (λ t is. refl)
-    (lower_sums rd l a.to b.to some lt bounds is_state h a.reaches.0 b.reaches.0)
+    let sum = lower_sums rd l a.to b.to some lt bounds is_state h a.reaches.0 b.reaches.0 in
+    pair_goes rd (label_address site l) y (upper_word rd (between offset a.to)) (decoded_addi rd rd z) h a.has refl b.has (λ i. Some (at (wrap (wrap (s.pc + 4) + 4)) (set_reg (set_reg s.values rd y) rd (sum i))))
+
+-- the address of a symbol by the distance to it, or what stands in its slot
+pub symbol_goes : {site : Site} {offset : ℕ} {s : State} (first last allocated rd : ℕ) (symbol : Symbol) → 0 < rd → rd < 32 → IsState s → IsAt site offset 8 s → StandsIn site allocated offset (symbol_slots rd symbol) → SetsIn 2 site.context.flags 8 s rd (symbol_value (environment site first last) symbol s.values.mem)
+symbol_goes {site} {offset} {s} first last allocated rd symbol some lt is_state h stands =
+    let f = stands.0 in
+    let y = wrap (s.pc + low64 (upper_of_distance f.distance) * 2 ^ 12) in
+    let w = set_reg s.values rd y in
+    let z = lower_of_distance (f.distance -ℤ pos 4) in
+    let over : wrap (wrap (site.base + offset) + low64 f.distance) ≡ wrap (site.base + offset + low64 f.distance) = omega arith in
+    let sum : wrap (reg w rd + low64 z) ≡ symbol_address site symbol = (λ i. wrap (reads_back s.values rd y is_state.values some lt i + low64 z)) ∙ parts_sum s.pc f.distance f.near ∙ (λ i. wrap (h.pc i + low64 f.distance)) ∙ over ∙ f.leads in
+    (elim symbol as (λ symbol. wrap (reg w rd + low64 z) ≡ symbol_address site symbol → CodeHas site (offset + 4) (lower_word symbol rd (f.distance -ℤ pos 4) ∷ []) → SetsIn 2 site.context.flags 8 s rd (symbol_value (environment site first last) symbol s.values.mem)) [
+      | AddressOf name addend ↦ λ sum has. pair_goes rd _ y (upper_word rd f.distance) (decoded_addi rd rd z) h f.has_upper refl has (λ i. Some (at (wrap (wrap (s.pc + 4) + 4)) (set_reg w rd (sum i))))
+      | SlotOf name ↦ λ sum has. pair_goes rd _ y (upper_word rd f.distance) (decoded_load loads.Ld rd rd z) h f.has_upper refl has (λ i. Some (at (wrap (wrap (s.pc + 4) + 4)) (set_reg w rd (load_result (load_op loads.Ld) s.values.mem (sum i)))))
+    ]) sum f.has_lower
 
 pub address_goes : {site : Site} {offset : ℕ} {s : State} (start after allocated rd : ℕ) (loc : Location) → 0 < rd → rd < 32 → IsApartAt rd loc → AreShort site → IsState s → IsAt site offset (size_of (address_slots site.context.flags rd loc)) s → StandsIn site allocated offset (address_slots site.context.flags rd loc) → Sets site.context.flags (size_of (address_slots site.context.flags rd loc)) s rd (address_at (environment site start after) s.values loc)
 address_goes start after allocated rd (Based r o) some lt apart bounds is_state h stands = based_goes allocated rd r o some lt (λ e. apart (sym e)) is_state h stands
-address_goes start after allocated rd (AtLabel l) some lt apart bounds is_state h stands = label_goes allocated rd l some lt bounds is_state h stands
-address_goes start after allocated rd (AtConstant k) some lt apart bounds is_state h stands = label_goes allocated rd (constant_label k) some lt bounds is_state h stands
+address_goes start after allocated rd (AtLabel l) some lt apart bounds is_state h stands = in_steps (label_goes allocated rd l some lt bounds is_state h stands)
+address_goes start after allocated rd (AtConstant k) some lt apart bounds is_state h stands = in_steps (label_goes allocated rd (constant_label k) some lt bounds is_state h stands)
 
 pub address_even : (flags : IsaFlags) (rd : ℕ) (loc : Location) → size_of (address_slots flags rd loc) % 2 ≡ 0
 address_even flags rd loc = closed_even (λ k. None) 0 (address_slots flags rd loc) ((addresses flags rd loc).closed _ 0)

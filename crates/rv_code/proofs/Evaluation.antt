@@ -1,16 +1,12 @@
 -- Where pieces stand, the machine does what their evaluation says.
-use Rattle.std.proofs.Common.{◌≡◌, ℕ, zero, suc, ◌+◌, ◌*◌, ◌%◌, ◌^◌, ◌<◌, ◌≤◌, ℤ, pos, Bool, true, false, nat_eq, [], ◌∷◌, List, length, Option, Some, None, arith, refl, sym, ap, subst, ◌∙◌, lit<, lit≤, eqb-true, if◌then◌else◌, rules}
-use Rattle.rv_code.proofs.Words.{act, Action, after, alu_result_fits, AreInRange, AreValues, at, between, Bind, Branch, branches, CodeHas, Constant, Copy, Decoded, Do, Equal, holds, IntCC, IsaFlags, IsInRange, IsPlacedAt, IsState, istep, Jump, jump_size, low64, New, op_of, own_label, Piece, piece_size, reg}
-use Rattle.rv_code.proofs.Words.{same_Some, set_reg, short_jump, Site, slots_of, StandsIn, State, store_bytes, store_op, to_le_bytes, Trap, trap_bytes, trap_size, Values, w64, wrap}
-use Rattle.rv_code.specs.Pieces.{Lui, Store}
-use Rattle.rv_inst.specs.Addresses.{inline_size}
-use Rattle.rv_ops.specs.declared.memory.LoadOP.TheVariants.{Ld}
-use Rattle.rv_code.specs.Evaluation.{Point, at as points, to, address, is_of_integers, effect, wrote, AllOutside, next, and_then, evaluate, steps_for, steps_on, steps_of, StandIn, IsAtPoint, ComesToPoint}
-use Rattle.rv_code.proofs.Courses.{eight_there, over_goes, shorter}
-use Rattle.rv_code.proofs.Steps.{istep_here, aims_at, iter_none, iter_one, iter_after}
-use Rattle.rv_code.proofs.OperationActs.{rrr_fits, HasSize, rrr_acts, rri_acts, lui_acts, rrr_sized, rri_sized, lui_sized, load_acts, load_sized, store_acts, store_sized, jump_acts, jump_len, window_long, least_even, least_some}
-use Rattle.rv_code.proofs.Registers.{are_values_set}
-use Rattle.rv_code.proofs.StackRuns.{placed_after, put_values, stored_bytes, load_fits}
+use Rattle.{rv_code.proofs.Courses.{SetsIn, label_goes, literal_goes, literal_long, shorter, stands_split, symbol_goes}, rv_code.proofs.Registers.are_values_set, rv_code.proofs.StackRuns.{load_fits, placed_after, put_values, stored_bytes}}
+use Rattle.{rv_code.proofs.Steps.{aims_at, istep_here, iter_after, iter_none, iter_one}, rv_code.proofs.Words.{IsAt, Site, StandsIn, State, Values, ints, load_op, same_Some, set_reg, short_jump, slots_of, store_bytes, store_op, trap_bytes, trap_size, wrap}, rv_code.specs.InstRuns.environment}
+use Rattle.{rv_code.specs.Pieces.{Lui, Store}, rv_code.specs.Slots.{AddressOf, SlotOf}, rv_inst.specs.Addresses.inline_size, rv_inst.specs.Meaning.Environment, rv_machine.specs.Steps.iter, rv_ops.specs.declared.memory.LoadOP.TheVariants.Ld}
+use Rattle.std.proofs.Common.{◌≡◌, ℕ, zero, suc, ◌+◌, ◌*◌, ◌%◌, ◌^◌, ◌<◌, ◌≤◌, ℤ, Bool, true, false, nat_eq, [], ◌∷◌, List, length, Option, Some, None, arith, refl, sym, ap, subst, ◌∙◌, lit<, lit≤, eqb-true, if◌then◌else◌, rules}
+use Rattle.rv_code.proofs.Words.{act, Action, after, alu_result_fits, AreInRange, AreValues, at, between, Bind, Branch, branches, CodeHas, Constant, Copy, Decoded, Do, Equal, holds, IntCC, IsaFlags, IsInRange, IsPlacedAt, IsState, istep, Jump, low64, New, op_of, own_label, Piece, piece_size, reg}
+use Rattle.rv_code.specs.Evaluation.{AreShort, distant_value, literal_value, symbol_value, Point, at as points, to, address, is_of_integers, effect, wrote, AllOutside, next, and_then, evaluate, steps_for, steps_on, steps_of, StandIn, IsAtPoint, ComesToPoint}
+use Rattle.rv_code.proofs.Words.{Distant, Literal, NameAddress, OfLabel, OfSymbol, Take, Word32, Word64, distant_slots, literal_slots, literal_size, size_of, slots_for}
+use Rattle.rv_code.proofs.OperationActs.{rrr_fits, HasSize, rrr_acts, rri_acts, lui_acts, rrr_sized, rri_sized, lui_sized, load_acts, load_sized, store_acts, store_sized, jump_acts, window_long, least_even, least_some}
 
 pub action_sized : (flags : IsaFlags) (a : Action) → HasSize (op_of flags a)
 action_sized flags (Copy width rd rs) = record { even = refl; some = lit< tt; few = lit≤ tt }
@@ -44,23 +40,34 @@ trap_long flags = elim flags.has_zca as (λ c. (if c then 2 else 4) ≡ length {
 
 pub piece_even : (flags : IsaFlags) (p : Piece) → piece_size flags p % 2 ≡ 0
 piece_even flags (Do a) = (action_sized flags a).even
+piece_even flags (Constant rd l) =
+    let bytes : literal_size l % 2 ≡ 0 = elim l as (λ l. literal_size l % 2 ≡ 0) [ Word32 n ↦ refl | _ ↦ refl ] in
+    omega (arith, least_even flags)
 piece_even flags _ = omega (arith, window_long flags, least_even flags, trap_long flags)
+
+-- how long the slots of a piece are
+pub slots_long : (flags : IsaFlags) (p : Piece) → size_of (slots_for flags p) ≡ piece_size flags p
+slots_long flags (Take rd (OfLabel l)) = refl
+slots_long flags (Constant rd l) = literal_long flags rd l
+slots_long flags (Take rd to) = refl
+slots_long flags p = omega (arith, trap_long flags)
 
 -- what stands after the first piece
 pub rest : {site : Site} {allocated start end : ℕ} (p : Piece) (ps : List Piece) → StandIn site allocated start end (p ∷ ps) → StandIn site allocated (start + piece_size site.context.flags p) end ps
 rest {site} {allocated} {start} {end} p ps k =
-    search (rules, arith, k, (by p k.stand), (piece_even site.context.flags p), (ranges p k.ranges))
+    search (
+      rules,
+      arith,
+      k,
+      (piece_even site.context.flags p),
+      (ranges p k.ranges),
+      (subst (λ n. StandsIn site allocated (start + n) (slots_of site.context.flags ps)) (slots_long site.context.flags p) (stands_split site allocated start (slots_for site.context.flags p) (slots_of site.context.flags ps) k.stand).1),
+    )
   where
-    by : (p : Piece) → StandsIn site allocated start (slots_of site.context.flags (p ∷ ps)) → StandsIn site allocated (start + piece_size site.context.flags p) (slots_of site.context.flags ps)
-    by New h = subst (λ n. StandsIn site allocated n (slots_of site.context.flags ps)) (omega arith) h
-    by (Bind j) h = subst (λ n. StandsIn site allocated n (slots_of site.context.flags ps)) (omega arith) h.1
-    by (Trap code) h = h.1.1
-    by (Constant rd n) h = subst (λ n. StandsIn site allocated n (slots_of site.context.flags ps)) (omega (arith, jump_len site.context.flags (pos (8 + jump_size site.context.flags)))) h.1.1.1.1
-    by _ h = h.1
-
     ranges : (p : Piece) → AreInRange (p ∷ ps) → AreInRange ps
     ranges (Do a) h = h.1
-    ranges (Constant rd n) h = h.1
+    ranges (Constant rd l) h = h.1
+    ranges (Take rd to) h = h.1
     ranges _ h = h
 
 -- where an own label is bound
@@ -129,23 +136,43 @@ leads {site} {allocated} {start} {end} {ps} {v} {m} {s} k whole q p d aim whole_
 passes : {site : Site} {allocated start end : ℕ} {ps : List Piece} {v : Values} {m : List (List ℕ)} {s : State} (p : Piece) → piece_size site.context.flags p ≡ 0 → IsAtPoint site allocated start end (points (p ∷ ps) v m) s → ComesToPoint 0 site allocated start end (points ps v m) s
 passes {site} {ps = ps} {m = m} {s = s} p none h = stays (stands_at s m (h.offset + piece_size site.context.flags p) (omega arith) h.here.placed (let pc = h.here.pc in omega arith) h.is_state.values h.values (rest p ps h.stand))
 
-pub one : {site : Site} {allocated start end : ℕ} (whole : List Piece) → StandIn site allocated start end whole → (ps : List Piece) (v : Values) (m : List (List ℕ)) (q : Point) (s : State) → next whole ps v m ≡ Some q → AllOutside site q.written → IsAtPoint site allocated start end (points ps v m) s → ComesToPoint (steps_for ps) site allocated start end q s
-one {site} {allocated} {start} {end} whole k (Do a ∷ ps) v m q s e out h =
+-- a register gets a number in so many steps
+sets_here : {site : Site} {allocated start end : ℕ} {ps : List Piece} {v w : Values} {m : List (List ℕ)} {s : State} (p : Piece) (rd x steps : ℕ) → iter site.context.flags steps s ≡ Some (at (wrap (s.pc + piece_size site.context.flags p)) (set_reg s.values rd x)) → x < 2 ^ 64 → rd < 32 → set_reg s.values rd x ≡ w → IsAtPoint site allocated start end (points (p ∷ ps) v m) s →
+    ComesToPoint steps site allocated start end (points ps w m) s
+sets_here {site} {ps = ps} {s = s} p rd x steps ran fits lt same h =
+    let size = piece_size site.context.flags p in
+    let t = at (wrap (s.pc + size)) (set_reg s.values rd x) in
+    record { state = t; steps = steps; few = omega arith; ran = ran; there = stands_at t _ (h.offset + size) (omega arith) h.here.placed (let pc = h.here.pc in omega arith) (are_values_set s.values rd x h.is_state.values lt fits) same (rest p ps h.stand) }
+
+pub literal_fits : (env : Environment) (l : Literal) → literal_value env l < 2 ^ 64
+literal_fits env l = elim l as (λ l. literal_value env l < 2 ^ 64) [ Word32 n ↦ omega (arith, ints) | Word64 n ↦ omega arith | NameAddress name addend ↦ omega arith ]
+
+distant_goes : {site : Site} {offset : ℕ} {s : State} (first last allocated rd : ℕ) (to : Distant) → 0 < rd → rd < 32 → AreShort site → IsState s → IsAt site offset 8 s → StandsIn site allocated offset (distant_slots rd to) → SetsIn 2 site.context.flags 8 s rd (distant_value (environment site first last) to s.values.mem)
+distant_goes first last allocated rd (OfLabel l) some lt bounds is_state h stands = label_goes allocated rd l some lt bounds is_state h stands
+distant_goes first last allocated rd (OfSymbol symbol) some lt bounds is_state h stands = symbol_goes first last allocated rd symbol some lt is_state h stands
+
+pub distant_fits : (site : Site) (first last : ℕ) (to : Distant) (s : State) → IsState s → distant_value (environment site first last) to s.values.mem < 2 ^ 64
+distant_fits site first last (OfLabel l) s is = omega arith
+distant_fits site first last (OfSymbol symbol) s is = elim symbol as (λ symbol. symbol_value (environment site first last) symbol s.values.mem < 2 ^ 64) [ AddressOf name addend ↦ omega arith | SlotOf name ↦ load_fits (load_op Ld) s.values.mem (site.slot name.number) is.values.bytes ]
+
+pub one : {site : Site} {allocated start end : ℕ} (first last : ℕ) (whole : List Piece) → StandIn site allocated start end whole → (ps : List Piece) (v : Values) (m : List (List ℕ)) (q : Point) (s : State) → next (environment site first last) whole ps v m ≡ Some q → AllOutside site q.written → IsAtPoint site allocated start end (points ps v m) s → ComesToPoint (steps_for ps) site allocated start end q s
+one {site} {allocated} {start} {end} first last whole k (Do a ∷ ps) v m q s e out h =
     (elim (is_of_integers a) as (λ c. is_of_integers a ≡ c → (if c then Some (points ps (effect a v) (wrote a v m)) else None) ≡ Some q → ComesToPoint 1 site allocated start end q s)
     [ true ↦ λ of f. is_there site allocated start end f (does a of (outside_at site f out) h) | false ↦ λ of f. absurd (cc) ]) refl e
-one {site} {allocated} {start} {end} whole k (Constant rd n ∷ ps) v m q s e out h =
-    let size = inline_size site.context.flags 8 in
-    let there = h.stand.stand in
+one {site} {allocated} {start} {end} first last whole k (Constant rd l ∷ ps) v m q s e out h =
+    let flags = site.context.flags in
+    let size = inline_size flags (literal_size l) in
     let range = h.stand.ranges.0 in
-    let t = at (wrap (s.pc + size)) (set_reg s.values rd (wrap n)) in
-    is_there site allocated start end e (record {
-      state = t;
-      steps = 3;
-      few = lit≤ tt;
-      ran = (over_goes allocated rd 8 (wrap n) Ld (to_le_bytes w64 n) refl range.0 range.1 (lit< tt) refl (λ mem a bytes. eight_there mem a n bytes) (lit< tt) h.is_state (shorter size h.here (omega arith)) (there.0, (there.1.0, (there.1.1.0, tt))) (there.1.1.1.0 s.values.mem h.here.placed)).ran;
-      there = stands_at t m (h.offset + size) (omega arith) h.here.placed (let pc = h.here.pc in omega arith) (are_values_set s.values rd (wrap n) h.is_state.values range.1 (omega arith)) (ap (λ w. set_reg w rd (wrap n)) h.values) (rest (Constant rd n) ps h.stand);
-    })
-one {site} {allocated} {start} {end} whole k (Branch how a b j ∷ ps) v m q s e out h =
+    let there = stands_split site allocated h.offset (literal_slots flags rd l) (slots_of flags ps) h.stand.stand in
+    let goes = literal_goes first last allocated rd l range.0 range.1 h.is_state (shorter size h.here (omega arith)) there.0 in
+    is_there site allocated start end e (sets_here (Constant rd l) rd (literal_value (environment site first last) l) 3 goes.ran (literal_fits (environment site first last) l) range.1 (ap (λ w. set_reg w rd (literal_value (environment site first last) l)) h.values) h)
+one {site} {allocated} {start} {end} first last whole k (Take rd to ∷ ps) v m q s e out h =
+    let flags = site.context.flags in
+    let range = h.stand.ranges.0 in
+    let there = stands_split site allocated h.offset (distant_slots rd to) (slots_of flags ps) h.stand.stand in
+    let goes = distant_goes first last allocated rd to range.0 range.1 h.stand.bounds h.is_state (shorter 8 h.here (omega arith)) there.0 in
+    is_there site allocated start end e (sets_here (Take rd to) rd (distant_value (environment site first last) to s.values.mem) 2 goes.ran (distant_fits site first last to s h.is_state) range.1 (ap (λ w. set_reg w rd (distant_value (environment site first last) to w.mem)) h.values) h)
+one {site} {allocated} {start} {end} first last whole k (Branch how a b j ∷ ps) v m q s e out h =
     let aim = h.stand.stand.0 in
     let test = holds how (reg s.values a) (reg s.values b) in
     let acts = λ (z : ℤ) (c : Bool) (is : test ≡ c). branch_acts how a b z s ∙ ap (λ c. Some (at (if c then wrap (s.pc + low64 z) else wrap (s.pc + 4)) s.values)) is in
@@ -155,44 +182,44 @@ one {site} {allocated} {start} {end} whole k (Branch how a b j ∷ ps) v m q s e
       | false ↦ λ is f. is_there site allocated start end f (steps_once t (istep_here (branches how a b (between h.offset aim.to)) [] t h.here (omega arith) aim.has (acts (between h.offset aim.to) false is))
           (stands_at t m (h.offset + 4) (omega arith) h.here.placed (let pc = h.here.pc in omega arith) h.is_state.values h.values (rest (Branch how a b j) ps h.stand)))
     ]) refl (ap (λ w. if holds how (reg w a) (reg w b) then to (after j whole) v m else Some (points ps v m)) h.values ∙ e)
-one {site} {allocated} {start} {end} whole k (Jump j ∷ ps) v m q s e out h =
+one {site} {allocated} {start} {end} first last whole k (Jump j ∷ ps) v m q s e out h =
     let long = window_long site.context.flags in
     let some = least_some site.context.flags in
     let aim = h.stand.stand.0 in
     leads j whole q (Jump j) (short_jump site.context.flags) aim.to k (after j whole) refl e h (omega arith) aim.reaches aim.has (λ z. jump_acts site.context.flags z s)
-one {site} {allocated} {start} {end} whole k (New ∷ ps) v m q s e out h = is_there site allocated start end e (passes New refl h)
-one {site} {allocated} {start} {end} whole k (Bind j ∷ ps) v m q s e out h = is_there site allocated start end e (passes (Bind j) refl h)
-one whole k _ v m q s e out h = absurd (cc)
+one {site} {allocated} {start} {end} first last whole k (New ∷ ps) v m q s e out h = is_there site allocated start end e (passes New refl h)
+one {site} {allocated} {start} {end} first last whole k (Bind j ∷ ps) v m q s e out h = is_there site allocated start end e (passes (Bind j) refl h)
+one first last whole k _ v m q s e out h = absurd (cc)
 
 -- what was written before is outside, where all is
 to_earlier : (site : Site) (o : Option (List Piece)) (v : Values) (m : List (List ℕ)) (q : Point) → to o v m ≡ Some q → AllOutside site q.written → AllOutside site m
 to_earlier site None v m q e out = absurd (cc)
 to_earlier site (Some ps) v m q e out = outside_at site e out
 
-one_earlier : (site : Site) (whole ps : List Piece) (v : Values) (m : List (List ℕ)) (q : Point) → next whole ps v m ≡ Some q → AllOutside site q.written → AllOutside site m
-one_earlier site whole (Do a ∷ ps) v m q e out =
+one_earlier : (env : Environment) (site : Site) (whole ps : List Piece) (v : Values) (m : List (List ℕ)) (q : Point) → next env whole ps v m ≡ Some q → AllOutside site q.written → AllOutside site m
+one_earlier env site whole (Do a ∷ ps) v m q e out =
     (elim (is_of_integers a) as (λ c. (if c then Some (points ps (effect a v) (wrote a v m)) else None) ≡ Some q → AllOutside site m)
     [ true ↦ λ f. wrote_earlier site a v m (outside_at site f out) | false ↦ λ f. absurd (cc) ]) e
-one_earlier site whole (Branch how a b k ∷ ps) v m q e out =
+one_earlier env site whole (Branch how a b k ∷ ps) v m q e out =
     (elim (holds how (reg v a) (reg v b)) as (λ c. (if c then to (after k whole) v m else Some (points ps v m)) ≡ Some q → AllOutside site m)
     [ true ↦ λ f. to_earlier site (after k whole) v m q f out | false ↦ λ f. outside_at site f out ]) e
-one_earlier site whole (Jump k ∷ ps) v m q e out = to_earlier site (after k whole) v m q e out
-one_earlier site whole _ v m q e out = search (rules, outside_at)
+one_earlier env site whole (Jump k ∷ ps) v m q e out = to_earlier site (after k whole) v m q e out
+one_earlier env site whole _ v m q e out = search (rules, outside_at)
 
-all_earlier : (site : Site) (whole : List Piece) (n : ℕ) (p q : Point) → evaluate n whole p ≡ Some q → AllOutside site q.written → AllOutside site p.written
-all_earlier site whole zero p q e out = outside_at site e out
-all_earlier site whole (suc n) p q e out =
-    (elim (next whole p.ahead p.values p.written) as (λ o. next whole p.ahead p.values p.written ≡ o → and_then o (evaluate n whole) ≡ Some q → AllOutside site p.written)
-    [ None ↦ λ is f. absurd (cc) | Some r ↦ λ is f. one_earlier site whole p.ahead p.values p.written r is (all_earlier site whole n r q f out) ]) refl e
+all_earlier : (env : Environment) (site : Site) (whole : List Piece) (n : ℕ) (p q : Point) → evaluate env n whole p ≡ Some q → AllOutside site q.written → AllOutside site p.written
+all_earlier env site whole zero p q e out = outside_at site e out
+all_earlier env site whole (suc n) p q e out =
+    (elim (next env whole p.ahead p.values p.written) as (λ o. next env whole p.ahead p.values p.written ≡ o → and_then o (evaluate env n whole) ≡ Some q → AllOutside site p.written)
+    [ None ↦ λ is f. absurd (cc) | Some r ↦ λ is f. one_earlier env site whole p.ahead p.values p.written r is (all_earlier env site whole n r q f out) ]) refl e
 
-pub pieces_run : (site : Site) (allocated start end : ℕ) (whole : List Piece) → StandIn site allocated start end whole → (n : ℕ) (p q : Point) (s : State) → evaluate n whole p ≡ Some q → AllOutside site q.written → IsAtPoint site allocated start end p s → ComesToPoint (steps_of n whole p) site allocated start end q s
-pieces_run site allocated start end whole k zero p q s e out h = is_there site allocated start end e (stays h)
-pieces_run site allocated start end whole k (suc n) p q s e out h =
-    (elim (next whole p.ahead p.values p.written) as (λ o. next whole p.ahead p.values p.written ≡ o → and_then o (evaluate n whole) ≡ Some q → ComesToPoint (steps_for p.ahead + steps_on o (steps_of n whole)) site allocated start end q s) [
+pub pieces_run : (site : Site) (first last allocated start end : ℕ) (whole : List Piece) → StandIn site allocated start end whole → (n : ℕ) (p q : Point) (s : State) → evaluate (environment site first last) n whole p ≡ Some q → AllOutside site q.written → IsAtPoint site allocated start end p s → ComesToPoint (steps_of (environment site first last) n whole p) site allocated start end q s
+pieces_run site first last allocated start end whole k zero p q s e out h = is_there site allocated start end e (stays h)
+pieces_run site first last allocated start end whole k (suc n) p q s e out h =
+    (elim (next (environment site first last) whole p.ahead p.values p.written) as (λ o. next (environment site first last) whole p.ahead p.values p.written ≡ o → and_then o (evaluate (environment site first last) n whole) ≡ Some q → ComesToPoint (steps_for p.ahead + steps_on o (steps_of (environment site first last) n whole)) site allocated start end q s) [
       | None ↦ λ is f. absurd (cc)
       | Some r ↦ λ is f.
-          let c = one whole k p.ahead p.values p.written r s is (all_earlier site whole n r q f out) h in
-          let d = pieces_run site allocated start end whole k n r q c.state f out c.there in
+          let c = one first last whole k p.ahead p.values p.written r s is (all_earlier (environment site first last) site whole n r q f out) h in
+          let d = pieces_run site first last allocated start end whole k n r q c.state f out c.there in
           let few = d.few in let first = c.few in
           record { state = d.state; steps = d.steps + c.steps; few = omega arith; ran = iter_after site.context.flags d.steps c.steps s c.state d.state c.ran d.ran; there = d.there }
     ]) refl e

@@ -1,19 +1,12 @@
 -- What lines of loads, stores, addresses, numbers and symbols add to a buffer, and that their parts are self-contained.
+use Rattle.{mach_records.specs.declared.records.Event.Event, mach_uses.specs.declared.uses.Use.Use, rv_base.specs.declared.unwind.UnwindInst.UnwindInst, rv_code.proofs.OperationActs.{jump_len, least_even, least_few, load_sized, lui_sized, rri_sized, rrr_sized, store_sized}}
+use Rattle.{rv_code.proofs.Words.{Constant, Do, Piece, Rri, Word64, Writable, immediate_pieces, number_pieces, offset_pieces, slots_of}, rv_code.specs.Pieces.Lui, rv_inst.specs.Halves.{boxing_size, high_bits, is_moved_first, load_line_own_size, store_line_own_size}, rv_inst.specs.Records.access_records}
 use Rattle.std.proofs.Common.{◌≡◌, ℕ, ◌+◌, List, [], ◌∷◌, ◌%◌, eqb-true, length, Option, refl, arith, ◌-◌, ◌≤◌, Bool, true, false, ◌++◌, Some, None, ℤ, pos, ap, sym, ◌∙◌, subst, append_assoc, lit≤, append-nil, ◌==◌, ◌^◌, ◌<◌, not, if◌then◌else◌, ◌&&◌, rules}
-use Rattle.rv_code.proofs.Words.{access_slots, Add, Addi, address_event, address_slots, address_targets, Fixup, Allocate, AMode, AreClosed, AreSelfContained, AtConstant, AtLabel, Base, Based, boxing_slots, cast_signed, Const, constant_label, constant_named, Context, Data, Decoded, decoded}
-use Rattle.rv_code.proofs.Words.{decoded_load, decoded_store, ExternalName, far_slots, FrameLayout, got_slots, half_load_slots, half_store_slots, has_load, has_store, Here, inline_size, Inst, inst_constant, inst_records, inst_size, ints, is_near, is_splittable}
-use Rattle.rv_code.proofs.Words.{IsaFlags, IsOfSize, IsReal, Jal20, jump_size, label_of, LabelAddress, LabelUse, Lh, Load, load_line_slots, load_over, load_own_size, load_size, load_slots, LoadAddr, LoadExtNameFar, LoadExtNameGot, LoadExtNameNear, LoadOP, Location, location_of, low64, low_word}
-use Rattle.rv_code.proofs.Words.{lower_of, MachLabel, MachRecord, marks_of, MemFlagsData, moved_to_float, moved_to_integer, name_more, named_by, Names, names_of, near_slots, Records, number_of, number_slots, offset_slots, Op, Or, PCRelHi20, PCRelLo12I, Real, records_of, Reg, RegClass, Sh, short_jump}
+use Rattle.rv_code.proofs.Words.{access_slots, Add, Addi, address_slots, address_targets, Fixup, Allocate, AMode, AreClosed, AreSelfContained, AtConstant, AtLabel, Base, Based, boxing_slots, cast_signed, Const, constant_label, constant_named, Context, Data, Decoded, decoded}
+use Rattle.rv_code.proofs.Words.{decoded_load, decoded_store, FrameLayout, half_load_slots, half_store_slots, has_load, has_store, Here, Inst, inst_constant, inst_records, inst_size, ints, is_near, is_splittable}
+use Rattle.rv_code.proofs.Words.{IsaFlags, IsOfSize, IsReal, Jal20, jump_size, label_of, LabelUse, Lh, Load, load_line_slots, load_over, load_own_size, load_size, load_slots, LoadAddr, LoadOP, Location, location_of, low64, low_word}
+use Rattle.rv_code.proofs.Words.{lower_of, MachRecord, marks_of, MemFlagsData, moved_to_float, moved_to_integer, name_more, named_by, Names, names_of, Records, number_of, number_slots, offset_slots, Op, Or, PCRelHi20, PCRelLo12I, Real, records_of, Reg, RegClass, Sh, short_jump}
 use Rattle.rv_code.proofs.Words.{short_load, short_lui, short_rri, short_rrr, short_store, size_of, Slot, slot_size, Store, store_line_slots, store_own_size, store_slots, StoreOP, target_uses, to_le_bytes, TrapCode, Unwind, upper_of, use_at, uses_in, uses_of, uses_start, VCodeConstant, Virtual, w64}
-use Rattle.rv_code.proofs.Words.{Writable}
-use Rattle.rv_code.proofs.Words.{Constant, Do, immediate_pieces, number_pieces, offset_pieces, Piece, Rri, slots_of}
-use Rattle.rv_code.specs.Pieces.{Lui}
-use Rattle.mach_records.specs.declared.records.Event.{Event}
-use Rattle.mach_uses.specs.declared.uses.Use.{Use}
-use Rattle.rv_inst.specs.Records.{access_records}
-use Rattle.rv_base.specs.declared.unwind.UnwindInst.{UnwindInst}
-use Rattle.rv_inst.specs.Halves.{boxing_size, high_bits, is_moved_first, load_line_own_size, store_line_own_size}
-use Rattle.rv_code.proofs.OperationActs.{rrr_sized, rri_sized, lui_sized, load_sized, store_sized, jump_len, least_even, least_few}
 use Rattle.rv_ops.specs.declared.memory.LoadOP.TheVariants as loads
 use Rattle.rv_machine.specs.declared.ops.BaseOp.TheVariants as base
 use Rattle.mach_records.specs.declared.records.Event.TheVariants as event
@@ -167,9 +160,9 @@ accessed trap d even =
     subst (λ n. HaveAccess n none trap None (access_slots trap ++ Op d ∷ [])) same (elim trap as (λ t. HaveAccess (size_of (Op d ∷ [])) none t None (access_slots t ++ Op d ∷ [])) [ None ↦ own | Some code ↦ note_then (event.Trap code) refl own ])
 
 -- by which pieces an offset is put into a register
-pub offset_by : (P : List Piece → Type 0) (rd : ℕ) (o : ℤ) → (is_splittable o ≡ true → low64 (lower_of o) ≡ 0 → P (Do (Lui rd (upper_of o)) ∷ [])) → (is_splittable o ≡ true → P (Do (Lui rd (upper_of o)) ∷ Do (Rri Addi rd rd (lower_of o)) ∷ [])) → (is_splittable o ≡ false → P (Constant rd (low64 o) ∷ [])) → P (offset_pieces rd o)
+pub offset_by : (P : List Piece → Type 0) (rd : ℕ) (o : ℤ) → (is_splittable o ≡ true → low64 (lower_of o) ≡ 0 → P (Do (Lui rd (upper_of o)) ∷ [])) → (is_splittable o ≡ true → P (Do (Lui rd (upper_of o)) ∷ Do (Rri Addi rd rd (lower_of o)) ∷ [])) → (is_splittable o ≡ false → P (Constant rd (Word64 (low64 o)) ∷ [])) → P (offset_pieces rd o)
 offset_by P rd o upper both constant =
-    (elim (is_splittable o) as (λ c. is_splittable o ≡ c → P (if c then immediate_pieces rd (upper_of o) (lower_of o) else Constant rd (low64 o) ∷ [])) [
+    (elim (is_splittable o) as (λ c. is_splittable o ≡ c → P (if c then immediate_pieces rd (upper_of o) (lower_of o) else Constant rd (Word64 (low64 o)) ∷ [])) [
       | true ↦ λ fits. (elim (low64 (lower_of o) == 0) as (λ c. (low64 (lower_of o) == 0) ≡ c → P (Do (Lui rd (upper_of o)) ∷ (if c then [] else Do (Rri Addi rd rd (lower_of o)) ∷ []))) [ true ↦ λ none. upper fits (eqb-true (low64 (lower_of o)) 0 none) | false ↦ λ some. both fits ]) refl
       | false ↦ constant
     ]) refl
@@ -191,7 +184,7 @@ is_low z = is_splittable z && low64 (upper_of z) == 0
 abbrev pub slots_by : IsaFlags → ℕ → ℤ → Bool → List Slot
 slots_by flags rd z low = slots_of flags (if low then Do (Rri Addi rd 0 (lower_of z)) ∷ [] else offset_pieces rd z)
 
-pub number_by : (P : List Piece → Type 0) (rd : ℕ) (z : ℤ) → (is_low z ≡ true → P (Do (Rri Addi rd 0 (lower_of z)) ∷ [])) → (is_splittable z ≡ true → low64 (lower_of z) ≡ 0 → P (Do (Lui rd (upper_of z)) ∷ [])) → (is_splittable z ≡ true → P (Do (Lui rd (upper_of z)) ∷ Do (Rri Addi rd rd (lower_of z)) ∷ [])) → (is_splittable z ≡ false → P (Constant rd (low64 z) ∷ [])) → P (number_pieces rd z)
+pub number_by : (P : List Piece → Type 0) (rd : ℕ) (z : ℤ) → (is_low z ≡ true → P (Do (Rri Addi rd 0 (lower_of z)) ∷ [])) → (is_splittable z ≡ true → low64 (lower_of z) ≡ 0 → P (Do (Lui rd (upper_of z)) ∷ [])) → (is_splittable z ≡ true → P (Do (Lui rd (upper_of z)) ∷ Do (Rri Addi rd rd (lower_of z)) ∷ [])) → (is_splittable z ≡ false → P (Constant rd (Word64 (low64 z)) ∷ [])) → P (number_pieces rd z)
 number_by P rd z alone upper both constant = (elim (is_low z) as (λ c. is_low z ≡ c → P (if c then Do (Rri Addi rd 0 (lower_of z)) ∷ [] else offset_pieces rd z)) [ true ↦ alone | false ↦ λ high. offset_by P rd z upper both constant ]) refl
 
 -- the uses of an address
@@ -289,9 +282,6 @@ same_uses flags frame read _ start end = refl
 pub load_addr_summed : (context : Context) (rd : Writable Reg) (mem : AMode) → IsSummed context (LoadAddr rd mem) (address_slots context.flags (number_of rd.reg) (location_of context.frame mem))
 load_addr_summed context rd mem = summed_by (addresses context.flags (number_of rd.reg) (location_of context.frame mem)) (address_most context.flags (number_of rd.reg) (location_of context.frame mem)) (same_uses context.flags context.frame 0 mem) (λ start end. refl) (same_constant context.frame 0 mem)
 
-pub label_address_summed : (context : Context) (dst : Writable Reg) (label : MachLabel) → IsSummed context (LabelAddress dst label) (address_slots context.flags (number_of dst.reg) (AtLabel label))
-label_address_summed context dst label = summed_by (addresses context.flags (number_of dst.reg) (AtLabel label)) refl (λ start end. refl) (λ start end. refl) refl
-
 pub address_contained : (flags : IsaFlags) (rd : ℕ) (at : Location) → AreSelfContained (address_slots flags rd at)
 address_contained flags rd at = (addresses flags rd at).closed _ 0
 
@@ -335,28 +325,10 @@ numbers flags rd z =
 pub number_few : (flags : IsaFlags) (rd : ℕ) (z : ℤ) → size_of (number_slots flags rd z) ≤ 20
 number_few flags rd z = elim (is_low z) as (λ low. size_of (slots_by flags rd z low) ≤ 20) [ true ↦ omega (arith, (rri_sized flags Addi rd 0 (lower_of z)).few) | false ↦ offset_most flags rd z ]
 
--- ---- what symbols' addresses and steps in the making of a frame add to a buffer, and that their parts are self-contained.
-
-pub got_summed : (context : Context) (rd : Writable Reg) (name : ExternalName) → IsSummed context (LoadExtNameGot rd name) (got_slots (number_of rd.reg) name)
-got_summed context rd name = record { plain = tt; fits = refl; uses = λ allocated start. refl; records = λ start. refl; names = λ named. refl }
-
-pub near_summed : (context : Context) (rd : Writable Reg) (name : ExternalName) (offset : ℤ) → IsSummed context (LoadExtNameNear rd name offset) (near_slots (number_of rd.reg) name offset)
-near_summed context rd name offset = record { plain = tt; fits = refl; uses = λ allocated start. refl; records = λ start. refl; names = λ named. refl }
-
--- how long the code is that has the address of a symbol among it
-pub far_long : (flags : IsaFlags) (rd : ℕ) (name : ExternalName) (offset : ℤ) → size_of (far_slots flags rd name offset) ≡ inline_size flags 8
-far_long flags rd name offset = let jump = jump_len flags (pos (8 + jump_size flags)) in omega arith
-
-pub far_summed : (context : Context) (rd : Writable Reg) (name : ExternalName) (offset : ℤ) → IsSummed context (LoadExtNameFar rd name offset) (far_slots context.flags (number_of rd.reg) name offset)
-far_summed context rd name offset =
-    let fits = far_long context.flags (number_of rd.reg) name offset in
-    record { plain = tt; fits = fits; uses = λ allocated start. refl; records = λ start. ap (λ at. record { offset = at; event = address_event name offset } ∷ []) (omega arith); names = λ named. refl }
+-- ---- steps in the making of a frame
 
 pub unwind_summed : (context : Context) (inst : UnwindInst) → IsSummed context (Unwind inst) (Records (event.Unwind inst) ∷ [])
 unwind_summed context inst = record { plain = tt; fits = refl; uses = λ allocated start. refl; records = λ start. refl; names = λ named. refl }
-
-pub far_contained : (flags : IsaFlags) (rd : ℕ) (name : ExternalName) (offset : ℤ) → AreSelfContained (far_slots flags rd name offset)
-far_contained flags rd name offset = let jump = jump_len flags (pos (8 + jump_size flags)) in let least = least_even flags in (refl, (refl, (omega arith, tt)))
 
 -- ---- what lines of loads and stores add to a buffer, those of halves by integer registers among them, and that their parts are self-contained.
 

@@ -1,14 +1,12 @@
 -- Slots of tables and tail calls: how long they are, and that they are self-contained.
+use Rattle.rv_code.proofs.Words.{short_jump, Distant, Literal, NameAddress, OfLabel, OfSymbol, Word32, Word64, distant_slots, literal_size, literal_slot, literal_slots}
 use Rattle.std.proofs.Common.{rules, ◌≡◌, ℕ, ◌+◌, ◌^◌, ◌*◌, ◌≤◌, Bool, true, false, List, [], ◌∷◌, length, Option, Some, None, ℤ, pos, ◌-ℤ◌, arith, lit≤, refl, subst, sym, ◌-◌, ◌%◌, ◌<◌, ◌++◌, map, ap, ◌==◌, suc, if◌then◌else◌}
 use Rattle.rv_code.proofs.Words.{Add, Addi, address_slots, Fixup, AllByRecursion, Allocate, AreClosed, AreFineResults, AreSelfContained, Based, call_event, call_to, CallRetPair, Data, decoded_load, extend_pieces, ExternalName, frame_above, FrameLayout}
 use Rattle.rv_code.proofs.Words.{half_load_slots, has_load, Here, here_at, InReg, Int, ints, is_near, is_splittable, IsaFlags, IsFineResult, jump_size, Ld, length-append, Lh, load_line_slots, load_slots, LoadOP, loads_unless, location_loads, low64, lower_of, MachLabel}
 use Rattle.rv_code.proofs.Words.{MachRecord, Records, number_of, number_slots, offset_slots, OnStack, Op, Own, PReg, Reg, restores, result_load, result_loads, RetLocation, return_size, return_slots, saved_load, saves_from, setup_loads, short_jalr, short_rri}
 use Rattle.rv_code.proofs.Words.{short_rrr, size_of, Slli, Slot, slots_of, sp_to_fp_of, Srli, stack_load_slots, stack_step_slots, StackLoad, t0_slots, table_slots, tail_slots, typed_loads, upper_of, Writable}
-use Rattle.rv_inst.specs.Limits.{return_limit}
-use Rattle.rv_code.proofs.OperationActs.{load_sized, lui_sized, rrr_sized, rri_sized, jump_len, least_even, jalr_sized}
-use Rattle.rv_code.proofs.LineOperands.{of_both, setup_by}
+use Rattle.{rv_code.proofs.LineOperands.{of_both, setup_by}, rv_code.proofs.OperationActs.{jalr_sized, jump_len, least_even, load_sized, lui_sized, rri_sized, rrr_sized}, rv_code.specs.Tables.{far_jump, jump_slots}, rv_inst.specs.Limits.return_limit}
 use Rattle.rv_code.proofs.LineSlots.{is_low, slots_by, number_by, numbers, number_few as number_most, IsPlain, HaveContents, HaveWords, none, nothing, one, both, closed_append, line_loaded, size_append, split_short, far_most, load_most, half_most, either_most}
-use Rattle.rv_code.specs.Tables.{far_jump, jump_slots}
 use Rattle.mach_records.specs.declared.records.Event.TheVariants as event
 
 -- ---- how many bytes loads from the stack have: 28 at most, halves by integer registers among them, whose offset is at most 2^30.
@@ -92,10 +90,20 @@ extend_even flags rd rn = ((rri_sized flags Slli rd rn (pos 32)).even, ((rri_siz
 pub extend_few : (flags : IsaFlags) (rd rn : ℕ) → size_of (slots_of flags (extend_pieces rd rn false 32)) ≤ 8
 extend_few flags rd rn = let a = (rri_sized flags Slli rd rn (pos 32)).few in let b = (rri_sized flags Srli rd rd (pos 32)).few in omega arith
 
+-- of what stands among the code, and of what is distant
+pub literal_even : (flags : IsaFlags) (rd : ℕ) (l : Literal) → AreEven (literal_slots flags rd l)
+literal_even flags rd l =
+    let jump : (short_jump flags (pos (literal_size l + jump_size flags))).len % 2 ≡ 0 = omega (arith, jump_len flags (pos (literal_size l + jump_size flags)), least_even flags) in
+    (refl, (refl, (jump, elim l as (λ l. AreEven (literal_slot l ∷ [])) [ Word32 n ↦ (refl, tt) | Word64 n ↦ (refl, tt) | NameAddress name addend ↦ tt ])))
+
+pub distant_even : (rd : ℕ) (to : Distant) → AreEven (distant_slots rd to)
+distant_even rd (OfLabel l) = tt
+distant_even rd (OfSymbol symbol) = tt
+
 pub number_even : (flags : IsaFlags) (rd : ℕ) (z : ℤ) → AreEven (number_slots flags rd z)
 number_even flags rd z =
     let up = (lui_sized flags rd (upper_of z)).even in
-    number_by (λ ps. AreEven (slots_of flags ps)) rd z (λ low. ((rri_sized flags Addi rd 0 (lower_of z)).even, tt)) (λ fits none. (up, tt)) (λ fits. (up, ((rri_sized flags Addi rd rd (lower_of z)).even, tt))) (λ far. (refl, (refl, (omega (arith, jump_len flags (pos (8 + jump_size flags)), least_even flags), (refl, tt)))))
+    number_by (λ ps. AreEven (slots_of flags ps)) rd z (λ low. ((rri_sized flags Addi rd 0 (lower_of z)).even, tt)) (λ fits none. (up, tt)) (λ fits. (up, ((rri_sized flags Addi rd rd (lower_of z)).even, tt))) (λ far. literal_even flags rd (Word64 (low64 z)))
 
 -- a number of few bits is put by immediates
 pub number_few : (flags : IsaFlags) (rd : ℕ) (z : ℤ) → is_splittable z ≡ true → size_of (number_slots flags rd z) ≤ 8

@@ -1,43 +1,42 @@
 -- Instructions that pieces make: how long they are, and that they are self-contained.
+use Rattle.{rv_base.specs.declared.ir_type.IrType.TheVariants.I32, rv_base.specs.declared.value_regs.ValueRegs.TheVariants.{One, Two}, rv_code.proofs.Courses.literal_long, rv_code.proofs.Evaluation.{action_sized, piece_even, slots_long, trap_long}}
+use Rattle.{rv_code.proofs.LineSlots.{closed_append, number_by, size_append}, rv_code.proofs.LongSlots.{AreEven, distant_even, even_closed, literal_even}, rv_code.proofs.OperationActs.{jump_len, least_few, window_long}}
+use Rattle.{rv_code.proofs.Words.{Constant, Slli, StackProbeLoop, Trap, TrapCode, TrapIf, Udf, VCodeConstant, Writable, and_parts, cast_signed, jump_size, low_word, number_pieces, slots_of, uses_in, w64, written_in}, rv_code.specs.Probes.{probe_pieces, probe_turn}}
+use Rattle.{rv_code.specs.Sequences.{pieces_by, sequence_pieces, zeros_pieces}, rv_code.specs.Traps.trap_if_pieces, rv_inst.specs.Descriptions.most_words, rv_inst.specs.declared.sequence.Computation.Computation, rv_inst.specs.declared.sequence.Computation.TheVariants.Zeros}
+use Rattle.{rv_inst.specs.declared.sequence.Sequence.Sequence}
+use Rattle.rv_code.proofs.Words.{AddressOf, Allocate, Data, ExternalName, Fixup, Here, Literal, LoadExtNameFar, LoadExtNameGot, LoadExtNameNear, LoadInlineConst, NameAddress, Names, OfLabel, OfSymbol, Op, Own, Records, Slot, SlotOf, Symbol, Take, Word32, Word64, address_event, distant_slots, is_word_type, literal_of, literal_size, literal_slots, slot_size, slots_for, symbol_slots}
 use Rattle.std.proofs.Common.{rules, ◌≡◌, ℕ, ℤ, ◌+◌, ◌≤◌, Bool, true, false, nat_eq, [], ◌∷◌, List, length, Option, Some, None, is_some, unwrap_or, zero, ◌&&◌, arith, refl, lit≤, sym, subst, ap, lit<, suc, ◌*◌, ◌<◌, ◌++◌, map, pos, ◌∙◌, ◌-◌, if◌then◌else◌}
 use Rattle.rv_code.proofs.Words.{Action, after, all_of, Andi, AreAmong, AreClosed, AreClosedPieces, AreSelfContained, AtMost, B12, backward_of, Bind, bits_of, Branch, canonical_type, choice_pieces, class_of, complement_of, Context, Do, Exactly, Extend, extend_pieces, forward_of}
-use Rattle.rv_code.proofs.Words.{cast_signed, Constant, jump_size, low_word, number_pieces, short_jump, StackProbeLoop, w64}
-use Rattle.rv_code.proofs.LineSlots.{number_by}
 use Rattle.rv_code.proofs.Words.{GoNowhere, here_at, I64, Inst, inst_constant, inst_records, inst_size, Int, IntCC, IntegerCompare, IrType, is_byte, IsaFlags, IsBoundIn, IsBoundNear, IsOfSize, Jal20, Jump, jump_kind, LabelUse, Mov, move_action, move_op, move_pieces, move_size, moves_then}
 use Rattle.rv_code.proofs.Words.{MovFromPReg, named_by, names_of, New, number_of, op_of, own_labels, Piece, piece_most, piece_size, pieces_most, pieces_size, PReg, records_of, Reg, RegClass, request_of, right_shift, Rri, RVCJump, same_numbers, Select, select_pieces, SelectInfo, size_of}
-use Rattle.rv_code.proofs.Words.{Slli, slots_of, Trap, TrapCode, TrapIf, Udf, uses_in, VCodeConstant, Writable, written_in}
-use Rattle.rv_base.specs.declared.value_regs.ValueRegs.TheVariants.{One, Two}
 use borrow.Author.Count.{below_more, below_none}
-use Rattle.rv_inst.specs.Descriptions.{most_words}
-use Rattle.rv_inst.specs.declared.sequence.Computation.{Computation}
-use Rattle.rv_inst.specs.declared.sequence.Computation.TheVariants.{Zeros}
-use Rattle.rv_inst.specs.declared.sequence.Sequence.{Sequence}
-use Rattle.rv_code.proofs.Words.{and_parts}
-use Rattle.rv_code.proofs.Evaluation.{trap_long, action_sized, piece_even}
-use Rattle.rv_code.proofs.OperationActs.{window_long, least_even, least_few, jump_len}
-use Rattle.rv_code.specs.Sequences.{pieces_by, sequence_pieces, zeros_pieces}
-use Rattle.rv_code.specs.Probes.{probe_pieces, probe_turn}
-use Rattle.rv_code.specs.Traps.{trap_if_pieces}
 
 -- ---- how long pieces are, and that those which use no own label but what they allocate and bind are self-contained, in whatever forms.
 
 piece_few : (flags : IsaFlags) (p : Piece) → piece_size flags p ≤ piece_most p
 piece_few flags (Do a) = (action_sized flags a).few
+piece_few flags (Constant rd l) = omega (arith, least_few flags)
 piece_few flags _ = omega (arith, window_long flags, least_few flags, trap_long flags)
 
 pub pieces_long : (flags : IsaFlags) (ps : List Piece) → size_of (slots_of flags ps) ≡ pieces_size flags ps
 pieces_long flags [] = refl
-pieces_long flags (New ∷ ps) = let e = pieces_long flags ps in omega arith
-pieces_long flags (Constant rd n ∷ ps) = let e = pieces_long flags ps in omega (arith, jump_len flags (pos (8 + jump_size flags)))
-pieces_long flags (p ∷ ps) = let e = pieces_long flags ps in omega arith
+pieces_long flags (p ∷ ps) = omega (arith, size_append (slots_for flags p) (slots_of flags ps), slots_long flags p, pieces_long flags ps)
 
 pub pieces_few : (flags : IsaFlags) (ps : List Piece) → pieces_size flags ps ≤ pieces_most ps
 pieces_few flags [] = lit≤ tt
 pieces_few flags (p ∷ ps) = let a = piece_few flags p in let b = pieces_few flags ps in omega arith
 
--- the offset after a constant, as its slots count it
-abbrev constant_end : IsaFlags → ℕ → ℕ
-constant_end flags at = at + 4 + 4 + (short_jump flags (pos (8 + jump_size flags))).len + 8
+-- an own label is bound after slots that bind none
+here_past : (k at : ℕ) (slots more : List Slot) → AreEven slots → here_at k at (slots ++ more) ≡ here_at k (at + size_of slots) more
+here_past k at [] more h = ap (λ n. here_at k n more) (omega arith)
+here_past k at (Fixup kind (Own j) ops ∷ slots) more h = absurd h
+here_past k at (Op d ∷ slots) more h = here_past k (at + d.len) slots more h.1 ∙ ap (λ n. here_at k n more) (omega arith)
+here_past k at (Data bytes ∷ slots) more h = here_past k (at + length bytes) slots more h.1 ∙ ap (λ n. here_at k n more) (omega arith)
+here_past k at (Records event ∷ slots) more h = here_past k at slots more h ∙ ap (λ n. here_at k n more) (omega arith)
+here_past k at (Names name ∷ slots) more h = here_past k at slots more h ∙ ap (λ n. here_at k n more) (omega arith)
+here_past k at (Allocate ∷ slots) more h = absurd h
+here_past k at (Here j ∷ slots) more h = absurd h
+here_past k at (slot ∷ slots) more h = here_past k (at + slot_size slot) slots more h ∙ ap (λ n. here_at k n more) (omega arith)
 
 -- an own label is bound near enough for each kind of use that reaches over all pieces
 bound_near : (flags : IsaFlags) (kind : LabelUse) (from end k : ℕ) → 2046 ≤ forward_of kind → 2046 ≤ backward_of kind → from ≤ end → end ≤ 2046 → (at : ℕ) (whole qs : List Piece) → after k whole ≡ Some qs → at + pieces_size flags whole ≤ end → IsBoundNear (here_at k at (slots_of flags whole)) kind from
@@ -46,7 +45,12 @@ bound_near flags kind from end k f b le small at (New ∷ ps) qs e room = bound_
 bound_near flags kind from end k f b le small at (Bind j ∷ ps) qs e room =
     (elim (nat_eq j k) as (λ c. (if c then Some ps else after k ps) ≡ Some qs → IsBoundNear (if c then Some at else here_at k at (slots_of flags ps)) kind from)
     [ true ↦ λ g. record { to = at; there = refl; forward = omega arith; backward = omega arith } | false ↦ λ g. bound_near flags kind from end k f b le small at ps qs g (omega arith) ]) e
-bound_near flags kind from end k f b le small at (Constant rd n ∷ ps) qs e room = let jump = jump_len flags (pos (8 + jump_size flags)) in bound_near flags kind from end k f b le small (constant_end flags at) ps qs e (omega arith)
+bound_near flags kind from end k f b le small at (Constant rd l ∷ ps) qs e room =
+    let slots = literal_slots flags rd l in
+    subst (λ o. IsBoundNear o kind from) (sym (here_past k at slots (slots_of flags ps) (literal_even flags rd l))) (bound_near flags kind from end k f b le small (at + size_of slots) ps qs e (omega (arith, literal_long flags rd l)))
+bound_near flags kind from end k f b le small at (Take rd to ∷ ps) qs e room =
+    let slots = distant_slots rd to in
+    subst (λ o. IsBoundNear o kind from) (sym (here_past k at slots (slots_of flags ps) (distant_even rd to))) (bound_near flags kind from end k f b le small (at + size_of slots) ps qs e (omega (arith, slots_long flags (Take rd to))))
 bound_near flags kind from end k f b le small at (p ∷ ps) qs e room = bound_near flags kind from end k f b le small (at + piece_size flags p) ps qs e (omega arith)
 
 pub jump_reach : (flags : IsaFlags) → (2046 ≤ forward_of (jump_kind flags)) × (2046 ≤ backward_of (jump_kind flags))
@@ -56,9 +60,14 @@ closed : (flags : IsaFlags) (whole : List Piece) (at end : ℕ) (ps : List Piece
 closed flags whole at end [] all small le c among = tt
 closed flags whole at end (Branch how x y k ∷ ps) all small le c among = let b = c.bound k among.0 in (bound_near flags B12 at end k (lit≤ tt) (lit≤ tt) (omega arith) small 0 whole b.0 b.1 (omega arith), closed flags whole (at + 4) end ps all small (omega arith) c among.1)
 closed flags whole at end (Jump k ∷ ps) all small le c among = let b = c.bound k among.0 in let r = jump_reach flags in (bound_near flags (jump_kind flags) at end k r.0 r.1 (omega arith) small 0 whole b.0 b.1 (omega arith), closed flags whole (at + piece_size flags (Jump k)) end ps all small (omega arith) c among.1)
-closed flags whole at end (Constant rd n ∷ ps) all small le c among =
-    let jump = jump_len flags (pos (8 + jump_size flags)) in
-    let even = least_even flags in (refl, (refl, (omega arith, (refl, closed flags whole (constant_end flags at) end ps all small (omega arith) c among))))
+closed flags whole at end (Constant rd l ∷ ps) all small le c among =
+    let slots = literal_slots flags rd l in
+    let here = λ (k : ℕ). here_at k 0 (slots_of flags whole) in
+    closed_append here at (at + size_of slots) slots (slots_of flags ps) refl (even_closed here at slots (literal_even flags rd l)) (closed flags whole (at + size_of slots) end ps all small (omega (arith, literal_long flags rd l)) c among)
+closed flags whole at end (Take rd to ∷ ps) all small le c among =
+    let slots = distant_slots rd to in
+    let here = λ (k : ℕ). here_at k 0 (slots_of flags whole) in
+    closed_append here at (at + size_of slots) slots (slots_of flags ps) refl (even_closed here at slots (distant_even rd to)) (closed flags whole (at + size_of slots) end ps all small (omega (arith, slots_long flags (Take rd to))) c among)
 closed flags whole at end (p ∷ ps) all small le c among = search (rules, arith, piece_even flags p, λ (at : ℕ). closed flags whole at end ps all small)
 
 -- ---- an instruction that pieces make: how many bytes it has, and what it records and names.
@@ -91,7 +100,10 @@ made_contained {context} {pieces = pieces} m = let within = m.within in let few 
 -- pieces name no constant
 pub pieces_name : (flags : IsaFlags) (ps : List Piece) (named : List VCodeConstant) → names_of (slots_of flags ps) named ≡ named
 pieces_name flags [] named = refl
-pieces_name flags (New ∷ ps) named = pieces_name flags ps named
+pieces_name flags (Constant rd (Word32 n) ∷ ps) named = pieces_name flags ps named
+pieces_name flags (Constant rd l ∷ ps) named = pieces_name flags ps named
+pieces_name flags (Take rd (OfLabel l) ∷ ps) named = pieces_name flags ps named
+pieces_name flags (Take rd to ∷ ps) named = pieces_name flags ps named
 pieces_name flags (p ∷ ps) named = pieces_name flags ps named
 
 -- ---- the sequences that compute one register of another: they are closed, and of at most so many words.
@@ -234,14 +246,14 @@ trap_if_made context cmp code =
 -- ---- a number in a register, and the probes of the stack, which are two and a loop: the pieces that make them, and how long they are.
 
 -- what an operation and a constant leave true of the pieces after it is true after it
-number_keeps : (P : List Piece → Type 0) (rd : ℕ) (z : ℤ) (more : List Piece) → ((a : Action) (ps : List Piece) → P ps → P (Do a ∷ ps)) → ((rd n : ℕ) (ps : List Piece) → P ps → P (Constant rd n ∷ ps)) → P more → P (number_pieces rd z ++ more)
+number_keeps : (P : List Piece → Type 0) (rd : ℕ) (z : ℤ) (more : List Piece) → ((a : Action) (ps : List Piece) → P ps → P (Do a ∷ ps)) → ((rd n : ℕ) (ps : List Piece) → P ps → P (Constant rd (Word64 n) ∷ ps)) → P more → P (number_pieces rd z ++ more)
 number_keeps P rd z more step constant h = number_by (λ ps. P (ps ++ more)) rd z (λ low. step _ more h) (λ fits none. step _ more h) (λ fits. step _ _ (step _ more h)) (λ far. constant rd _ more h)
 
 number_most : (rd : ℕ) (z : ℤ) (more : List Piece) → pieces_most (number_pieces rd z ++ more) ≤ 20 + pieces_most more
 number_most rd z more = number_by (λ ps. pieces_most (ps ++ more) ≤ 20 + pieces_most more) rd z (λ low. omega arith) (λ fits none. omega arith) (λ fits. omega arith) (λ far. omega arith)
 
 -- both numbers leave true of the loop what each piece of them does
-probe_keeps : (P : List Piece → Type 0) (tmp guard count : ℕ) → ((a : Action) (ps : List Piece) → P ps → P (Do a ∷ ps)) → ((rd n : ℕ) (ps : List Piece) → P ps → P (Constant rd n ∷ ps)) → P (Bind 0 ∷ probe_turn tmp) → P (number_pieces 31 (cast_signed w64 (guard * count)) ++ (number_pieces tmp (pos guard) ++ Bind 0 ∷ probe_turn tmp))
+probe_keeps : (P : List Piece → Type 0) (tmp guard count : ℕ) → ((a : Action) (ps : List Piece) → P ps → P (Do a ∷ ps)) → ((rd n : ℕ) (ps : List Piece) → P ps → P (Constant rd (Word64 n) ∷ ps)) → P (Bind 0 ∷ probe_turn tmp) → P (number_pieces 31 (cast_signed w64 (guard * count)) ++ (number_pieces tmp (pos guard) ++ Bind 0 ∷ probe_turn tmp))
 probe_keeps P tmp guard count step constant h = number_keeps P 31 (cast_signed w64 (guard * count)) _ step constant (number_keeps P tmp (pos guard) _ step constant h)
 
 -- where the loop's label and the end's stand
@@ -262,3 +274,31 @@ probe_made context guard count tmp =
     made_by context (StackProbeLoop guard count tmp) pieces (record { among = among; bound = subst (λ m. (k : ℕ) → k < m → P k) (sym owns) (below_more P 1 (below_more P 0 (below_none P) (_, places.0)) (_, places.1)) }) (fits_most context.flags pieces few) (omega arith)
     (probe_keeps GoNowhere t g n (λ a ps h. h) (λ rd n ps h. h) tt) (omega (arith, owns)) refl (λ start end. refl)
     (probe_keeps (λ ps. (at : ℕ) → records_of at (slots_of context.flags ps) ≡ []) t g n (λ a ps h at. h _) (λ rd n ps h at. h _) (λ at. refl)) refl
+
+-- ---- what stands among the code, and what is distant: one piece that makes an instruction, and how long it is.
+
+literal_made : (context : Context) (inst : Inst) (rd : ℕ) (l : Literal) → IsOfSize (inst_size context inst) (pieces_size context.flags (Constant rd l ∷ [])) → request_of context inst ≡ None → ((start end : ℕ) → [] ≡ uses_in context start end inst) →
+    ((start : ℕ) → records_of start (slots_of context.flags (Constant rd l ∷ [])) ≡ inst_records context start (start + pieces_size context.flags (Constant rd l ∷ [])) inst) → inst_constant inst ≡ None → IsMadeOf context inst (Constant rd l ∷ [])
+literal_made context inst rd l fits asks uses records none =
+    let few = elim l as (λ l. 12 + literal_size l + 0 ≤ 2046) [ Word32 n ↦ lit≤ tt | _ ↦ lit≤ tt ] in
+    made_by context inst (Constant rd l ∷ []) (record { among = tt; bound = λ k lt. absurd (omega arith) }) fits few tt (lit≤ tt) asks uses records none
+
+pub constant_made : (context : Context) (rd : Writable Reg) (type : IrType) (imm : ℕ) → is_word_type type ≡ true → IsMadeOf context (LoadInlineConst rd type imm) (Constant (number_of rd.reg) (literal_of type imm) ∷ [])
+constant_made context rd I32 imm word = literal_made context (LoadInlineConst rd I32 imm) (number_of rd.reg) (Word32 imm) (omega arith) refl (λ start end. refl) (λ start. refl) refl
+constant_made context rd I64 imm word = literal_made context (LoadInlineConst rd I64 imm) (number_of rd.reg) (Word64 imm) (omega arith) refl (λ start end. refl) (λ start. refl) refl
+constant_made context rd _ imm word = absurd (cc)
+
+pub far_made : (context : Context) (rd : Writable Reg) (name : ExternalName) (offset : ℤ) → IsMadeOf context (LoadExtNameFar rd name offset) (Constant (number_of rd.reg) (NameAddress name offset) ∷ [])
+far_made context rd name offset =
+    let jump = jump_len context.flags (pos (8 + jump_size context.flags)) in
+    literal_made context (LoadExtNameFar rd name offset) (number_of rd.reg) (NameAddress name offset) (omega arith) refl (λ start end. refl) (λ start. ap (λ at. record { offset = at; event = address_event name offset } ∷ []) (omega arith)) refl
+
+symbol_made : (context : Context) (inst : Inst) (rd : ℕ) (symbol : Symbol) → IsOfSize (inst_size context inst) 8 → request_of context inst ≡ None → ((start end : ℕ) → [] ≡ uses_in context start end inst) →
+    ((start : ℕ) → records_of start (symbol_slots rd symbol) ≡ inst_records context start (start + 8) inst) → inst_constant inst ≡ None → IsMadeOf context inst (Take rd (OfSymbol symbol) ∷ [])
+symbol_made context inst rd symbol fits asks uses records none = made_by context inst (Take rd (OfSymbol symbol) ∷ []) (record { among = tt; bound = λ k lt. absurd (omega arith) }) fits (lit≤ tt) (tt, tt) (lit≤ tt) asks uses records none
+
+pub got_made : (context : Context) (rd : Writable Reg) (name : ExternalName) → IsMadeOf context (LoadExtNameGot rd name) (Take (number_of rd.reg) (OfSymbol (SlotOf name)) ∷ [])
+got_made context rd name = symbol_made context (LoadExtNameGot rd name) (number_of rd.reg) (SlotOf name) refl refl (λ start end. refl) (λ start. refl) refl
+
+pub near_made : (context : Context) (rd : Writable Reg) (name : ExternalName) (offset : ℤ) → IsMadeOf context (LoadExtNameNear rd name offset) (Take (number_of rd.reg) (OfSymbol (AddressOf name offset)) ∷ [])
+near_made context rd name offset = symbol_made context (LoadExtNameNear rd name offset) (number_of rd.reg) (AddressOf name offset) refl refl (λ start end. refl) (λ start. refl) refl

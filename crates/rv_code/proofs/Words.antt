@@ -32,13 +32,13 @@ pub use Rattle.rv_base.specs.declared.trap.TrapCode.{TrapCode}
 pub use Rattle.rv_code.specs.Chains.{Goes, IsAt}
 pub use Rattle.rv_code.specs.Choices.{choice_pieces, extend_pieces, move_action, move_pieces, moves_then, same_numbers, select_pieces}
 pub use Rattle.rv_code.specs.Immediates.{lower_of, lower_of_distance, upper_of, upper_of_distance}
-pub use Rattle.rv_code.specs.InstParts.{access_slots, address_slots, boxing_slots, call_to, far_slots, far_step_slots, got_slots, half_load_slots, half_store_slots, immediate_slots, inline_slots, load_line_slots, load_over, load_slots, moved_to_float, moved_to_integer, near_slots, number_slots}
+pub use Rattle.rv_code.specs.InstParts.{access_slots, address_slots, label_slots, literal_of, boxing_slots, call_to, far_step_slots, half_load_slots, half_store_slots, immediate_slots, load_line_slots, load_over, load_slots, moved_to_float, moved_to_integer, number_slots}
 pub use Rattle.rv_code.specs.InstParts.{offset_slots, return_size, return_slots, stack_load_slots, stack_step_slots, store_line_slots, store_slots, t0_slots, table_slots, tail_slots}
 pub use Rattle.rv_code.specs.Operations.{decoded_addi, decoded_jump, jump_size, short_jump}
-pub use Rattle.rv_code.specs.Pieces.{Action, AreAmong, AreClosedPieces, AreInRange, Bind, Branch, Constant, Copy, Do, GoNowhere, IsBoundIn, IsInRange, Jump, New, Piece, Rri, Trap}
-pub use Rattle.rv_code.specs.Pieces.{immediate_pieces, number_pieces, offset_pieces, after, branches, op_of, own_labels, piece_most, piece_size, pieces_most, pieces_size, slots_of, trap_bytes}
+pub use Rattle.rv_code.specs.Pieces.{Action, AreAmong, AreClosedPieces, AreInRange, Bind, Branch, Constant, Copy, Distant, Do, GoNowhere, IsBoundIn, IsInRange, Jump, Literal, NameAddress, New, OfLabel, OfSymbol, Piece, Rri, Take, Trap, Word32, Word64}
+pub use Rattle.rv_code.specs.Pieces.{immediate_pieces, number_pieces, offset_pieces, after, distant_slots, literal_load, literal_size, literal_slot, literal_slots, lower_word, slots_for, symbol_slots, upper_word, branches, op_of, own_labels, piece_most, piece_size, pieces_most, pieces_size, slots_of, trap_bytes}
 pub use Rattle.rv_code.specs.Sites.{AimsFrom, BytesAt, CodeHas, ComesTo, HasOps, IsPlacedAt, LeadsOn, Site, StandsIn}
-pub use Rattle.rv_code.specs.Slots.{Fixup, Allocate, AreClosed, AreSelfContained, Data, Here, IsBoundNear, Label, Names, Records, Op, Own, Slot, address_event, between, call_event, here_at, label_of, names_of, own_label, records_of, size_of, slot_size, uses_of}
+pub use Rattle.rv_code.specs.Slots.{AddressOf, Fixup, SlotOf, Symbol, Allocate, AreClosed, AreSelfContained, Data, Here, IsBoundNear, Label, Names, Records, Op, Own, Slot, address_event, between, call_event, here_at, label_of, names_of, own_label, records_of, size_of, slot_size, uses_of}
 pub use Rattle.rv_code.specs.Usable.{AreFineResults, AreListed, AreMoves, IsApart, IsFine, IsFineAddress, IsFineChoice, IsFineResult, IsFineTarget, IsFineTry, IsListed, IsMove, IsUsable}
 pub use Rattle.rv_encode.specs.Operations.{decoded, decoded_branch, decoded_load, decoded_rri, decoded_rrr, decoded_store, has_load, has_numbers, has_store, load_op, load_row, store_op, store_row}
 pub use Rattle.rv_encode.specs.Registers.{IsIntRegister, IsRealRegister}

@@ -1,14 +1,19 @@
--- What pieces compute: values alone, with labels as places in the list.
-use Rattle.std.specs.Prelude.{◌≡◌, Bool, true, false, ℕ, ℤ, zero, suc, ◌+◌, ◌%◌, ◌*◌, ◌^◌, ◌≤◌, if◌then◌else◌, List, [], ◌∷◌, length, Option, Some, None}
+-- What pieces compute: values alone, with own labels as places in the list, and the addresses of all else in an environment.
+use Rattle.std.specs.Prelude.{◌≡◌, Bool, true, false, ℕ, ℤ, zero, suc, ◌+◌, ◌%◌, ◌*◌, ◌^◌, ◌<◌, ◌≤◌, if◌then◌else◌, List, [], ◌∷◌, length, Option, Some, None}
 use Rattle.rv_base.specs.CondCodes.{holds}
+use Rattle.rv_base.specs.LabelUse.{code_limit}
+use Rattle.rv_machine.specs.Arithmetic.{extend_word}
 use Rattle.rv_machine.specs.Memory.{load_result, store_bytes}
-use Rattle.rv_machine.specs.State.{State, IsState, Values, reg, set_reg, wrap, low64}
+use Rattle.rv_machine.specs.State.{State, Memory, IsState, Values, reg, set_reg, wrap, low64}
 use Rattle.rv_machine.specs.Steps.{iter}
 use Rattle.rv_encode.specs.Operations.{load_op, store_op}
-use Rattle.rv_inst.specs.Meaning.{alu_rrr, alu_rri, put_bytes, addresses_from, AreOutside}
+use Rattle.rv_inst.specs.Meaning.{Environment, symbol_at, alu_rrr, alu_rri, put_bytes, addresses_from, AreOutside}
 use Rattle.rv_code.specs.Chains.{IsAt}
-use Rattle.rv_code.specs.Pieces.{Action, Rrr, Rri, Lui, Load, Store, Copy, Piece, Do, Constant, Branch, Jump, New, Bind, Go, Trap, after, slots_of, pieces_size, AreInRange}
+use Rattle.rv_ops.specs.declared.memory.LoadOP.TheVariants.{Ld}
+use Rattle.rv_code.specs.InstRuns.{environment}
+use Rattle.rv_code.specs.Pieces.{Action, Rrr, Rri, Lui, Load, Store, Copy, Literal, Word32, Word64, NameAddress, Distant, OfLabel, OfSymbol, Piece, Do, Constant, Take, Branch, Jump, New, Bind, Go, Trap, after, slots_of, pieces_size, AreInRange}
 use Rattle.rv_code.specs.Sites.{Site, StandsIn}
+use Rattle.rv_code.specs.Slots.{Symbol, AddressOf, SlotOf}
 
 -- ---- values
 
@@ -43,6 +48,21 @@ wrote (Load op rd base offset) v m = m
 wrote (Store op base src offset) v m = addresses_from (address v base offset) (length (store_bytes (store_op op) (reg v src))) ∷ m
 wrote (Copy width rd rs) v m = m
 
+-- what a literal loads
+abbrev pub literal_value : Environment → Literal → ℕ
+literal_value env (Word32 n) = extend_word n
+literal_value env (Word64 n) = wrap n
+literal_value env (NameAddress name addend) = symbol_at env name addend
+
+-- the address of a symbol plus a number, or what stands in its slot
+abbrev pub symbol_value : Environment → Symbol → Memory → ℕ
+symbol_value env (AddressOf name addend) mem = symbol_at env name addend
+symbol_value env (SlotOf name) mem = load_result (load_op Ld) mem (env.slot name.number)
+
+abbrev pub distant_value : Environment → Distant → Memory → ℕ
+distant_value env (OfLabel l) mem = env.label l.number
+distant_value env (OfSymbol symbol) mem = symbol_value env symbol mem
+
 -- the pieces that are still ahead, the values, and the addresses that were written
 pub record Point : Type 0 where
   pub ahead : List Piece
@@ -61,31 +81,34 @@ to None v m = None
 to (Some ps) v m = Some (at ps v m)
 
 -- one piece of a whole; none where it leads out of it, or is no operation of integers
-abbrev pub next : List Piece → List Piece → Values → List (List ℕ) → Option Point
-next whole [] v m = None
-next whole (Do a ∷ ps) v m = if is_of_integers a then Some (at ps (effect a v) (wrote a v m)) else None
-next whole (Constant rd n ∷ ps) v m = Some (at ps (set_reg v rd (wrap n)) m)
-next whole (Branch how a b k ∷ ps) v m = if holds how (reg v a) (reg v b) then to (after k whole) v m else Some (at ps v m)
-next whole (Jump k ∷ ps) v m = to (after k whole) v m
-next whole (New ∷ ps) v m = Some (at ps v m)
-next whole (Bind k ∷ ps) v m = Some (at ps v m)
-next whole (Go l ∷ ps) v m = None
-next whole (Trap code ∷ ps) v m = None
+abbrev pub next : Environment → List Piece → List Piece → Values → List (List ℕ) → Option Point
+next env whole [] v m = None
+next env whole (Do a ∷ ps) v m = if is_of_integers a then Some (at ps (effect a v) (wrote a v m)) else None
+next env whole (Constant rd l ∷ ps) v m = Some (at ps (set_reg v rd (literal_value env l)) m)
+next env whole (Take rd to ∷ ps) v m = Some (at ps (set_reg v rd (distant_value env to v.mem)) m)
+next env whole (Branch how a b k ∷ ps) v m = if holds how (reg v a) (reg v b) then to (after k whole) v m else Some (at ps v m)
+next env whole (Jump k ∷ ps) v m = to (after k whole) v m
+next env whole (New ∷ ps) v m = Some (at ps v m)
+next env whole (Bind k ∷ ps) v m = Some (at ps v m)
+next env whole (Go l ∷ ps) v m = None
+next env whole (Trap code ∷ ps) v m = None
 
 abbrev pub and_then : Option Point → (Point → Option Point) → Option Point
 and_then None f = None
 and_then (Some p) f = f p
 
 -- so many
-abbrev pub evaluate : ℕ → List Piece → Point → Option Point
-evaluate zero whole p = Some p
-evaluate (suc n) whole p = and_then (next whole p.ahead p.values p.written) (evaluate n whole)
+abbrev pub evaluate : Environment → ℕ → List Piece → Point → Option Point
+evaluate env zero whole p = Some p
+evaluate env (suc n) whole p = and_then (next env whole p.ahead p.values p.written) (evaluate env n whole)
 
--- how many steps of the machine they are at most: one for each piece, but three for a constant, which is loaded and jumped over
+-- how many steps of the machine they are at most: one for each piece, but two for what is distant, and three for a constant, which is loaded
+-- and jumped over
 abbrev pub steps_for : List Piece → ℕ
 steps_for [] = 0
 steps_for (Do a ∷ ps) = 1
-steps_for (Constant rd n ∷ ps) = 3
+steps_for (Constant rd l ∷ ps) = 3
+steps_for (Take rd to ∷ ps) = 2
 steps_for (Branch how a b k ∷ ps) = 1
 steps_for (Jump k ∷ ps) = 1
 steps_for (New ∷ ps) = 0
@@ -97,11 +120,16 @@ abbrev pub steps_on : Option Point → (Point → ℕ) → ℕ
 steps_on None f = 0
 steps_on (Some p) f = f p
 
-abbrev pub steps_of : ℕ → List Piece → Point → ℕ
-steps_of zero whole p = 0
-steps_of (suc n) whole p = steps_for p.ahead + steps_on (next whole p.ahead p.values p.written) (steps_of n whole)
+abbrev pub steps_of : Environment → ℕ → List Piece → Point → ℕ
+steps_of env zero whole p = 0
+steps_of env (suc n) whole p = steps_for p.ahead + steps_on (next env whole p.ahead p.values p.written) (steps_of env n whole)
 
 -- ---- on the machine
+
+-- code that is short enough for every distance in it, and in which labels are bound
+pub record AreShort (site : Site) : Type 0 where
+  pub short : length site.bytes < code_limit
+  pub labels : (label at : ℕ) → site.place label ≡ Some at → at ≤ length site.bytes
 
 -- slots of a whole stand in finished code, whose end is that offset
 pub record StandIn (site : Site) (allocated start end : ℕ) (whole : List Piece) : Type 0 where
@@ -110,6 +138,7 @@ pub record StandIn (site : Site) (allocated start end : ℕ) (whole : List Piece
   pub ends : start + pieces_size site.context.flags whole ≡ end
   pub room : end ≤ length site.bytes
   pub ranges : AreInRange whole
+  pub bounds : AreShort site
 
 -- a machine with these values where these pieces are ahead, of code from an offset on
 pub record IsAtPoint (site : Site) (allocated start end : ℕ) (p : Point) (s : State) : Type 0 where
@@ -135,4 +164,4 @@ AllOutside site (addresses ∷ m) = AreOutside site.base (length site.bytes) add
 
 -- where pieces stand that write no byte of the code, the machine's steps over them are what the evaluation says, at most so many
 abbrev pub PiecesRun : Type 0
-PiecesRun = (site : Site) (allocated start end : ℕ) (whole : List Piece) → StandIn site allocated start end whole → (n : ℕ) (p q : Point) (s : State) → evaluate n whole p ≡ Some q → AllOutside site q.written → IsAtPoint site allocated start end p s → ComesToPoint (steps_of n whole p) site allocated start end q s
+PiecesRun = (site : Site) (first last allocated start end : ℕ) (whole : List Piece) → StandIn site allocated start end whole → (n : ℕ) (p q : Point) (s : State) → evaluate (environment site first last) n whole p ≡ Some q → AllOutside site q.written → IsAtPoint site allocated start end p s → ComesToPoint (steps_of (environment site first last) n whole p) site allocated start end q s

@@ -1,6 +1,5 @@
 -- The parts of each instruction's code: links of the proof.
-use Rattle.std.specs.Prelude.{ℕ, ◌+◌, ◌%◌, ◌^◌, ◌==◌, Bool, false, if◌then◌else◌, List, ◌∷◌, ◌++◌, length, Option, Some, None, ℤ, pos, true}
-use Rattle.std.specs.Int.{to_le_bytes, w32, w64}
+use Rattle.std.specs.Prelude.{ℕ, ◌+◌, ◌==◌, Bool, false, if◌then◌else◌, List, ◌∷◌, ◌++◌, length, Option, Some, None, ℤ, pos, true}
 use Rattle.std.proofs.Common.{refl, []}
 use Rattle.rv_base.specs.declared.call.CallInfo.{CallInfo}
 use Rattle.rv_base.specs.declared.call.TryCallInfo.{TryCallInfo}
@@ -38,7 +37,7 @@ use Rattle.rv_inst.specs.declared.inst.Inst.{Inst}
 use Rattle.rv_inst.specs.declared.inst.Inst.TheVariants.{Nop0, Nop4, EBreak, SequencePoint, Args, Rets, DummyUse, EmitIsland, RawData, Lui, Auipc, LoadInlineConst, AluRRR, AluRRImm12, Mov, MovFromPReg, Extend, Select, Load, Store, LoadAddr, LabelAddress, Ret, TrapIf, Jal, CondBr, BrTable, Udf, Jalr, StackProbeLoop, LoadExtNameGot, LoadExtNameNear, LoadExtNameFar, Call, CallInd, ReturnCall, ReturnCallInd, Unwind}
 use Rattle.rv_inst.specs.declared.inst.CondBrTarget.{CondBrTarget}
 use Rattle.rv_inst.specs.declared.inst.CondBrTarget.TheVariants.{Label as ToLabel, Fallthrough}
-use Rattle.rv_inst.specs.declared.label_use.LabelUse.TheVariants.{Jal20, B12, PCRelHi20, PCRelLo12I}
+use Rattle.rv_inst.specs.declared.label_use.LabelUse.TheVariants.{Jal20, B12, PCRelLo12I}
 use Rattle.rv_machine.specs.declared.decoding.Decoded.{Decoded}
 use Rattle.rv_machine.specs.declared.ops.MOp.TheVariants.{Base}
 use Rattle.rv_machine.specs.declared.ops.BaseOp.TheVariants as base
@@ -49,18 +48,19 @@ use Rattle.rv_machine.specs.Arithmetic.{low_word}
 use Rattle.mach_uses.specs.Labels.{constant_label}
 use Rattle.rv_inst.specs.Addresses.{Location, Based, AtLabel, AtConstant, location_of, is_near}
 use Rattle.rv_inst.specs.Halves.{high_bits}
-use Rattle.rv_code.specs.Immediates.{upper_of, lower_of, upper_of_distance, lower_of_distance}
+use Rattle.rv_code.specs.Immediates.{upper_of, lower_of, lower_of_distance}
 use Rattle.mach_records.specs.declared.records.Event.TheVariants as event
 use Rattle.rv_code.specs.declared.state.EmitVState.{EmitVState}
 use Rattle.rv_code.specs.Operations.{decoded_addi, decoded_jalr, decoded_jump, short_jump}
 use Rattle.rv_code.specs.Choices.{extend_pieces, move_pieces, select_pieces}
 use Rattle.rv_code.specs.Sequences.{sequence_pieces}
-pub use Rattle.rv_code.specs.Pieces.{inline_slots, load_over, trap_bytes, trap_slots}
+pub use Rattle.rv_code.specs.Pieces.{label_slots, literal_slots, load_over, symbol_slots, trap_bytes, trap_slots, upper_at}
+use Rattle.rv_code.specs.Pieces.{Literal, Word32, Word64, NameAddress, OfLabel, OfSymbol, Constant, Take}
 use Rattle.rv_code.specs.Pieces.{immediate_pieces, lower_pieces, number_pieces, offset_pieces, slots_of}
 use Rattle.rv_code.specs.Probes.{probe_pieces}
 use Rattle.rv_code.specs.Traps.{trap_if_pieces}
 use Rattle.rv_code.specs.Tables.{jump_slots}
-use Rattle.rv_code.specs.Slots.{AddressOf, SlotOf, Target, Label, Slot, Op, Fixup, Data, Records, Names, RelocPair, Address, CallTo, Part, Ask, Slots, size_of}
+use Rattle.rv_code.specs.Slots.{AddressOf, SlotOf, Target, Label, Slot, Op, Fixup, Data, Records, Names, CallTo, Part, Ask, Slots, size_of}
 
 -- ---- jumps
 
@@ -74,10 +74,6 @@ jump_to flags target = Fixup (jump_kind flags) target (λ d. short_jump flags d 
 
 -- ---- pieces of sequences
 
--- a register is the upper part of the distance to a label, added to the word's own address
-abbrev pub upper_at : ℕ → MachLabel → Slot
-upper_at rd l = Fixup PCRelHi20 (Label l) (λ d. decoded (Base base.Auipc) rd 0 0 (upper_of_distance d) ∷ [])
-
 -- a branch to a target where a comparison holds
 abbrev pub branch_to : IntegerCompare → Target → Slot
 branch_to kind target = Fixup B12 target (λ d. decoded_branch kind d ∷ [])
@@ -88,8 +84,9 @@ branch_slots flags kind Fallthrough not_taken = []
 branch_slots flags kind (ToLabel t) Fallthrough = branch_to kind (Label t) ∷ []
 branch_slots flags kind (ToLabel t) (ToLabel f) = branch_to kind (Label t) ∷ jump_to flags (Label f) ∷ []
 
-abbrev pub constant_slots : IsaFlags → ℕ → IrType → ℕ → List Slot
-constant_slots flags rd type imm = if bits_of type == 32 then inline_slots flags rd loads.Lw 4 (to_le_bytes w32 (imm % 2 ^ 32)) else inline_slots flags rd loads.Ld 8 (to_le_bytes w64 imm)
+-- a constant of a type
+abbrev pub literal_of : IrType → ℕ → Literal
+literal_of type imm = if bits_of type == 32 then Word32 imm else Word64 imm
 
 -- an offset in a register
 abbrev pub lower_slots : IsaFlags → ℕ → ℤ → List Slot
@@ -104,10 +101,6 @@ offset_slots flags rd o = slots_of flags (offset_pieces rd o)
 -- a number of 64 bits
 abbrev pub number_slots : IsaFlags → ℕ → ℤ → List Slot
 number_slots flags rd z = slots_of flags (number_pieces rd z)
-
--- the address of a label in a register
-abbrev pub label_slots : ℕ → MachLabel → List Slot
-label_slots rd l = upper_at rd l ∷ Fixup PCRelLo12I (Label l) (λ d. decoded_addi rd rd (lower_of_distance d) ∷ []) ∷ []
 
 -- any address; a constant's is that of its label, once the constant is named
 abbrev pub address_slots : IsaFlags → ℕ → Location → List Slot
@@ -189,20 +182,6 @@ labelled (AtConstant k) = AtLabel (constant_label k)
 abbrev pub table_slots : IsaFlags → ℕ → ℕ → ℕ → List MachLabel → List Slot
 table_slots flags index tmp1 tmp2 [] = []
 table_slots flags index tmp1 tmp2 (default ∷ labels) = slots_of flags (extend_pieces 31 index false 32) ++ number_slots flags tmp2 (pos (length labels)) ++ jump_slots tmp1 tmp2 default labels
-
--- ---- symbols
-
--- the address of a symbol's slot by the distance to it, and a load from there
-abbrev pub got_slots : ℕ → ExternalName → List Slot
-got_slots rd name = RelocPair (SlotOf name) (λ d. decoded (Base base.Auipc) rd 0 0 (upper_of_distance d) ∷ []) (λ d. decoded_load loads.Ld rd rd (lower_of_distance d) ∷ []) ∷ []
-
--- the address of a symbol by the distance to it
-abbrev pub near_slots : ℕ → ExternalName → ℤ → List Slot
-near_slots rd name offset = RelocPair (AddressOf name offset) (λ d. decoded (Base base.Auipc) rd 0 0 (upper_of_distance d) ∷ []) (λ d. decoded_addi rd rd (lower_of_distance d) ∷ []) ∷ []
-
--- the address of a symbol from among the code
-abbrev pub far_slots : IsaFlags → ℕ → ExternalName → ℤ → List Slot
-far_slots flags rd name offset = load_over flags rd loads.Ld 8 ++ Address name offset ∷ []
 
 -- ---- tail calls
 
@@ -311,7 +290,7 @@ parts_of context setting (EmitIsland needed_space) = Ask needed_space ∷ []
 parts_of context setting (RawData bytes) = slots_alone (Data bytes ∷ [])
 parts_of context setting (Lui rd imm) = slots_alone (Op (short_lui context.flags (number_of rd.reg) imm.value) ∷ [])
 parts_of context setting (Auipc rd imm) = slots_alone (Op (decoded (Base base.Auipc) (number_of rd.reg) 0 0 imm.value) ∷ [])
-parts_of context setting (LoadInlineConst rd type imm) = slots_alone (constant_slots context.flags (number_of rd.reg) type imm)
+parts_of context setting (LoadInlineConst rd type imm) = slots_alone (slots_of context.flags (Constant (number_of rd.reg) (literal_of type imm) ∷ []))
 parts_of context setting (AluRRR op rd rs1 rs2) = slots_alone (Op (short_rrr context.flags op (number_of rd.reg) (number_of rs1) (number_of rs2)) ∷ [])
 parts_of context setting (AluRRImm12 op rd rs imm) = slots_alone (Op (short_rri context.flags op (number_of rd.reg) (number_of rs) imm.value) ∷ [])
 parts_of context setting (Mov rd rm type) = slots_alone (slots_of context.flags (move_pieces (class_of rd.reg) type (number_of rd.reg) (number_of rm)))
@@ -321,7 +300,7 @@ parts_of context setting (Select info) = slots_alone (slots_of context.flags (se
 parts_of context setting (Load rd op flags from) = slots_alone (load_line_slots context.flags (number_of rd.reg) op flags.trap (location_of context.frame from))
 parts_of context setting (Store src op flags to) = slots_alone (store_line_slots context.flags op (number_of src) flags.trap (location_of context.frame to))
 parts_of context setting (LoadAddr rd mem) = slots_alone (address_slots context.flags (number_of rd.reg) (location_of context.frame mem))
-parts_of context setting (LabelAddress dst label) = slots_alone (address_slots context.flags (number_of dst.reg) (AtLabel label))
+parts_of context setting (LabelAddress dst label) = slots_alone (slots_of context.flags (Take (number_of dst.reg) (OfLabel label) ∷ []))
 parts_of context setting Ret = slots_alone (Op (short_jalr context.flags 0 1 (pos 0)) ∷ [])
 parts_of context setting (TrapIf cmp code) = slots_alone (slots_of context.flags (trap_if_pieces cmp code))
 parts_of context setting (Jal label) = slots_alone (jump_to context.flags (Label label) ∷ [])
@@ -330,9 +309,9 @@ parts_of context setting (BrTable index tmp1 tmp2 targets) = Ask (table_space (l
 parts_of context setting (Udf code) = slots_alone (trap_slots context.flags code)
 parts_of context setting (Jalr rd base offset) = slots_alone (Op (short_jalr context.flags (number_of rd.reg) (number_of base) offset.value) ∷ [])
 parts_of context setting (StackProbeLoop guard_size probe_count tmp) = slots_alone (slots_of context.flags (probe_pieces (number_of tmp.reg) (low_word guard_size) (low_word probe_count)))
-parts_of context setting (LoadExtNameGot rd name) = slots_alone (got_slots (number_of rd.reg) name)
-parts_of context setting (LoadExtNameNear rd name offset) = slots_alone (near_slots (number_of rd.reg) name offset)
-parts_of context setting (LoadExtNameFar rd name offset) = slots_alone (far_slots context.flags (number_of rd.reg) name offset)
+parts_of context setting (LoadExtNameGot rd name) = slots_alone (slots_of context.flags (Take (number_of rd.reg) (OfSymbol (SlotOf name)) ∷ []))
+parts_of context setting (LoadExtNameNear rd name offset) = slots_alone (slots_of context.flags (Take (number_of rd.reg) (OfSymbol (AddressOf name offset)) ∷ []))
+parts_of context setting (LoadExtNameFar rd name offset) = slots_alone (slots_of context.flags (Constant (number_of rd.reg) (NameAddress name offset) ∷ []))
 parts_of context setting (Call info) = call_parts context.flags (call_slots context.flags context.frame info) (loads_unless info.patchable info.defs) info.try_call_info
 parts_of context setting (CallInd info) = call_parts context.flags (call_ind_slots context.flags context.frame info) (result_loads info.defs) info.try_call_info
 parts_of context setting (ReturnCall info) = Ask (return_size context.flags context.frame info.new_stack_arg_size + 8) ∷ Slots (tail_slots context.flags context.frame info.new_stack_arg_size info.dest) ∷ []

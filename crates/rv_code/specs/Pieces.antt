@@ -1,7 +1,8 @@
 -- The pieces of an instruction's code: they name registers and labels of the sequence's own, but no length, no address and no flag.
-use Rattle.std.specs.Prelude.{◌≡◌, ℕ, ◌+◌, ◌^◌, ◌<◌, ◌==◌, ◌&&◌, ℤ, pos, false, if◌then◌else◌, List, [], ◌∷◌, ◌++◌, length, nat_eq, Option, Some, None}
-use Rattle.std.specs.Int.{to_le_bytes, w64}
+use Rattle.std.specs.Prelude.{◌≡◌, ℕ, ◌+◌, ◌%◌, ◌^◌, ◌<◌, ◌==◌, ◌&&◌, ℤ, pos, false, if◌then◌else◌, List, [], ◌∷◌, ◌++◌, length, nat_eq, Option, Some, None}
+use Rattle.std.specs.Int.{to_le_bytes, w32, w64}
 use Rattle.rv_base.specs.declared.condcodes.IntCC.{IntCC}
+use Rattle.rv_base.specs.declared.external_name.ExternalName.{ExternalName}
 use Rattle.rv_base.specs.declared.flags.IsaFlags.{IsaFlags}
 use Rattle.rv_base.specs.declared.label.MachLabel.{MachLabel}
 use Rattle.rv_base.specs.declared.trap.TrapCode.{TrapCode}
@@ -12,7 +13,7 @@ use Rattle.rv_ops.specs.declared.float_fields.FRM.TheVariants.{RNE}
 use Rattle.rv_ops.specs.declared.float_fields.FpuOPWidth.{FpuOPWidth}
 use Rattle.rv_ops.specs.declared.fpu.FpuOPRRR.TheVariants.{Fsgnj}
 use Rattle.rv_ops.specs.declared.memory.LoadOP.{LoadOP}
-use Rattle.rv_ops.specs.declared.memory.LoadOP.TheVariants.{Ld}
+use Rattle.rv_ops.specs.declared.memory.LoadOP.TheVariants.{Ld, Lw}
 use Rattle.rv_ops.specs.declared.memory.StoreOP.{StoreOP}
 use Rattle.rv_ops.specs.Compare.{branch_of, is_reversed}
 use Rattle.rv_ops.specs.Memory.{is_float_load, is_float_store}
@@ -26,11 +27,11 @@ use Rattle.rv_inst.specs.Addresses.{inline_size, is_splittable}
 use Rattle.rv_inst.specs.Forms.{jump_kind, short_rrr, short_rri, short_lui, short_load, short_store}
 use Rattle.rv_inst.specs.LabelUse.{marks_of}
 use Rattle.rv_inst.specs.Rules.{is_beyond}
-use Rattle.rv_inst.specs.declared.label_use.LabelUse.TheVariants.{B12}
+use Rattle.rv_inst.specs.declared.label_use.LabelUse.TheVariants.{B12, PCRelHi20, PCRelLo12I}
 use Rattle.mach_records.specs.declared.records.Event.TheVariants as event
-use Rattle.rv_code.specs.Immediates.{upper_of, lower_of}
-use Rattle.rv_code.specs.Operations.{short_jump, jump_size}
-use Rattle.rv_code.specs.Slots.{Slot, Label, Own, Op, Fixup, Data, Records, Allocate, Here}
+use Rattle.rv_code.specs.Immediates.{upper_of, lower_of, upper_of_distance, lower_of_distance}
+use Rattle.rv_code.specs.Operations.{decoded_addi, short_jump, jump_size}
+use Rattle.rv_code.specs.Slots.{Symbol, AddressOf, SlotOf, Slot, Label, Own, Op, Fixup, Data, Records, Allocate, Here, RelocPair, Address}
 
 -- an operation of the machine after which the next one is done: of two registers, or of a register and an immediate; an upper immediate
 -- in a register; a load or a store, at a register plus an offset; or the move of a floating-point register, of a number of some width
@@ -42,11 +43,24 @@ pub data Action : Type 0 where
   Store : StoreOP → ℕ → ℕ → ℤ → Action
   Copy : FpuOPWidth → ℕ → ℕ → Action
 
--- such an operation; 64 bits of a number in a register, from among the code; a branch to an own label where two registers compare so, and
--- a jump to one; an own label that is allocated, and one that is bound here; a jump to a label of the listing; or a trap
+-- what stands among the code: a number of 32 bits, one of 64 bits, or a symbol's address plus a number, which a linker fills
+pub data Literal : Type 0 where
+  Word32 : ℕ → Literal
+  Word64 : ℕ → Literal
+  NameAddress : ExternalName → ℤ → Literal
+
+-- what two words reach by the distance to it: a label of the listing, or a symbol or its slot, whose distance a linker fills
+pub data Distant : Type 0 where
+  OfLabel : MachLabel → Distant
+  OfSymbol : Symbol → Distant
+
+-- such an operation; a register that gets what stands among the code, or the address of what is distant, where that is a symbol's slot what
+-- stands in it; a branch to an own label where two registers compare so, and a jump to one; an own label that is allocated, and one that is
+-- bound here; a jump to a label of the listing; or a trap
 pub data Piece : Type 0 where
   Do : Action → Piece
-  Constant : ℕ → ℕ → Piece
+  Constant : ℕ → Literal → Piece
+  Take : ℕ → Distant → Piece
   Branch : IntCC → ℕ → ℕ → ℕ → Piece
   Jump : ℕ → Piece
   New : Piece
@@ -80,13 +94,53 @@ trap_slots flags code = Records (event.Trap code) ∷ Data (trap_bytes flags) �
 abbrev pub load_over : IsaFlags → ℕ → LoadOP → ℕ → List Slot
 load_over flags rd op size = Op (decoded (Base Auipc) rd 0 0 (pos 0)) ∷ Op (decoded_load op rd rd (pos (8 + jump_size flags))) ∷ Op (short_jump flags (pos (size + jump_size flags))) ∷ []
 
--- a constant of so many bytes after the code that loads it, which jumps over it
-abbrev pub inline_slots : IsaFlags → ℕ → LoadOP → ℕ → List ℕ → List Slot
-inline_slots flags rd op size bytes = load_over flags rd op size ++ Data bytes ∷ []
+-- a literal: by which load, how many bytes it has, and these
+abbrev pub literal_load : Literal → LoadOP
+literal_load (Word32 n) = Lw
+literal_load (Word64 n) = Ld
+literal_load (NameAddress name addend) = Ld
+
+abbrev pub literal_size : Literal → ℕ
+literal_size (Word32 n) = 4
+literal_size (Word64 n) = 8
+literal_size (NameAddress name addend) = 8
+
+abbrev pub literal_slot : Literal → Slot
+literal_slot (Word32 n) = Data (to_le_bytes w32 (n % 2 ^ 32))
+literal_slot (Word64 n) = Data (to_le_bytes w64 n)
+literal_slot (NameAddress name addend) = Address name addend
+
+-- after the code that loads it, which jumps over it
+abbrev pub literal_slots : IsaFlags → ℕ → Literal → List Slot
+literal_slots flags rd l = load_over flags rd (literal_load l) (literal_size l) ++ literal_slot l ∷ []
+
+-- a register is the upper part of the distance to a label, added to the word's own address
+abbrev pub upper_word : ℕ → ℤ → Decoded
+upper_word rd d = decoded (Base Auipc) rd 0 0 (upper_of_distance d)
+
+abbrev pub upper_at : ℕ → MachLabel → Slot
+upper_at rd l = Fixup PCRelHi20 (Label l) (λ d. upper_word rd d ∷ [])
+
+-- the address of a label in a register
+abbrev pub label_slots : ℕ → MachLabel → List Slot
+label_slots rd l = upper_at rd l ∷ Fixup PCRelLo12I (Label l) (λ d. decoded_addi rd rd (lower_of_distance d) ∷ []) ∷ []
+
+-- the address of a symbol, or what stands in its slot
+abbrev pub lower_word : Symbol → ℕ → ℤ → Decoded
+lower_word (AddressOf name addend) rd d = decoded_addi rd rd (lower_of_distance d)
+lower_word (SlotOf name) rd d = decoded_load Ld rd rd (lower_of_distance d)
+
+abbrev pub symbol_slots : ℕ → Symbol → List Slot
+symbol_slots rd symbol = RelocPair symbol (λ d. upper_word rd d ∷ []) (λ d. lower_word symbol rd d ∷ []) ∷ []
+
+abbrev pub distant_slots : ℕ → Distant → List Slot
+distant_slots rd (OfLabel l) = label_slots rd l
+distant_slots rd (OfSymbol symbol) = symbol_slots rd symbol
 
 abbrev pub slots_for : IsaFlags → Piece → List Slot
 slots_for flags (Do a) = Op (op_of flags a) ∷ []
-slots_for flags (Constant rd n) = inline_slots flags rd Ld 8 (to_le_bytes w64 n)
+slots_for flags (Constant rd l) = literal_slots flags rd l
+slots_for flags (Take rd to) = distant_slots rd to
 slots_for flags (Branch how a b k) = Fixup B12 (Own k) (λ d. branches how a b d ∷ []) ∷ []
 slots_for flags (Jump k) = Fixup (jump_kind flags) (Own k) (λ d. short_jump flags d ∷ []) ∷ []
 slots_for flags New = Allocate ∷ []
@@ -101,7 +155,8 @@ slots_of flags (p ∷ ps) = slots_for flags p ++ slots_of flags ps
 -- how long they are
 abbrev pub piece_size : IsaFlags → Piece → ℕ
 piece_size flags (Do a) = (op_of flags a).len
-piece_size flags (Constant rd n) = inline_size flags 8
+piece_size flags (Constant rd l) = inline_size flags (literal_size l)
+piece_size flags (Take rd to) = 8
 piece_size flags (Branch how a b k) = 4
 piece_size flags (Jump k) = length (marks_of (jump_kind flags))
 piece_size flags New = 0
@@ -116,7 +171,8 @@ pieces_size flags (p ∷ ps) = piece_size flags p + pieces_size flags ps
 -- and at most, in whatever forms
 abbrev pub piece_most : Piece → ℕ
 piece_most (Do a) = 4
-piece_most (Constant rd n) = 20
+piece_most (Constant rd l) = 12 + literal_size l
+piece_most (Take rd to) = 8
 piece_most (Branch how a b k) = 4
 piece_most (Jump k) = 4
 piece_most New = 0
@@ -130,7 +186,7 @@ pieces_most (p ∷ ps) = piece_most p + pieces_most ps
 
 -- ---- what they ask
 
--- numbers of registers, shift amounts and immediates in their ranges; of a constant, no x0
+-- numbers of registers, shift amounts and immediates in their ranges; of what is among the code or distant, no x0
 abbrev pub IsInRange : Action → Type 0
 IsInRange (Rrr op rd a b) = rd < 32
 IsInRange (Rri op rd rs imm) = (rd < 32) × (is_beyond (shift_limit (immediate_of op)) imm ≡ false) × (low64 imm < 2 ^ 64)
@@ -142,7 +198,8 @@ IsInRange (Copy width rd rs) = rd < 32
 abbrev pub AreInRange : List Piece → Type 0
 AreInRange [] = Unit {0}
 AreInRange (Do a ∷ ps) = IsInRange a × AreInRange ps
-AreInRange (Constant rd n ∷ ps) = ((0 < rd) × (rd < 32)) × AreInRange ps
+AreInRange (Constant rd l ∷ ps) = ((0 < rd) × (rd < 32)) × AreInRange ps
+AreInRange (Take rd to ∷ ps) = ((0 < rd) × (rd < 32)) × AreInRange ps
 AreInRange (Branch how a b k ∷ ps) = AreInRange ps
 AreInRange (Jump k ∷ ps) = AreInRange ps
 AreInRange (New ∷ ps) = AreInRange ps
@@ -156,7 +213,8 @@ AreInRange (Trap code ∷ ps) = AreInRange ps
 abbrev pub after : ℕ → List Piece → Option (List Piece)
 after k [] = None
 after k (Do a ∷ ps) = after k ps
-after k (Constant rd n ∷ ps) = after k ps
+after k (Constant rd l ∷ ps) = after k ps
+after k (Take rd to ∷ ps) = after k ps
 after k (Branch how a b j ∷ ps) = after k ps
 after k (Jump j ∷ ps) = after k ps
 after k (New ∷ ps) = after k ps
@@ -168,7 +226,8 @@ after k (Trap code ∷ ps) = after k ps
 abbrev pub own_labels : List Piece → ℕ
 own_labels [] = 0
 own_labels (Do a ∷ ps) = own_labels ps
-own_labels (Constant rd n ∷ ps) = own_labels ps
+own_labels (Constant rd l ∷ ps) = own_labels ps
+own_labels (Take rd to ∷ ps) = own_labels ps
 own_labels (Branch how a b k ∷ ps) = own_labels ps
 own_labels (Jump k ∷ ps) = own_labels ps
 own_labels (New ∷ ps) = 1 + own_labels ps
@@ -184,7 +243,8 @@ IsBoundIn whole k = (qs : List Piece) × (after k whole ≡ Some qs)
 abbrev pub AreAmong : ℕ → List Piece → Type 0
 AreAmong total [] = Unit {0}
 AreAmong total (Do a ∷ ps) = AreAmong total ps
-AreAmong total (Constant rd n ∷ ps) = AreAmong total ps
+AreAmong total (Constant rd l ∷ ps) = AreAmong total ps
+AreAmong total (Take rd to ∷ ps) = AreAmong total ps
 AreAmong total (Branch how a b k ∷ ps) = (k < total) × AreAmong total ps
 AreAmong total (Jump k ∷ ps) = (k < total) × AreAmong total ps
 AreAmong total (New ∷ ps) = AreAmong total ps
@@ -197,11 +257,16 @@ pub record AreClosedPieces (whole : List Piece) : Type 0 where
   pub among : AreAmong (own_labels whole) whole
   pub bound : (k : ℕ) → k < own_labels whole → IsBoundIn whole k
 
--- none of them goes to a label of the listing
+-- none of them names a label of the listing
+abbrev pub IsNoLabel : Distant → Type 0
+IsNoLabel (OfLabel l) = ⊥
+IsNoLabel (OfSymbol symbol) = Unit {0}
+
 abbrev pub GoNowhere : List Piece → Type 0
 GoNowhere [] = Unit {0}
 GoNowhere (Do a ∷ ps) = GoNowhere ps
-GoNowhere (Constant rd n ∷ ps) = GoNowhere ps
+GoNowhere (Constant rd l ∷ ps) = GoNowhere ps
+GoNowhere (Take rd to ∷ ps) = IsNoLabel to × GoNowhere ps
 GoNowhere (Branch how a b k ∷ ps) = GoNowhere ps
 GoNowhere (Jump k ∷ ps) = GoNowhere ps
 GoNowhere (New ∷ ps) = GoNowhere ps
@@ -220,7 +285,7 @@ immediate_pieces rd upper lower = Do (Lui rd upper) ∷ lower_pieces rd lower
 
 -- by these, or from among the code
 abbrev pub offset_pieces : ℕ → ℤ → List Piece
-offset_pieces rd o = if is_splittable o then immediate_pieces rd (upper_of o) (lower_of o) else Constant rd (low64 o) ∷ []
+offset_pieces rd o = if is_splittable o then immediate_pieces rd (upper_of o) (lower_of o) else Constant rd (Word64 (low64 o)) ∷ []
 
 -- of 64 bits, by its lower immediate alone where the upper one is 0
 abbrev pub number_pieces : ℕ → ℤ → List Piece

@@ -1,15 +1,15 @@
 -- How the code of an instruction is made: what it adds to a buffer, and that its parts are self-contained.
-use Rattle.{rv_code.proofs.Courses.inline_size, rv_code.specs.{Operations.jump_size, Slots.uses_of, Slots.records_of}}
+use Rattle.{rv_code.proofs.MadeOfPieces.constant_made, rv_code.proofs.MadeOfPieces.far_made, rv_code.proofs.MadeOfPieces.got_made, rv_code.proofs.MadeOfPieces.near_made, rv_code.specs.{Operations.jump_size, Slots.uses_of, Slots.records_of}}
 use Rattle.rv_emit.proofs.{CallSlots.IsCall, CallSlots.call_adds, CallSlots.call_blocks, CallSlots.call_is, CallSlots.call_ind_is, Islands.KeepsLow, Islands.asked_keeps, Islands.room_named, Islands.room_records, Islands.room_sound, OwnPieces.Each, OwnPieces.each_none, OwnPieces.made_appends}
 use Rattle.rv_emit.proofs.{TableSlots.table_adds}
-use Rattle.rv_emit.proofs.Terms.{none_put, ◌≡◌, ◌⊎◌, inl, ℕ, ◌+◌, ◌*◌, ◌^◌, ◌%◌, ◌≤◌, true, List, [], ◌∷◌, ◌++◌, length, Option, Some, None, pos, refl, ap, sym, ◌∙◌, arith, lit≤, subst, same_Some, to_le_bytes, w32, w64, IrType, I32, I64, Reg, Writable, number_of, TrapCode, code_limit, IsaFlags, LoadOP}
-use Rattle.rv_emit.proofs.Terms.{IntegerCompare, Context, is_word_type, inst_rule, UnitWord, Inst, Nop0, Nop4, EBreak, SequencePoint, Args, Rets, DummyUse, EmitIsland, RawData, Lui, Auipc, LoadInlineConst, AluRRR, AluRRImm12, Mov, MovFromPReg, Extend, Select, Load, Store}
+use Rattle.rv_emit.proofs.Terms.{none_put, ◌≡◌, ◌⊎◌, inl, ℕ, ◌+◌, ◌*◌, ◌^◌, ◌≤◌, List, [], ◌∷◌, ◌++◌, length, Option, Some, None, pos, refl, ap, sym, ◌∙◌, arith, lit≤, subst, same_Some, number_of, TrapCode, code_limit}
+use Rattle.rv_emit.proofs.Terms.{IntegerCompare, Context, inst_rule, UnitWord, Inst, Nop0, Nop4, EBreak, SequencePoint, Args, Rets, DummyUse, EmitIsland, RawData, Lui, Auipc, LoadInlineConst, AluRRR, AluRRImm12, Mov, MovFromPReg, Extend, Select, Load, Store}
 use Rattle.rv_emit.proofs.Terms.{LoadAddr, LabelAddress, Ret, TrapIf, Jal, CondBr, BrTable, Udf, Jalr, StackProbeLoop, LoadExtNameGot, LoadExtNameNear, LoadExtNameFar, Call, CallInd, ReturnCall, ReturnCallInd, Unwind, CondBrTarget, Fallthrough, TryCallInfo, StackLoad, Exactly}
 use Rattle.rv_emit.proofs.Terms.{AtMost, IsOfSize, Request, first_in, space_in, request_of, inst_size, inst_sum, inst_records, uses_in, return_of, filled_last, is_some, VCodeConstant, inst_constant, named_by, table_of, EmitVState, Decoded, short_jalr, Buffer, IsSoundBuffer, Appends, AppendsCode}
-use Rattle.rv_emit.proofs.Terms.{HasReturn, IsFarUse, IslandAsked, bytes_of, allocated_of, named_of, PutsParts, EmitsIn, Part, Ask, Slots, Slot, Op, Records, size_of, names_of, AreSelfContained, PartsAreSelfContained, access_records, access_slots, branch_slots, inline_slots, constant_slots}
-use Rattle.rv_emit.proofs.Terms.{call_parts, call_to, tail_slots, t0_slots, return_slots, table_slots, parts_of, slots_of, Piece, HasSize, rrr_sized, rri_sized, lui_sized, jalr_sized, ebreak_sized, jump_len, least_even, window_long, size_append, IsPlain, IsSummed, summed, plain_put, put_long}
+use Rattle.rv_emit.proofs.Terms.{HasReturn, IsFarUse, IslandAsked, bytes_of, allocated_of, named_of, PutsParts, EmitsIn, Part, Ask, Slots, Slot, Op, Records, size_of, names_of, AreSelfContained, PartsAreSelfContained, access_records, access_slots, branch_slots}
+use Rattle.rv_emit.proofs.Terms.{call_parts, call_to, tail_slots, t0_slots, return_slots, table_slots, parts_of, slots_of, Piece, HasSize, rrr_sized, rri_sized, lui_sized, jalr_sized, ebreak_sized, window_long, size_append, IsPlain, IsSummed, summed, plain_put, put_long}
 use Rattle.rv_emit.proofs.Terms.{code_none, no_own, low_kept, IsMadeOf, made_contained, mov_made, mov_from_preg_made, extend_made, select_made, trap_if_made, udf_made, sequence_made, load_summed, store_summed, load_contained, store_contained, load_addr_summed}
-use Rattle.rv_emit.proofs.Terms.{label_address_summed, address_contained, AtLabel, location_of, probe_made, got_summed, near_summed, far_summed, far_contained, unwind_summed, table_contained, table_short, tail_contained, tail_contents, t0_contained, t0_contents, return_short}
+use Rattle.rv_emit.proofs.Terms.{address_contained, location_of, probe_made, unwind_summed, table_contained, table_short, tail_contained, tail_contents, t0_contained, t0_contents, return_short}
 use Rattle.{rv_emit.proofs.Terms.{AreShortLoads, unless_short, results_short, fine, constant_kept, data_kept, keeps}, rv_inst.specs.declared.inst.CondBrTarget.TheVariants.Label as ToLabel}
 use Rattle.rv_inst.specs.Descriptions.{Description, Word, Computes, description_of, most_words}
 use Rattle.rv_code.specs.InstParts.{described_parts}
@@ -133,19 +133,6 @@ branches context kind Fallthrough not_taken = plain (record { plain = tt; fits =
 branches context kind (ToLabel t) Fallthrough = plain (record { plain = tt; fits = refl; uses = λ allocated start. refl; records = λ start. refl; names = λ named. refl }) refl (tt, tt)
 branches context kind (ToLabel t) (ToLabel f) = plain (record { plain = tt; fits = omega (arith, window_long context.flags); uses = λ allocated start. refl; records = λ start. refl; names = λ named. refl }) refl (tt, (tt, tt))
 
--- the code that loads what stands after it
-inline_contained : (flags : IsaFlags) (rd : ℕ) (op : LoadOP) (size : ℕ) (bytes : List ℕ) → length bytes % 2 ≡ 0 → AreSelfContained (inline_slots flags rd op size bytes)
-inline_contained flags rd op size bytes even = let jump = jump_len flags (pos (size + jump_size flags)) in let least = least_even flags in (refl, (refl, (omega arith, (even, tt))))
-
-constants : (context : Context) (rd : Writable Reg) (type : IrType) (imm : ℕ) → is_word_type type ≡ true → IsCode context (LoadInlineConst rd type imm) (Slots (constant_slots context.flags (number_of rd.reg) type imm) ∷ [])
-constants context rd I32 imm word =
-    let bytes = to_le_bytes w32 (imm % 2 ^ 32) in
-    plain (record { plain = tt; fits = inline_size context.flags (number_of rd.reg) 4 loads.Lw bytes refl; uses = λ allocated start. refl; records = λ start. refl; names = λ named. refl }) refl (inline_contained context.flags (number_of rd.reg) loads.Lw 4 bytes refl)
-constants context rd I64 imm word =
-    let bytes = to_le_bytes w64 imm in
-    plain (record { plain = tt; fits = inline_size context.flags (number_of rd.reg) 8 loads.Ld bytes refl; uses = λ allocated start. refl; records = λ start. refl; names = λ named. refl }) refl (inline_contained context.flags (number_of rd.reg) loads.Ld 8 bytes refl)
-constants context rd _ imm word = absurd (cc)
-
 inst_is_code : (context : Context) (setting : EmitVState) (inst : Inst) → inst_rule context inst ≡ None → IsCode context inst (parts_of context setting inst)
 inst_is_code context setting Nop0 rule = empty refl refl (record { uses = λ start end. refl; records = λ start end. refl; names = λ named. refl })
 inst_is_code context setting Nop4 rule = operation (record { even = refl; some = omega arith; few = omega arith }) refl refl (record { uses = λ start end. refl; records = λ start end. refl; names = λ named. refl })
@@ -160,7 +147,7 @@ inst_is_code context setting (RawData bytes) rule =
     plain (record { plain = tt; fits = omega arith; uses = λ allocated start. refl; records = λ start. refl; names = λ named. refl }) refl (omega arith, tt)
 inst_is_code context setting (Lui rd imm) rule = operation (lui_sized context.flags (number_of rd.reg) imm.value) refl refl (record { uses = λ start end. refl; records = λ start end. refl; names = λ named. refl })
 inst_is_code context setting (Auipc rd imm) rule = operation (record { even = refl; some = omega arith; few = omega arith }) refl refl (record { uses = λ start end. refl; records = λ start end. refl; names = λ named. refl })
-inst_is_code context setting (LoadInlineConst rd type imm) rule = constants context rd type imm (constant_kept rd type imm (keeps context _ rule)).typed
+inst_is_code context setting (LoadInlineConst rd type imm) rule = made (constant_made context rd type imm (constant_kept rd type imm (keeps context _ rule)).typed)
 inst_is_code context setting (AluRRR op rd rs1 rs2) rule = operation (rrr_sized context.flags op (number_of rd.reg) (number_of rs1) (number_of rs2)) refl refl (record { uses = λ start end. refl; records = λ start end. refl; names = λ named. refl })
 inst_is_code context setting (AluRRImm12 op rd rs imm) rule = operation (rri_sized context.flags op (number_of rd.reg) (number_of rs) imm.value) refl refl (record { uses = λ start end. refl; records = λ start end. refl; names = λ named. refl })
 inst_is_code context setting (Mov rd rm type) rule = made (mov_made context rd rm type)
@@ -170,7 +157,7 @@ inst_is_code context setting (Select info) rule = made (select_made context info
 inst_is_code context setting (Load rd op flags from) rule = let at = location_of context.frame from in plain (load_summed context rd op flags from) refl (load_contained context.flags (number_of rd.reg) op flags.trap at)
 inst_is_code context setting (Store src op flags to) rule = let at = location_of context.frame to in plain (store_summed context to op flags src) refl (store_contained context.flags op (number_of src) flags.trap at)
 inst_is_code context setting (LoadAddr rd mem) rule = let at = location_of context.frame mem in plain (load_addr_summed context rd mem) refl (address_contained context.flags (number_of rd.reg) at)
-inst_is_code context setting (LabelAddress dst label) rule = plain (label_address_summed context dst label) refl (address_contained context.flags (number_of dst.reg) (AtLabel label))
+inst_is_code context setting (LabelAddress dst label) rule = plain (record { plain = tt; fits = refl; uses = λ allocated start. refl; records = λ start. refl; names = λ named. refl }) refl (tt, (tt, tt))
 inst_is_code context setting Ret rule = operation (jalr_sized context.flags 0 1 (pos 0)) refl refl (record { uses = λ start end. refl; records = λ start end. refl; names = λ named. refl })
 inst_is_code context setting (TrapIf cmp code) rule = made (trap_if_made context cmp code)
 inst_is_code context setting (Jal label) rule = plain (record { plain = tt; fits = omega (arith, window_long context.flags); uses = λ allocated start. refl; records = λ start. refl; names = λ named. refl }) refl (tt, tt)
@@ -185,9 +172,9 @@ inst_is_code context setting (BrTable index tmp1 tmp2 targets) rule =
 inst_is_code context setting (Udf code) rule = made (udf_made context code)
 inst_is_code context setting (Jalr rd base offset) rule = operation (jalr_sized context.flags (number_of rd.reg) (number_of base) offset.value) refl refl (record { uses = λ start end. refl; records = λ start end. refl; names = λ named. refl })
 inst_is_code context setting (StackProbeLoop guard_size probe_count tmp) rule = made (probe_made context guard_size probe_count tmp)
-inst_is_code context setting (LoadExtNameGot rd name) rule = plain (got_summed context rd name) refl tt
-inst_is_code context setting (LoadExtNameNear rd name offset) rule = plain (near_summed context rd name offset) refl tt
-inst_is_code context setting (LoadExtNameFar rd name offset) rule = plain (far_summed context rd name offset) refl (far_contained context.flags (number_of rd.reg) name offset)
+inst_is_code context setting (LoadExtNameGot rd name) rule = made (got_made context rd name)
+inst_is_code context setting (LoadExtNameNear rd name offset) rule = made (near_made context rd name offset)
+inst_is_code context setting (LoadExtNameFar rd name offset) rule = made (far_made context rd name offset)
 inst_is_code context setting (Call info) rule = calling (call_is context info) (unless_short context.flags info.patchable info.defs (fine context (Call info) rule).1)
 inst_is_code context setting (CallInd info) rule = calling (call_ind_is context info) (results_short context.flags info.defs (fine context (CallInd info) rule).2)
 inst_is_code context setting (ReturnCall info) rule =

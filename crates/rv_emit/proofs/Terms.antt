@@ -15,7 +15,7 @@ pub use Rattle.rv_base.specs.{declared.label.MachLabel.MachLabel, declared.regs.
 pub use Rattle.rv_base.specs.declared.ir_type.IrType.TheVariants.{F16, F32, F64, I16, I32, I64, I8}
 pub use Rattle.rv_code.proofs.{Operands.constant_kept, Operands.data_kept, Operands.keeps, Operands.table_fine, Operands.word_fine, Registers.are_values_set, Steps.istep_at, Steps.comes_both, Steps.comes_one, Steps.jump_leads, Steps.leads_both, Steps.leads_here}
 pub use Rattle.rv_code.proofs.LineOperands.{call_asks, call_ind_asks, fine_ind, fine_try, fine, jump_sum, tail_kept, tail_sum, target_kept}
-pub use Rattle.rv_code.proofs.LineSlots.{HaveContents, IsPlain, IsSummed, access_short, address_contained, at_end, both, closed_even, far_contained, far_summed, from_start, got_summed, label_address_summed, load_addr_summed, load_contained, load_over_short, load_summed, marks_even, near_summed}
+pub use Rattle.rv_code.proofs.LineSlots.{HaveContents, IsPlain, IsSummed, access_short, address_contained, at_end, both, closed_even, from_start, load_addr_summed, load_contained, load_over_short, load_summed, marks_even}
 pub use Rattle.rv_code.proofs.LineSlots.{note_then, real_number, size_append, store_contained, store_summed, unwind_summed}
 pub use Rattle.rv_code.proofs.LongSlots.{number_few, AreShortLoads, count_splits, eight_short, even_plain, extend_even, extend_few, far_jumps_even, far_jumps_long, loads_counted, loads_most, number_even, results_short, return_most, return_short, returns_counted}
 pub use Rattle.rv_code.proofs.LongSlots.{saves_long, saves_short, setup_few, setup_short, step_most, steps_counted, t0_contained, t0_contents, table_contained, table_short, tail_contained, tail_contents, unless_short}
@@ -23,7 +23,7 @@ pub use Rattle.rv_code.proofs.MadeOfPieces.{IsMadeOf, extend_made, made_containe
 pub use Rattle.rv_code.proofs.OperationActs.{HasSize, ebreak_sized, jalr_sized, jump_len, least_even, least_few, lui_sized, rri_sized, rrr_sized, window_long}
 pub use Rattle.rv_code.specs.{Choices.extend_pieces, Immediates.lower_of, Immediates.upper_of, Operations.decoded_jalr, Operations.decoded_jump, Operations.jump_word, Tables.bound_op, Tables.enter_ops, Tables.far_jump, Tables.jump_slots, Usable.AreFineResults, Usable.AreListed, Usable.IsFine}
 pub use Rattle.rv_code.specs.{Usable.IsFineResult, Usable.IsListed, declared.state.EmitVState.EmitVState, declared.state.EmitVState.TheVariants.Unknown}
-pub use Rattle.rv_code.specs.InstParts.{access_slots, address_slots, after_call, branch_slots, call_ind_slots, call_parts, call_size, call_slots, call_to, constant_slots, far_step_slots, inline_slots, load_line_slots, loading_parts, map_notes, number_slots, parts_of, patch_notes, return_notes}
+pub use Rattle.rv_code.specs.InstParts.{access_slots, address_slots, after_call, branch_slots, call_ind_slots, call_parts, call_size, call_slots, call_to, far_step_slots, load_line_slots, loading_parts, map_notes, number_slots, parts_of, patch_notes, return_notes}
 pub use Rattle.rv_code.specs.InstParts.{return_size, return_slots, slots_alone, stack_load_slots, stack_step_slots, t0_slots, table_slots, tail_slots, try_slots, wide_jump_to}
 pub use Rattle.rv_code.specs.Pieces.{AreAmong, Bind, Branch, Do, Go, GoNowhere, Jump, New, Piece, Trap, after, op_of, own_labels, piece_size, pieces_size, slots_for, slots_of, trap_bytes}
 pub use Rattle.rv_code.specs.Sites.{AimsFrom, BytesAt, CodeHas, FillsFrom, GapIn, HasOps, IsPlacedAt, Leads, LeadsOn, LinksFrom, PartsStand, Reaches, Site, StandsIn, symbol_address}

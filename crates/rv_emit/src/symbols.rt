@@ -12,9 +12,10 @@ ghost use Rattle.mach_buffer.specs.Buffer.{shape_of, bytes_of, spoiled_of};
 ghost use Rattle.mach_buffer.specs.Shape.{with_bytes, with_record};
 ghost use Rattle.rv_sequences.specs.Parts.{PutsAlone};
 ghost use Rattle.rv_sequences.specs.Emitted.{IsSoundBuffer};
-ghost use Rattle.rv_code.specs.InstParts.{call_to, far_slots, got_slots, near_slots};
+ghost use Rattle.rv_code.specs.InstParts.{call_to};
+ghost use Rattle.rv_code.specs.Pieces.{NameAddress, literal_slots, symbol_slots};
 ghost use Rattle.rv_sequences.specs.Puts.{eight_zeros};
-ghost use Rattle.rv_code.specs.Slots.{Records, address_event, call_event, lower_event};
+ghost use Rattle.rv_code.specs.Slots.{AddressOf, SlotOf, Records, address_event, call_event, lower_event};
 
 use crate::table::far_word;
 use mach_buffer::MachBuffer;
@@ -34,7 +35,7 @@ pub(crate) fn put_slot_load(
     requires rd { IsIntRegister rd.reg }
     requires room { length (bytes_of sink.old) + 8 < code_limit }
     requires sound { IsSoundBuffer sink.old }
-    ensures slots { OnOk result ((flags : IsaFlags) → PutsAlone flags (got_slots (number_of rd.reg) name) sink.old sink.new) }
+    ensures slots { OnOk result ((flags : IsaFlags) → PutsAlone flags (symbol_slots (number_of rd.reg) (SlotOf name)) sink.old sink.new) }
     ensures refused { OnErr result (spoiled_of sink.new ≡ true) }
 {
     let upper = enc_auipc(rd, Imm20::ZERO);
@@ -53,7 +54,7 @@ pub(crate) fn put_near_symbol(
     requires rd { IsIntRegister rd.reg }
     requires room { length (bytes_of sink.old) + 8 < code_limit }
     requires sound { IsSoundBuffer sink.old }
-    ensures slots { OnOk result ((flags : IsaFlags) → PutsAlone flags (near_slots (number_of rd.reg) name offset) sink.old sink.new) }
+    ensures slots { OnOk result ((flags : IsaFlags) → PutsAlone flags (symbol_slots (number_of rd.reg) (AddressOf name offset)) sink.old sink.new) }
     ensures refused { OnErr result (spoiled_of sink.new ≡ true) }
 {
     let upper = enc_auipc(rd, Imm20::ZERO);
@@ -98,7 +99,7 @@ pub(crate) fn put_far_symbol(
     requires rd { IsIntRegister rd.reg }
     requires room { length (bytes_of sink.old) + 20 < code_limit }
     requires sound { IsSoundBuffer sink.old }
-    ensures slots { OnOk result (PutsAlone flags (far_slots flags (number_of rd.reg) name offset) sink.old sink.new) }
+    ensures slots { OnOk result (PutsAlone flags (literal_slots flags (number_of rd.reg) (NameAddress name offset)) sink.old sink.new) }
     ensures refused { OnErr result (spoiled_of sink.new ≡ true) }
 {
     put_load_over(sink, flags, rd, LoadOP::Ld, 8)?;

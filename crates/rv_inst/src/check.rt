@@ -5,10 +5,10 @@ ghost use Rattle.rv_inst.specs.Faults.{is_misplaced, has_bad_type, is_out_of_ran
 ghost use Rattle.rv_inst.specs.Rules.{is_buffer_label, is_fallthrough, every_rule, breaks, inst_rule, broken_rule};
 ghost use Rattle.std.specs.List.{list_any, find};
 ghost use Rattle.rv_inst.specs.Operands.{handler_label as label_of_handler, inst_labels, labels_of, target_labels, targets_of, try_labels};
-ghost use Rattle.rv_inst.specs.Context.{context_by};
 
 use crate::addresses::lacks_constant;
 use crate::clashes::{has_clash, has_zero};
+use crate::context::Context;
 use crate::error::Rule;
 use crate::inst::{CondBrTarget, Inst, Line};
 use crate::places::is_misplaced;
@@ -18,7 +18,7 @@ use crate::tail_calls::exceeds_arguments;
 use crate::targets::{Targets, handler_label};
 use crate::units::{has_bad_rounding, has_bad_width};
 use mach_labels::FIRST_INNER;
-use rv_base::{Constant, FrameLayout, IsaFlags, MachLabel, TryCallHandler, TryCallInfo};
+use rv_base::{MachLabel, TryCallHandler, TryCallInfo};
 
 /// The rules, in the order in which a line is checked.
 const EVERY_RULE: [Rule; 15] = [
@@ -41,16 +41,11 @@ const EVERY_RULE: [Rule; 15] = [
 
 impl Line {
     /// The first rule that the line breaks.
-    pub fn check(
-        &self,
-        flags: IsaFlags,
-        frame: &FrameLayout,
-        constants: &[Constant],
-    ) -> Option<Rule>
-        ensures { result ≡ broken_rule (context_by flags frame.now constants.now) self.now }
+    pub fn check(&self, context: &Context<'_>) -> Option<Rule>
+        ensures { result ≡ broken_rule context.now self.now }
     {
         match self {
-            Line::Inst(inst) => inst.check(flags, frame, constants),
+            Line::Inst(inst) => inst.check(context),
             Line::Bind(label) => {
                 if is_buffer_label(*label) {
                     Some(Rule::Label)
@@ -65,42 +60,25 @@ impl Line {
 impl Inst {
     /// The first rule that the instruction breaks.
     #[tactic(auto, unfolding(crate::specs::Rules::every_rule))]
-    pub fn check(
-        &self,
-        flags: IsaFlags,
-        frame: &FrameLayout,
-        constants: &[Constant],
-    ) -> Option<Rule>
-        ensures { result ≡ inst_rule (context_by flags frame.now constants.now) self.now }
+    pub fn check(&self, context: &Context<'_>) -> Option<Rule>
+        ensures { result ≡ inst_rule context.now self.now }
     {
-        self.first_broken(&EVERY_RULE, flags, frame, constants)
+        self.first_broken(&EVERY_RULE, context)
     }
 
-    fn first_broken(
-        &self,
-        rules: &[Rule],
-        flags: IsaFlags,
-        frame: &FrameLayout,
-        constants: &[Constant],
-    ) -> Option<Rule>
-        ensures { result ≡ find (breaks (context_by flags frame.now constants.now) self.now) rules.now }
+    fn first_broken(&self, rules: &[Rule], context: &Context<'_>) -> Option<Rule>
+        ensures { result ≡ find (breaks context.now self.now) rules.now }
     {
         for rule in rules {
-            if self.breaks(*rule, flags, frame, constants) {
+            if self.breaks(*rule, context) {
                 return Some(*rule);
             }
         }
         None
     }
 
-    fn breaks(
-        &self,
-        rule: Rule,
-        _flags: IsaFlags,
-        frame: &FrameLayout,
-        constants: &[Constant],
-    ) -> bool
-        ensures { result ≡ breaks (context_by _flags frame.now constants.now) self.now rule }
+    fn breaks(&self, rule: Rule, context: &Context<'_>) -> bool
+        ensures { result ≡ breaks context.now self.now rule }
     {
         match rule {
             Rule::Virtual => has_register(RegisterTest::Virtual, self),
@@ -112,11 +90,11 @@ impl Inst {
             Rule::Range => is_out_of_range(self),
             Rule::Rounding => has_bad_rounding(self),
             Rule::Width => has_bad_width(self),
-            Rule::Constant => lacks_constant(self, constants),
+            Rule::Constant => lacks_constant(self, context.constants),
             Rule::EmptyTable => has_empty_table(self),
             Rule::NoTarget => lacks_target(self),
             Rule::Label => has_inner_label(self),
-            Rule::TailArgs => exceeds_arguments(self, frame),
+            Rule::TailArgs => exceeds_arguments(self, context.frame),
             Rule::DataSize => has_bad_size(self),
         }
     }

@@ -7,6 +7,7 @@ mod calls;
 mod check;
 mod clashes;
 mod code;
+mod context;
 mod error;
 mod generators;
 mod inst;
@@ -28,6 +29,7 @@ pub use code::{
     CallReturn, Code, ConstPlace, FinalizedMachExceptionHandler, LabelPlace, LineSpan,
     MachPatchable, MachReloc, MachStackMap, MachTrap, MachTryCallSite, MachUnwind,
 };
+pub use context::Context;
 pub use error::{EmitError, Rule};
 pub use generators::{SmallInstVec, gen_moves};
 pub use inst::{Brev8Info, CondBrTarget, CountInfo, Family, Inst, Line, SelectInfo};

@@ -1,15 +1,15 @@
 -- Registers of any class get values on the machine with all units, and one of two values is chosen for them.
 use Rattle.std.proofs.Common.{Bool, List, Some, [], ap, arith, eqb-true, false, if◌then◌else◌, length, lit<, map, nat_eq, nat_le, not, pos, refl, rules, slice_index, subst, suc, sym, true, ℕ, ◌&&◌, ◌++◌, ◌+◌, ◌<◌, ◌∙◌, ◌∷◌, ◌≡◌, ◌≢◌}
-use Rattle.rv_runs.proofs.Words.{AVirtual, Addi, AllByRecursion, AnswerFits, AreInRange, AreUnits, AreValues, Bind, Branch}
+use Rattle.{rv_code.proofs.{Evaluation.one, Evaluation.rest, MadeOfPieces.moves_after, Operands.below_30, Operands.select_fine}, rv_runs.proofs.Words.{AVirtual, Addi, AllByRecursion, AnswerFits, AreInRange, AreUnits, AreValues, Bind, Branch}}
+use Rattle.std.proofs.lemmas.List.{get_or-set_other, set-get_or, set-set, set_comm}
 use Rattle.rv_runs.proofs.Words.{Do, Does, EmitVState, Enters, Float, FullComesOut, FullState, FullValues, Int, IntCC, IntegerCompare, IsFullState, IsIntRegister, IsUsableIn, Keeps, Piece, Real, Reg, RegClass, Rri, Same, SameFull, Select, SelectInfo, Site, StandIn, StandsIn, Values, Writable}
 use Rattle.rv_runs.proofs.Words.{after, all_of, alu_rri, and_parts, are_values_set, at, at_next, chosen, class_of, complement_of, freg, full_at, holds, inputs_of, integer_run, is_int_class, is_reserved, is_virtual, list_any, move_action, nat_tests, next, number_below, number_of, number_row}
 use Rattle.rv_runs.proofs.Words.{op_of, or_parts, parts_of, pieces_long, plus_none, point, put, put_all, put_f, put_in, put_units, reads_other, reg, row_next, same_set, set_freg, set_own, set_reg, set_twice, size_of, slots_of, to, value_in, value_of, values_of, with_ints, wrap, written_in}
 use Rattle.rv_base.specs.declared.{regs.RegClass.TheVariants.Vector, value_regs.ValueRegs.TheVariants.One, value_regs.ValueRegs.TheVariants.Two, value_regs.ValueRegs.ValueRegs}
-use Rattle.rv_code.proofs.{Evaluation.one, Evaluation.rest, MadeOfPieces.moves_after, Operands.below_30, Operands.select_fine}
 use Rattle.rv_code.specs.{Choices.choice_pieces, Choices.moves_then, Choices.same_numbers, Choices.select_pieces, Evaluation.IsAtPoint, Pieces.Copy, Pieces.IsInRange, Pieces.pieces_size, Usable.AreMoves, Usable.IsFineChoice}
 use Rattle.{rv_full.specs.Units.set_vreg, rv_full.specs.Units.vreg, rv_inst.specs.Generators.canonical_type, rv_inst.specs.Rules.is_movable, rv_inst.specs.Rules.is_one_of, rv_inst.specs.Rules.same_class, rv_inst.specs.Rules.same_register, rv_ops.specs.declared.float_fields.FpuOPWidth.TheVariants.D}
+use Rattle.{rv_code.specs.InstRuns.environment, rv_inst.specs.Meaning.Environment}
 use Rattle.rv_runs.proofs.{Exits.same_but, PlainRuns.complement_holds, PlainRuns.int_class, UnitRuns.FullSteps, UnitRuns.fiter_one, UnitRuns.float_set, UnitRuns.more_steps, UnitRuns.no_steps, UnitRuns.unit_next_at}
-use Rattle.std.proofs.lemmas.List.{get_or-set_other, set-get_or, set-set, set_comm}
 use Rattle.rv_full.specs.declared.shapes.Sources.TheVariants as sources
 use Rattle.rv_full.specs.declared.shapes.Target.TheVariants as target
 
@@ -78,9 +78,9 @@ ComesToPieces site allocated start end ps v b = FullSteps site (IsAtPieces site 
 
 module _ {site : Site} {allocated start end : ℕ} where
   -- one piece that has a meaning on integers, and writes no memory
-  pub piece_lifts : {b : FullState} {v : FullValues} (whole : List Piece) → StandIn site allocated start end whole → (ps qs : List Piece) (w : Values) → next whole ps v.ints [] ≡ Some (point qs w) → IsAtPieces site allocated start end ps v b → ComesToPieces site allocated start end qs (record { ints = w; units = v.units }) b
-  piece_lifts {b} {v} whole k ps qs w e h =
-      let c = one whole k ps v.ints [] (point qs w) b.state e tt h.ints in
+  pub piece_lifts : {b : FullState} {v : FullValues} (first last : ℕ) (whole : List Piece) → StandIn site allocated start end whole → (ps qs : List Piece) (w : Values) → next (environment site first last) whole ps v.ints [] ≡ Some (point qs w) → IsAtPieces site allocated start end ps v b → ComesToPieces site allocated start end qs (record { ints = w; units = v.units }) b
+  piece_lifts {b} {v} first last whole k ps qs w e h =
+      let c = one first last whole k ps v.ints [] (point qs w) b.state e tt h.ints in
       record { state = put c.state b; steps = c.steps; ran = integer_run site.context.flags c.steps c.state b c.ran; there = record { ints = c.there; units = h.units; are_units = h.are_units }; answers = refl; setting = refl }
 
   -- the copy of a register
@@ -302,7 +302,7 @@ module _ (info : SelectInfo) (h : IsFairChoice info) where
 
   -- Its pieces, on a machine that comes by a piece of integers where this leads, and by the copy of a floating-point register, where that is
   -- allowed, where the copy leads.
-  module _ (Allowed : RegClass → Type 0) (Comes : List Piece → FullValues → Type 0) (lifts : (ps qs : List Piece) (v : FullValues) (w : Values) → next ordered ps v.ints [] ≡
+  module _ (env : Environment) (Allowed : RegClass → Type 0) (Comes : List Piece → FullValues → Type 0) (lifts : (ps qs : List Piece) (v : FullValues) (w : Values) → next env ordered ps v.ints [] ≡
       Some (point qs w) → Comes qs (with_ints w v) → Comes ps v) (copies : (rd rs : ℕ) (ps : List Piece) (v : FullValues) → Allowed Float → Comes ps (put_in Float v rd (value_in Float v rs)) → Comes (Do (Copy D rd rs) ∷ ps) v) where
     -- one move, by whether it is one to itself
     one_comes : (class : RegClass) (rd rs : ℕ) (ps : List Piece) (v : FullValues) (own : Bool) → Allowed class → is_movable class (canonical_type class) ≡ true → AreValues v.ints → nat_eq rd rs ≡ own → Comes ps (put_in class v rd (value_in class v rs)) →
@@ -394,9 +394,9 @@ full_select {site} setting info {start} {after} {v} {b} k e units is_state =
     let slots = λ (ps : List Piece). slots_of site.context.flags ps in
     let ends : start + size_of (slots whole) ≡ after = subst (λ ps. start + size_of (slots ps) ≡ after) o.pieces e.stands.2 in
     let long = pieces_long site.context.flags whole in
-    let stand : StandIn site e.stands.0 start after whole = record { stand = subst (λ ps. StandsIn site e.stands.0 start (slots ps)) o.pieces e.stands.1; even = e.even; ends = omega arith; room = e.within; ranges = choice_range (written_in info.dst) o.first o.second o.how _ _ } in
-    let c = choice_comes info h (λ c. Unit {0}) (λ ps u. (x : FullState) → IsAtPieces site e.stands.0 start after ps u x → ComesToPieces site e.stands.0 start after [] (chosen info w) x)
-    (λ ps qs u z step on x at. more_steps (piece_lifts whole stand ps qs z step at) on) (λ rd rs ps u allowed on x at. more_steps (piece_copies rd rs ps at) on) w (all_allowed (written_in info.dst)) e.is_state.values (λ x at. no_steps at) b (record {
+    let stand : StandIn site e.stands.0 start after whole = record { stand = subst (λ ps. StandsIn site e.stands.0 start (slots ps)) o.pieces e.stands.1; even = e.even; ends = omega arith; room = e.within; ranges = choice_range (written_in info.dst) o.first o.second o.how _ _; bounds = record { short = e.short; labels = e.labels } } in
+    let c = choice_comes info h (environment site start after) (λ c. Unit {0}) (λ ps u. (x : FullState) → IsAtPieces site e.stands.0 start after ps u x → ComesToPieces site e.stands.0 start after [] (chosen info w) x)
+    (λ ps qs u z step on x at. more_steps (piece_lifts start after whole stand ps qs z step at) on) (λ rd rs ps u allowed on x at. more_steps (piece_copies rd rs ps at) on) w (all_allowed (written_in info.dst)) e.is_state.values (λ x at. no_steps at) b (record {
       ints = record { offset = start; within = omega arith; here = record { even = e.even; room = omega arith; placed = e.placed; pc = e.pc }; stand = stand; is_state = e.is_state; values = refl };
       units = refl;
       are_units = is_state.units;

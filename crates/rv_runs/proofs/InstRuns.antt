@@ -1,22 +1,23 @@
 -- Every instruction of the integer core that breaks no rule runs as it means.
-use Rattle.std.proofs.Common.{None, [], arith, false, lit<, nat_eq, not, pos, refl, subst, true, ℕ, ◌∷◌, ◌≡◌}
-use Rattle.rv_runs.proofs.Words.{AluRRImm12, AluRRR, AtLabel, Auipc, Call, CallInd, CondBr, EBreak}
+use Rattle.{rv_base.specs.IrType.bits_of, rv_code.proofs.LineOperands.{label_address_kept, load_addr_kept, load_kept, store_kept}, rv_code.specs.Evaluation.literal_value, rv_code.specs.InstParts.literal_of, rv_code.specs.InstRuns.environment, rv_code.specs.Pieces.{NameAddress, OfLabel, OfSymbol, Word32, Word64}}
+use Rattle.{rv_code.specs.Slots.{AddressOf, SlotOf}, rv_inst.specs.Descriptions.{counts, sequence_registers}, rv_inst.specs.Meaning.{Environment, constant_of}, rv_inst.specs.declared.sequence.Computation.TheVariants.{Ones, Zeros}, rv_machine.specs.Arithmetic.extend_word}
+use Rattle.{rv_runs.proofs.{ProbeRuns.probe_out, ReverseRuns.reverse_out, SelectRuns.extend_out, SelectRuns.select_runs, TableRuns.table_out}, rv_runs.proofs.CallRuns.{call_ind_out, call_out, return_call_ind_runs, return_call_runs}}
+use Rattle.{rv_runs.proofs.Words.{AluRRImm12, AluRRR, Auipc, Call, CallInd, ComesOut, CondBr, EBreak, IrType, Next, set_reg, wrap}, std.proofs.Common.{None, [], arith, false, if◌then◌else◌, lit<, nat_eq, not, pos, refl, subst, true, ℕ, ◌==◌, ◌∷◌, ◌≡◌}}
 use Rattle.rv_runs.proofs.Words.{EmitVState, Extend, FrameLayout, GapIn, Inst, Jalr, Keeps, Label, Load, LoadAddr, LoadExtNameFar, LoadExtNameGot, LoadInlineConst, Lui, Mov, MovFromPReg, Nop0, Nop4, Op, Ret, ReturnCall, ReturnCallInd, Select, Site, State, Store, Values, and_parts, call_usable}
 use Rattle.rv_runs.proofs.Words.{compares, decoded_addi, goes_none, inst_rule, is_bad_frame_for, is_float_load, is_float_store, is_integer, is_integer_in, jump_to, keeps, location_of, low_word, not_true, number_of, reg, restores, restores_float, signed, tail_call_of, target_fine, to, window_some}
-use Rattle.rv_code.proofs.LineOperands.{label_address_kept, load_addr_kept, load_kept, store_kept}
 use Rattle.rv_code.proofs.Operands.{all_integers, are_usable, constant_kept, extend_kept, is_count, is_probe, is_reversal, is_table, move_usable, not_zero, or_left, preg_usable, reversal_of, trap_if_usable}
 use Rattle.{rv_code.proofs.OperationActs.ebreak_breaks, rv_code.proofs.OperationActs.ebreak_sized, rv_code.proofs.Registers.count_of, rv_code.specs.InstParts.trap_slots, rv_code.specs.InstRuns.RunsIn, rv_inst.specs.Forms.short_ebreak, rv_inst.specs.Rules.is_zero}
-use Rattle.rv_inst.specs.Descriptions.{counts, sequence_registers}
-use Rattle.rv_inst.specs.declared.sequence.Computation.TheVariants.{Ones, Zeros}
 use Rattle.rv_inst.specs.declared.inst.Inst.TheVariants.{Args, BrTable, Brev8, Cltz, DummyUse, EmitIsland, Jal, LabelAddress, LoadExtNameNear, Popcnt, RawData, Rets, SequencePoint, StackProbeLoop, TrapIf, Udf, Unwind}
-use Rattle.rv_runs.proofs.CallRuns.{call_ind_out, call_out, return_call_ind_runs, return_call_runs}
-use Rattle.rv_runs.proofs.{CountRuns.popcnt_out, CountRuns.zeros_out, Exits.RunsHere, Exits.break_out, Exits.comes_out, Exits.gap_out, Exits.starts_at, Exits.starts_beside, Exits.trap_out, Exits.trap_some, MemoryRuns.address_out, MemoryRuns.constant_runs, MemoryRuns.load_runs, MemoryRuns.store_runs}
-use Rattle.rv_runs.proofs.PlainRuns.{alu_rri_runs, alu_rrr_runs, auipc_runs, cond_br_runs, far_runs, got_runs, jalr_runs, jump_out, lui_runs, mov_runs, move_out, near_out, next_out, nothing_out, ret_runs, trap_if_out}
-use Rattle.rv_runs.proofs.{ProbeRuns.probe_out, ReverseRuns.reverse_out, SelectRuns.extend_out, SelectRuns.select_runs, TableRuns.table_out}
+use Rattle.rv_runs.proofs.{CountRuns.popcnt_out, CountRuns.zeros_out, Exits.RunsHere, Exits.break_out, Exits.comes_out, Exits.gap_out, Exits.starts_at, Exits.starts_beside, Exits.trap_out, Exits.trap_some, MemoryRuns.address_out, MemoryRuns.load_runs, MemoryRuns.store_runs}
+use Rattle.rv_runs.proofs.PlainRuns.{alu_rri_runs, alu_rrr_runs, auipc_runs, cond_br_runs, distant_out, jalr_runs, literal_out, jump_out, lui_runs, mov_runs, move_out, next_out, nothing_out, ret_runs, trap_if_out}
 
 -- a tail call of the integer core restores no floating-point register
 none_restored : (frame : FrameLayout) (inst : Inst) → is_integer_in frame inst ≡ true → restores_float frame (tail_call_of inst) ≡ false
 none_restored frame inst core = not_true _ (and_parts (not (restores_float frame (tail_call_of inst))) (is_integer inst) core).0
+
+-- a constant of a type is its literal
+literal_is : (env : Environment) (type : IrType) (imm : ℕ) → literal_value env (literal_of type imm) ≡ constant_of type imm
+literal_is env type imm = elim (bits_of type == 32) as (λ c. literal_value env (if c then Word32 imm else Word64 imm) ≡ (if c then extend_word imm else wrap imm)) [ true ↦ refl | false ↦ refl ]
 
 module _ (site : Site) (setting : EmitVState) (start after : ℕ) (s : State) (v : Values) where
   -- by its family's proof, which gets what the rules say of its operands
@@ -32,7 +33,7 @@ module _ (site : Site) (setting : EmitVState) (start after : ℕ) (s : State) (v
   kept_out (RawData bytes) core k r e clear = comes_out s (goes_none site.context.flags s) e.pc (starts_beside [] e)
   kept_out (Lui rd imm) core k r e clear = lui_runs site setting start after s v rd imm (are_usable (rd.reg ∷ []) k.real k.placed k.free).0 e clear
   kept_out (Auipc rd imm) core k r e clear = auipc_runs site setting start after s v rd imm (are_usable (rd.reg ∷ []) k.real k.placed k.free).0 e clear
-  kept_out (LoadInlineConst rd type imm) core k r e clear = let c = constant_kept rd type imm k in constant_runs site setting start after s v rd type imm c.usable c.counted c.typed e clear
+  kept_out (LoadInlineConst rd type imm) core k r e clear = let c = constant_kept rd type imm k in subst (λ x. ComesOut site start after Next [] (set_reg v (number_of rd.reg) x) s) (literal_is (environment site start after) type imm) (literal_out (number_of rd.reg) (literal_of type imm) c.usable.1 c.counted e)
   kept_out (AluRRR op rd rs1 rs2) core k r e clear = let all = are_usable (rd.reg ∷ rs1 ∷ rs2 ∷ []) k.real k.placed k.free in alu_rrr_runs site setting start after s v op rd rs1 rs2 all.0 all.1.0 all.1.1.0 e clear
   kept_out (AluRRImm12 op rd rs imm) core k r e clear = let all = are_usable (rd.reg ∷ rs ∷ []) k.real k.placed k.free in alu_rri_runs site setting start after s v op rd rs imm all.0 all.1.0 k.ranged e clear
   kept_out (Mov rd rm type) core k r e clear = let both = move_usable rd rm type core k in mov_runs site setting start after s v rd rm type both.0 both.1 e clear
@@ -42,7 +43,7 @@ module _ (site : Site) (setting : EmitVState) (start after : ℕ) (s : State) (v
   kept_out (Load rd op flags from) core k r e clear = let integer = not_true (is_float_load op) core in let a = load_kept site.context.frame rd op flags from integer k in load_runs site setting start after s v rd op flags from integer a.usable a.based a.real e clear
   kept_out (Store src op flags to) core k r e clear = let integer = not_true (is_float_store op) core in let a = store_kept site.context.frame to op flags src integer k in store_runs site setting start after s v to op flags src integer a.0 a.1 e clear
   kept_out (LoadAddr rd mem) core k r e clear = let a = load_addr_kept site.context.frame rd mem k in address_out (number_of rd.reg) (location_of site.context.frame mem) a.usable.1 a.real a.based a.apart e
-  kept_out (LabelAddress dst label) core k r e clear = let a = label_address_kept dst label k in address_out (number_of dst.reg) (AtLabel label) a.0.1 a.1 tt tt e
+  kept_out (LabelAddress dst label) core k r e clear = let a = label_address_kept dst label k in distant_out (number_of dst.reg) (OfLabel label) a.0.1 a.1 e
   kept_out Ret core k r e clear = ret_runs site setting start after s v e clear
   kept_out (TrapIf cmp code) core k r e clear = let both = trap_if_usable cmp code k in trap_if_out cmp code (compares cmp v) refl both.0 both.1 e
   kept_out (Jal label) core k r e clear = jump_out label (starts_at (jump_to site.context.flags (Label label) ∷ []) e) (let some = window_some site.context.flags in omega arith) e.stands.1.0 (starts_beside [] e)
@@ -54,9 +55,9 @@ module _ (site : Site) (setting : EmitVState) (start after : ℕ) (s : State) (v
   kept_out (Cltz leading info) core k r e clear = zeros_out leading (count_of info.sum info.tmp info.step info.rs info.ty) (is_count info (Zeros leading) (are_usable (sequence_registers (counts (Zeros leading) info)) k.real k.placed k.free) k.counted k.apart k.typed) e
   kept_out (Brev8 info) core k r e clear = reverse_out (reversal_of info) (is_reversal info k) e
   kept_out (StackProbeLoop guard_size probe_count tmp) core k r e clear = probe_out (number_of tmp.reg) (low_word guard_size) (low_word probe_count) (is_probe guard_size probe_count tmp k) (omega arith) (omega arith) e clear
-  kept_out (LoadExtNameGot rd name) core k r e clear = let h = (are_usable (rd.reg ∷ []) k.real k.placed k.free).0 in got_runs site setting start after s v rd name h (not_zero rd.reg h (or_left (is_zero rd.reg) false k.counted)) e clear
-  kept_out (LoadExtNameNear rd name offset) core k r e clear = let h = (are_usable (rd.reg ∷ []) k.real k.placed k.free).0 in near_out (number_of rd.reg) name offset h.1 (not_zero rd.reg h (or_left (is_zero rd.reg) false k.counted)) e
-  kept_out (LoadExtNameFar rd name offset) core k r e clear = let h = (are_usable (rd.reg ∷ []) k.real k.placed k.free).0 in far_runs site setting start after s v rd name offset h (not_zero rd.reg h (or_left (is_zero rd.reg) false k.counted)) e clear
+  kept_out (LoadExtNameGot rd name) core k r e clear = let h = (are_usable (rd.reg ∷ []) k.real k.placed k.free).0 in distant_out (number_of rd.reg) (OfSymbol (SlotOf name)) h.1 (not_zero rd.reg h (or_left (is_zero rd.reg) false k.counted)) e
+  kept_out (LoadExtNameNear rd name offset) core k r e clear = let h = (are_usable (rd.reg ∷ []) k.real k.placed k.free).0 in distant_out (number_of rd.reg) (OfSymbol (AddressOf name offset)) h.1 (not_zero rd.reg h (or_left (is_zero rd.reg) false k.counted)) e
+  kept_out (LoadExtNameFar rd name offset) core k r e clear = let h = (are_usable (rd.reg ∷ []) k.real k.placed k.free).0 in literal_out (number_of rd.reg) (NameAddress name offset) h.1 (not_zero rd.reg h (or_left (is_zero rd.reg) false k.counted)) e
   kept_out (Call info) core k r e clear = call_out info e
   kept_out (CallInd info) core k r e clear = call_ind_out info (call_usable info k).1 e
   kept_out (ReturnCall info) core k r e clear = return_call_runs site setting start after s v info (none_restored site.context.frame (ReturnCall info) core) r e clear

@@ -1,17 +1,17 @@
 -- Loads, stores, addresses and constants: where the code before an access comes, and what comes of the access.
-use Rattle.std.proofs.Common.{Bool, List, None, Option, Some, [], ap, append-nil, arith, false, if◌then◌else◌, length, lit<, lit≤, nat_eq, pos, refl, rules, slice_index, subst, suc, sym, true, zero, ℕ, ℤ, ◌%◌, ◌++◌, ◌+◌, ◌<◌, ◌^◌, ◌||◌, ◌∙◌, ◌∷◌, ◌≡◌, ◌≢◌, ◌≤◌}
-use Rattle.rv_runs.proofs.Words.{AMode, AllByRecursion, AnswerFits, AreOutside, AreShort, AreUnits, AreValues, AtLabel, Based, BytesAt, CodeHas, Comes, ComesOut, Decoded, Does, EmitVState, Enters, FullComesOut, FullState, FullValues}
-use Rattle.rv_runs.proofs.Words.{HasSize, InCourse, IrType, IsIntegerLoad, IsIntegerStore, IsPlacedAt, IsUsable, IsUsableAt, IsaFlags, Label, Ld, Load, LoadInlineConst, LoadOP, Location, MachLabel, MemFlagsData, Memory, Next, Op, Part, PartsStand, Reg, Same, SameBut, SameFull, Sets, Site, Slot}
-use Rattle.rv_runs.proofs.Words.{StandsIn, State, Store, StoreOP, TrapCode, Units, Values, Writable, access_slots, act, act_on, address_at, address_slots, addresses_from, are_values_set, at, between, byte, cast_signed, comes_here, decoded_load, eight_there, environment, equals_itself, fiter_after}
-use Rattle.rv_runs.proofs.Words.{full_at, goes_at_least, goes_second, half_load_slots, half_store_slots, integer_run, is_among, is_near, jump_size, label_base, load_bytes, load_fits, load_op, load_result, load_same, load_slots, location_of, low64, lower_of_distance, nat_tests, number_of}
-use Rattle.rv_runs.proofs.Words.{or_parts, placed_after, plus_none, put, put_bytes, put_same, put_values, reads_back, reads_other, reg, row_next, set_reg, shorter, size_append, size_of, slots_alone, spare_set, stands_split, step_at, store_slots, temporary_set, to_le_bytes, unit_row, w32, w64, wrap}
-use Rattle.{mach_uses.specs.Labels.constant_label, rv_base.specs.declared.ir_type.IrType.TheVariants.I32, rv_base.specs.declared.ir_type.IrType.TheVariants.I64}
-use Rattle.rv_code.proofs.Courses.{IsApartAt, IsRealAt, address_even, address_fits, address_goes, address_same, in_three, inline_goes, inline_size, label_address, lower_sums, sets_comes, upper_goes, upper_sum}
+use Rattle.std.proofs.Common.{Bool, List, None, Option, Some, [], ap, append-nil, arith, false, if◌then◌else◌, length, lit<, lit≤, nat_eq, pos, refl, rules, subst, suc, sym, true, zero, ℕ, ℤ, ◌++◌, ◌+◌, ◌<◌, ◌^◌, ◌||◌, ◌∙◌, ◌∷◌, ◌≡◌, ◌≢◌, ◌≤◌}
+use Rattle.rv_runs.proofs.Words.{AMode, AllByRecursion, AnswerFits, AreOutside, AreShort, AreUnits, AreValues, AtLabel, Based, CodeHas, Comes, ComesOut, Decoded, Does, EmitVState, Enters, FullComesOut, FullState, FullValues}
+use Rattle.rv_runs.proofs.Words.{HasSize, InCourse, IsIntegerLoad, IsIntegerStore, IsPlacedAt, IsUsable, IsUsableAt, IsaFlags, Label, Load, LoadOP, Location, MachLabel, MemFlagsData, Next, Op, Part, PartsStand, Reg, Same, SameBut, SameFull, Sets, Site, Slot}
+use Rattle.rv_runs.proofs.Words.{StandsIn, State, Store, StoreOP, TrapCode, Units, Values, Writable, access_slots, act, act_on, address_at, address_slots, addresses_from, are_values_set, at, between, comes_here, decoded_load, environment, equals_itself, fiter_after}
+use Rattle.rv_runs.proofs.Words.{full_at, goes_at_least, goes_second, half_load_slots, half_store_slots, integer_run, is_among, is_near, label_base, load_fits, load_op, load_result, load_same, load_slots, location_of, low64, lower_of_distance, nat_tests, number_of}
+use Rattle.rv_runs.proofs.Words.{or_parts, placed_after, plus_none, put, put_bytes, put_same, put_values, reads_back, reads_other, reg, row_next, set_reg, shorter, size_append, size_of, slots_alone, spare_set, stands_split, step_at, store_slots, temporary_set, unit_row, wrap}
+use Rattle.{mach_uses.specs.Labels.constant_label}
+use Rattle.rv_code.proofs.Courses.{IsApartAt, IsRealAt, address_even, address_fits, address_goes, address_same, label_address, lower_sums, sets_comes, upper_goes, upper_sum}
 use Rattle.rv_code.proofs.OperationActs.{has_integer_load, has_integer_store, integer_load, integer_store, load_sized, short_load_either, short_store_either, store_sized}
-use Rattle.rv_code.{proofs.Registers.own_set as set_beside, proofs.StackRuns.stored_bytes, proofs.StackRuns.stored_length, specs.InstParts.inline_slots, specs.InstParts.label_load_slots, specs.Slots.Fixup}
-use Rattle.{rv_encode.specs.Operations.decoded_store, rv_encode.specs.Operations.load_row, rv_encode.specs.Operations.store_op, rv_encode.specs.Operations.store_row, rv_inst.specs.Addresses.AtConstant, rv_inst.specs.Forms.short_load, rv_inst.specs.Forms.short_store, rv_inst.specs.Rules.is_word_type}
-use Rattle.{rv_inst.specs.declared.label_use.LabelUse.TheVariants.PCRelLo12I, rv_machine.specs.Arithmetic.extend_word, rv_machine.specs.Memory.store_bytes, rv_machine.specs.declared.ops.MOp.MOp, rv_ops.specs.Memory.store_size, rv_ops.specs.declared.memory.LoadOP.TheVariants.Lw}
-use Rattle.rv_runs.proofs.{Exits.RunsHere, Exits.SlotsOut, Exits.comes_out, Exits.same_but, Exits.starts_at, Exits.writes_beside, UnitRuns.extended_fits, UnitRuns.fiter_one, UnitRuns.unit_next_at}
+use Rattle.rv_code.{proofs.Registers.own_set as set_beside, proofs.StackRuns.stored_bytes, proofs.StackRuns.stored_length, specs.InstParts.label_load_slots, specs.Slots.Fixup}
+use Rattle.{rv_encode.specs.Operations.decoded_store, rv_encode.specs.Operations.load_row, rv_encode.specs.Operations.store_op, rv_encode.specs.Operations.store_row, rv_inst.specs.Addresses.AtConstant, rv_inst.specs.Forms.short_load, rv_inst.specs.Forms.short_store}
+use Rattle.{rv_inst.specs.declared.label_use.LabelUse.TheVariants.PCRelLo12I, rv_machine.specs.Memory.store_bytes, rv_machine.specs.declared.ops.MOp.MOp, rv_ops.specs.Memory.store_size}
+use Rattle.rv_runs.proofs.{Exits.RunsHere, Exits.SlotsOut, Exits.comes_out, Exits.same_but, Exits.starts_at, Exits.writes_beside, UnitRuns.fiter_one, UnitRuns.unit_next_at}
 
 -- Where the code before an access comes: to the access's operation, with its address in reach of it.
 
@@ -295,30 +295,3 @@ address_out {site} {start} {after} {s} {v} rd loc usable some based apart e =
     subst (λ x. ComesOut site start after Next [] (set_reg v rd x) s) (sym (address_same env v s.values loc based e.same))
     (sets_out (address_slots site.context.flags rd loc) (size_of (address_slots site.context.flags rd loc)) rd (address_at env s.values loc) usable (address_fits site start after s.values loc) e refl
     (address_goes start after e.stands.0 rd loc some (omega arith) apart (bounds e) e.is_state (starts_at (address_slots site.context.flags rd loc) e) e.stands.1))
-
--- A constant among the code: it is loaded, and jumped over.
-
--- ---- the bytes of a constant
-
--- four bytes that stand in the memory, as a number
-four_there : (mem : Memory) (a w : ℕ) → w < 2 ^ 32 → BytesAt mem a (to_le_bytes w32 w) → load_bytes mem a 4 ≡ w
-four_there mem a w small at =
-    let each : (k : ℕ) → k < 4 → byte mem (wrap (a + k)) ≡ slice_index (to_le_bytes w32 w) k = λ k lt. let e : wrap (a + k) ≡ a + k = omega arith in ap (byte mem) e ∙ at.there k lt in
-    omega (arith, each 0 (lit< tt), each 1 (lit< tt), each 2 (lit< tt), each 3 (lit< tt))
-
--- ---- the code
-
--- what the load reads is what it leaves in the register
-inline_out : {site : Site} {start after : ℕ} {s : State} {v : Values} (n size x : ℕ) (op : LoadOP) (bytes : List ℕ) → IsIntegerLoad op → 0 < n → n < 30 → x < 2 ^ 64 → 0 < size → size < 16 → length bytes ≡ size →
-    ((mem : Memory) (a : ℕ) → BytesAt mem a bytes → load_result (load_op op) mem a ≡ x) → SlotsOut site start after (inline_slots site.context.flags n op size bytes) s v [] (set_reg v n x)
-inline_out {site} n size x op bytes integer some usable fits filled little long reads e =
-    let slots = inline_slots site.context.flags n op size bytes in
-    sets_out slots (8 + jump_size site.context.flags + size) n x usable fits e (sym (inline_size site.context.flags n size op bytes long))
-    (in_three (inline_goes e.stands.0 n size x op bytes integer some (omega arith) little long reads filled e.is_state (starts_at slots e) e.stands.1))
-
-pub constant_runs : (site : Site) (setting : EmitVState) (start after : ℕ) (s : State) (v : Values) (rd : Writable Reg) (type : IrType) (imm : ℕ) → IsUsable rd.reg → 0 < number_of rd.reg → is_word_type type ≡ true → RunsHere site setting (LoadInlineConst rd type imm) start after s v
-constant_runs site setting start after s v rd I32 imm h some word e clear =
-    inline_out (number_of rd.reg) 4 (extend_word imm) Lw (to_le_bytes w32 (imm % 2 ^ 32)) refl some h.1 (extended_fits w32 (imm % 2 ^ 32) tt) (lit< tt) (lit< tt) refl
-    (λ mem a there. ap (λ m. low64 (cast_signed w32 m)) (four_there mem a (imm % 2 ^ 32) (omega arith) there)) e
-constant_runs site setting start after s v rd I64 imm h some word e clear = inline_out (number_of rd.reg) 8 (wrap imm) Ld (to_le_bytes w64 imm) refl some h.1 (omega arith) (lit< tt) (lit< tt) refl (λ mem a there. eight_there mem a imm there) e
-constant_runs site setting start after s v rd _ imm h some word e clear = absurd (cc)

@@ -1,17 +1,17 @@
 -- Plain instructions: those of no operation or of one, jumps and branches, traps, and the addresses of symbols.
-use Rattle.std.proofs.Common.{Bool, List, Some, [], ap, arith, eqb-true, false, if◌then◌else◌, lit<, lit≤, nat_eq, nat_lt, not, pos, refl, subst, sym, true, ℕ, ℤ, ◌*◌, ◌+◌, ◌-ℤ◌, ◌/◌, ◌<◌, ◌^◌, ◌∙◌, ◌∷◌, ◌≡◌, ◌≤◌}
-use Rattle.rv_runs.proofs.Words.{AVirtual, Addi}
-use Rattle.rv_runs.proofs.Words.{AddressOf, AimsFrom, AluOPRRI, AluRRImm12, AluRRR, Arrives, Auipc, Base, Bind, ComesOut, CondBr, Decoded, Do, EmitVState, Enters, Exit, ExternalName, Goes, Int, IntCC, IntegerCompare, IrType, IsAt, IsBeside, IsIntRegister, IsUsable, IsaFlags, Jalr, Label, Ld, Leave}
-use Rattle.rv_runs.proofs.Words.{LoadExtNameFar, LoadExtNameGot, Lui, MachLabel, Mov, Next, NotEqual, Op, Part, Real, Reg, Ret, Rri, Same, Sets, Site, Slot, StandsIn, State, To, TrapCode, Values, Writable, act, alu_result_fits, alu_rri, alu_rrr, and_then, at, at_next, between, class_of, compares}
-use Rattle.rv_runs.proofs.Words.{complement_of, decoded, decoded_addi, decoded_load, eight_there, evaluate, goes_at_least, goes_none, holds, jalr_acts, jalr_sized, jump_acts, jump_size, jump_to, least_steps, load_fits, load_op, load_result, load_same, low64, lower_of_distance, lui_acts, lui_sized}
-use Rattle.rv_runs.proofs.Words.{move_pieces, number_of, plus_none, point, reads_back, reg, rri_op, set_at, set_own, set_reg, short_jalr, short_jump, short_lui, short_rri, short_rrr, shorter, signed_below, size_of, slots_alone, slots_of, step_at, symbol_address, to_le_bytes, w64, window_some, wrap}
-use Rattle.rv_base.specs.declared.condcodes.IntCC.TheVariants.{SignedGreaterThanOrEqual, SignedLessThanOrEqual, UnsignedGreaterThanOrEqual, UnsignedLessThanOrEqual}
-use Rattle.rv_code.proofs.{Courses.{in_three, over_goes, parts_sum, sets_both, sets_one}, LineSlots.far_long, OperationActs.branch_acts, OperationActs.low64_small, OperationActs.rri_acts, OperationActs.rri_sized, OperationActs.rrr_acts, OperationActs.rrr_fits, OperationActs.rrr_sized}
-use Rattle.rv_code.{proofs.Steps.aims_at, specs.Immediates.upper_of_distance, specs.InstParts.branch_to, specs.InstParts.far_slots, specs.InstParts.got_slots, specs.InstParts.near_slots, specs.Sites.FillsFrom, specs.Slots.SlotOf, specs.Slots.Symbol, specs.Slots.Target, specs.Traps.trap_if_pieces}
+use Rattle.{rv_base.specs.declared.condcodes.IntCC.TheVariants.{SignedGreaterThanOrEqual, SignedLessThanOrEqual, UnsignedGreaterThanOrEqual, UnsignedLessThanOrEqual}, rv_code.{proofs.Steps.aims_at, specs.InstParts.branch_to, specs.Slots.SlotOf, specs.Slots.Target, specs.Traps.trap_if_pieces}}
+use Rattle.{rv_code.proofs.Evaluation.{distant_fits, literal_fits}, rv_code.specs.Evaluation.{distant_value, literal_value}, rv_code.specs.InstRuns.environment, rv_code.specs.Pieces.{AreInRange, Constant, Distant, Literal, OfSymbol, Take}}
+use Rattle.rv_runs.proofs.Words.{AVirtual, Addi, Environment, Memory, Piece, are_values_set, byte, next, same_set}
+use Rattle.std.proofs.Common.{Bool, List, Some, [], ap, arith, eqb-true, false, if◌then◌else◌, lit<, lit≤, nat_eq, nat_lt, not, pos, refl, subst, sym, true, ℕ, ◌*◌, ◌+◌, ◌/◌, ◌<◌, ◌^◌, ◌∙◌, ◌∷◌, ◌≡◌, ◌≤◌}
+use Rattle.rv_runs.proofs.Words.{AimsFrom, AluOPRRI, AluRRImm12, AluRRR, Arrives, Auipc, Base, Bind, ComesOut, CondBr, Decoded, Do, EmitVState, Enters, Exit, Goes, Int, IntCC, IntegerCompare, IrType, IsAt, IsBeside, IsIntRegister, IsUsable, IsaFlags, Jalr, Label, Ld, Leave}
+use Rattle.rv_runs.proofs.Words.{Lui, MachLabel, Mov, Next, NotEqual, Op, Part, Real, Reg, Ret, Rri, Same, Site, Slot, StandsIn, State, To, TrapCode, Values, Writable, act, alu_result_fits, alu_rri, alu_rrr, and_then, at, at_next, between, class_of, compares}
+use Rattle.rv_runs.proofs.Words.{complement_of, decoded, evaluate, goes_at_least, goes_none, holds, jalr_acts, jalr_sized, jump_acts, jump_to, least_steps, load_op, load_same, low64, lui_acts, lui_sized}
+use Rattle.rv_runs.proofs.Words.{move_pieces, number_of, plus_none, point, reg, rri_op, set_own, set_reg, short_jalr, short_jump, short_lui, short_rri, short_rrr, signed_below, size_of, slots_alone, slots_of, step_at, window_some, wrap}
+use Rattle.rv_code.proofs.{OperationActs.branch_acts, OperationActs.low64_small, OperationActs.rri_acts, OperationActs.rri_sized, OperationActs.rrr_acts, OperationActs.rrr_fits, OperationActs.rrr_sized}
 use Rattle.{rv_encode.specs.Operations.decoded_branch, rv_imms.specs.declared.imm12.Imm12.Imm12, rv_imms.specs.declared.imm20.Imm20.Imm20}
 use Rattle.rv_inst.specs.{Forms.jump_kind, LabelUse.has_veneer_of, Meaning.Trap, Meaning.target_exit, Rules.is_fallthrough, Faults.is_out_of_range, declared.inst.CondBrTarget.CondBrTarget, declared.inst.CondBrTarget.TheVariants.Fallthrough, declared.inst.CondBrTarget.TheVariants.Label as ToLabel}
 use Rattle.{rv_inst.specs.declared.label_use.LabelUse.TheVariants.B12, rv_ops.specs.declared.alu.AluOPRRR.AluOPRRR}
-use Rattle.rv_runs.proofs.{Exits.RunsHere, Exits.SlotsOut, Exits.comes_out, Exits.goes_out, Exits.label_out, Exits.pieces_out, Exits.pieces_trap, Exits.same_but, Exits.starts_at, Exits.starts_beside, Exits.writes_beside, MemoryRuns.sets_out}
+use Rattle.rv_runs.proofs.{Exits.RunsHere, Exits.SlotsOut, Exits.comes_out, Exits.goes_out, Exits.label_out, Exits.pieces_out, Exits.pieces_trap, Exits.same_but, Exits.starts_at, Exits.starts_beside, Exits.writes_beside}
 use Rattle.rv_machine.specs.declared.ops.BaseOp.TheVariants as base
 use Rattle.rv_code.specs.Pieces as piece
 
@@ -180,59 +180,32 @@ skips cmp c v w test h1 h2 same = complement_holds cmp.kind (reg w (number_of cm
 
 pub trap_if_out : {site : Site} {start after : ℕ} {s : State} {v : Values} (cmp : IntegerCompare) (code : TrapCode) (c : Bool) → compares cmp v ≡ c → IsUsable cmp.rs1 → IsUsable cmp.rs2 → Enters site start after (slots_alone (slots_of site.context.flags (trap_if_pieces cmp code))) s v →
     ComesOut site start after (if c then Trap code else Next) [] v s
-trap_if_out {s = s} {v} cmp code true test h1 h2 e = pieces_trap (trap_if_pieces cmp code) (Bind 0 ∷ []) code [] v tt e
-    (record { count = 2; values = s.values; ran = ap (λ b. and_then (if b then Some (point [] s.values) else Some (point (piece.Trap code ∷ Bind 0 ∷ []) s.values)) (evaluate 0 (trap_if_pieces cmp code))) (skips cmp true v s.values test h1 h2 e.same); such = same_but [] e.same })
+trap_if_out {site} {start} {after} {s} {v} cmp code true test h1 h2 e = pieces_trap (trap_if_pieces cmp code) (Bind 0 ∷ []) code [] v tt e
+    (record { count = 2; values = s.values; ran = ap (λ b. and_then (if b then Some (point [] s.values) else Some (point (piece.Trap code ∷ Bind 0 ∷ []) s.values)) (evaluate (environment site start after) 0 (trap_if_pieces cmp code))) (skips cmp true v s.values test h1 h2 e.same); such = same_but [] e.same })
     (λ fits. e.are_values)
-trap_if_out {s = s} {v} cmp code false test h1 h2 e = pieces_out (trap_if_pieces cmp code) [] v tt e
-    (record { count = 2; values = s.values; ran = ap (λ b. and_then (if b then Some (point [] s.values) else Some (point (piece.Trap code ∷ Bind 0 ∷ []) s.values)) (evaluate 0 (trap_if_pieces cmp code))) (skips cmp false v s.values test h1 h2 e.same); such = same_but [] e.same })
+trap_if_out {site} {start} {after} {s} {v} cmp code false test h1 h2 e = pieces_out (trap_if_pieces cmp code) [] v tt e
+    (record { count = 2; values = s.values; ran = ap (λ b. and_then (if b then Some (point [] s.values) else Some (point (piece.Trap code ∷ Bind 0 ∷ []) s.values)) (evaluate (environment site start after) 0 (trap_if_pieces cmp code))) (skips cmp false v s.values test h1 h2 e.same); such = same_but [] e.same })
     (λ fits. e.are_values)
 
--- Symbols' addresses come into registers, and steps in the making of a frame do nothing.
+-- Registers that get what stands among the code, or what is distant.
 
--- ---- by the distance to a symbol
+-- one piece does it, where the value is the same in the listing's memory
+piece_sets : {site : Site} {start after : ℕ} {s : State} {v : Values} (p : Piece) (rd x : ℕ) → rd < 30 → AreInRange (p ∷ []) → next (environment site start after) (p ∷ []) (p ∷ []) s.values [] ≡ Some (point [] (set_reg s.values rd x)) → x < 2 ^ 64 → SlotsOut site start after (slots_of site.context.flags (p ∷ [])) s v [] (set_reg v rd x)
+piece_sets {site} {start} {after} {s} {v} p rd x usable range is fits e =
+    pieces_out (p ∷ []) [] (set_reg v rd x) range e
+    (record { count = 1; values = set_reg s.values rd x; ran = ap (λ o. and_then o (evaluate (environment site start after) 0 (p ∷ []))) is; such = same_but [] (same_set v s.values rd x e.are_values e.is_state.values (omega arith) e.same) })
+    (λ all. are_values_set v rd x e.are_values (omega arith) fits)
 
--- the upper part of a distance, added to an address
-abbrev upper_sum : ℕ → ℤ → ℕ
-upper_sum pc d = wrap (pc + low64 (upper_of_distance d) * 2 ^ 12)
+pub literal_out : {site : Site} {start after : ℕ} {s : State} {v : Values} (rd : ℕ) (l : Literal) → rd < 30 → 0 < rd → SlotsOut site start after (slots_of site.context.flags (Constant rd l ∷ [])) s v [] (set_reg v rd (literal_value (environment site start after) l))
+literal_out {site} {start} {after} rd l usable some = piece_sets (Constant rd l) rd (literal_value (environment site start after) l) usable ((some, omega arith), tt) refl (literal_fits (environment site start after) l)
 
--- two words hold the distance to a symbol: auipc, and one that does what it does with the symbol's address
-by_symbol : {site : Site} {start after : ℕ} {s : State} {v : Values} (slots : List Slot) (rd x : ℕ) (symbol : Symbol) (second : ℤ → Decoded) → rd < 30 → 0 < rd → x < 2 ^ 64 → Enters site start after (slots_alone slots) s v → 8 ≡ size_of slots → ((d : ℤ) → (second d).len ≡ 4) →
-    (f : FillsFrom site start symbol (λ d. decoded (Base base.Auipc) rd 0 0 (upper_of_distance d) ∷ []) (λ d. second d ∷ [])) → ((d : ℤ) (w : Values) → w.mem ≡ s.values.mem → wrap (reg w rd + low64 (lower_of_distance d)) ≡ symbol_address site symbol → act (second d) (at (wrap (s.pc + 4)) w) ≡ Some (at (wrap (wrap (s.pc + 4) + (second d).len)) (set_reg w rd x))) → ComesOut site start after Next [] (set_reg v rd x) s
-by_symbol {site} {start} {s = s} slots rd x symbol second usable some fits e long four f acts =
-    let h = starts_at slots e in
-    let y = upper_sum s.pc f.distance in
-    let w = set_reg s.values rd y in
-    let d = f.distance -ℤ pos 4 in
-    let h1 : IsAt site (start + 4) 4 (at (wrap (s.pc + 4)) w) = set_at 4 rd y (shorter 8 h (omega arith)) refl in
-    let over : wrap (wrap (site.base + start) + low64 f.distance) ≡ wrap (site.base + start + low64 f.distance) = omega arith in
-    let sum = (λ i. wrap (reads_back s.values rd y e.is_state.values some (omega arith) i + low64 (lower_of_distance d))) ∙ parts_sum s.pc f.distance f.near ∙ (λ i. wrap (h.pc i + low64 f.distance)) ∙ over ∙ f.leads in
-    sets_out slots 8 rd x usable fits e long
-    (sets_both 4 4 rd y x (sets_one (decoded (Base base.Auipc) rd 0 0 (upper_of_distance f.distance)) rd y h (omega arith) f.has_upper refl)
-    (subst (λ n. Sets site.context.flags n (at (wrap (s.pc + 4)) w) rd x) (four d) (sets_one (second d) rd x h1 (omega arith) f.has_lower (acts d w refl sum))))
-
-pub near_out : {site : Site} {start after : ℕ} {s : State} {v : Values} (rd : ℕ) (name : ExternalName) (offset : ℤ) → rd < 30 → 0 < rd → SlotsOut site start after (near_slots rd name offset) s v [] (set_reg v rd (symbol_address site (AddressOf name offset)))
-near_out {site} {s = s} rd name offset usable some e =
-    by_symbol (near_slots rd name offset) rd (symbol_address site (AddressOf name offset)) (AddressOf name offset) (λ d. decoded_addi rd rd (lower_of_distance d)) usable some (omega arith) e refl (λ d. refl) e.stands.1.0 (λ d w kept sum i. Some (at (wrap (wrap (s.pc + 4) + 4)) (set_reg w rd (sum i))))
-
--- what stands in the symbol's slot is loaded
-got_out : {site : Site} {start after : ℕ} {s : State} {v : Values} (rd : ℕ) (name : ExternalName) → rd < 30 → 0 < rd → SlotsOut site start after (got_slots rd name) s v [] (set_reg v rd (load_result (load_op Ld) s.values.mem (site.slot name.number)))
-got_out {site} {s = s} rd name usable some e =
-    by_symbol (got_slots rd name) rd _ (SlotOf name) (λ d. decoded_load Ld rd rd (lower_of_distance d)) usable some (load_fits (load_op Ld) s.values.mem (site.slot name.number) e.is_state.values.bytes) e refl (λ d. refl) e.stands.1.0
-    (λ d w kept sum i. Some (at (wrap (wrap (s.pc + 4) + 4)) (set_reg w rd (load_result (load_op Ld) (kept i) (sum i)))))
-
-pub got_runs : (site : Site) (setting : EmitVState) (start after : ℕ) (s : State) (v : Values) (rd : Writable Reg) (name : ExternalName) → IsUsable rd.reg → 0 < number_of rd.reg → RunsHere site setting (LoadExtNameGot rd name) start after s v
-got_runs site setting start after s v rd name h some e clear = subst (λ x. ComesOut site start after Next [] (set_reg v (number_of rd.reg) x) s) (sym (load_same (load_op Ld) v.mem s.values.mem (site.slot name.number) e.same.mem)) (got_out (number_of rd.reg) name h.1 some e)
-
--- ---- from among the code
-
-pub far_runs : (site : Site) (setting : EmitVState) (start after : ℕ) (s : State) (v : Values) (rd : Writable Reg) (name : ExternalName) (offset : ℤ) → IsUsable rd.reg → 0 < number_of rd.reg → RunsHere site setting (LoadExtNameFar rd name offset) start after s v
-far_runs site setting start after s v rd name offset h some e clear =
-    let n = number_of rd.reg in
-    let slots = far_slots site.context.flags n name offset in
-    let x = symbol_address site (AddressOf name offset) in
-    let long = far_long site.context.flags n name offset in
-    let stands = e.stands.1 in
-    let whole : wrap x ≡ x = omega arith in
-    sets_out slots (8 + jump_size site.context.flags + 8) n x h.1 (omega arith) e (omega arith)
-    (in_three (over_goes e.stands.0 n 8 x Ld (to_le_bytes w64 x) refl some (omega arith) (lit< tt) refl (λ mem a there. eight_there mem a x there ∙ whole) (lit< tt) e.is_state
-    (shorter (8 + jump_size site.context.flags + 8) (starts_at slots e) (omega arith)) (stands.0, (stands.1.0, (stands.1.1.0, tt))) (stands.1.1.1.0 s.values.mem e.placed)))
+pub distant_out : {site : Site} {start after : ℕ} {s : State} {v : Values} (rd : ℕ) (to : Distant) → rd < 30 → 0 < rd → SlotsOut site start after (slots_of site.context.flags (Take rd to ∷ [])) s v [] (set_reg v rd (distant_value (environment site start after) to v.mem))
+distant_out {site} {start} {after} {s} {v} rd to usable some e =
+    let env = environment site start after in
+    subst (λ x. ComesOut site start after Next [] (set_reg v rd x) s) (sym (distant_same env to v.mem s.values.mem e.same.mem))
+    (piece_sets (Take rd to) rd (distant_value env to s.values.mem) usable ((some, omega arith), tt) refl (distant_fits site start after to s e.is_state) e)
+  where
+    distant_same : (env : Environment) (to : Distant) (m w : Memory) → ((a : ℕ) → byte m a ≡ byte w a) → distant_value env to m ≡ distant_value env to w
+    distant_same env (OfSymbol (SlotOf name)) m w same = load_same (load_op Ld) m w (env.slot name.number) same
+    distant_same env (OfSymbol symbol) m w same = refl
+    distant_same env to m w same = refl

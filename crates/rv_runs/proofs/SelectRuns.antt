@@ -1,6 +1,6 @@
 -- Of integer registers, one of two values is chosen, and the low bits are extended.
+use Rattle.{rv_code.specs.InstRuns.environment, rv_runs.proofs.Words.{Andi, AreInRange}}
 use Rattle.std.proofs.Common.{Bool, List, [], ap, arith, eqb-true, false, if◌then◌else◌, lit<, map, mod-lt, mul-le-mul, nat_lt, negsuc, not, pos, refl, subst, suc, sym, true, zero, ℕ, ◌%◌, ◌*◌, ◌++◌, ◌+◌, ◌-◌, ◌/◌, ◌<◌, ◌^◌, ◌∙◌, ◌∷◌, ◌≡◌, ◌≤◌}
-use Rattle.rv_runs.proofs.Words.{Andi, AreInRange}
 use Rattle.rv_runs.proofs.Words.{AreValues, ComesOut, Do, EmitVState, Enters, FullValues, Int, Keeps, Next, Piece, Reg, Rri, Same, SameBut, Select, SelectInfo, Site, Slli, State, Values, all_of, alu_result_fits, alu_rri, and_then, are_values_set, chosen, class_of, compares, evaluate, extend_pieces}
 use Rattle.rv_runs.proofs.Words.{ints, is_byte, is_int_class, list_any, low64, nat_tests, number_of, or_parts, point, pow_pos, put_all, put_in, reads_back, reg, rri_op, same_set, set_reg, set_twice, signed, signed64, slots_alone, slots_of, small_shift, value_in, value_of, wrap, written_in}
 use Rattle.{rv_code.proofs.Operands.none_of_both, rv_full.specs.View.zero_units, rv_inst.specs.Bits.extended, rv_inst.specs.Meaning.set_regs, rv_inst.specs.Operands.inst_registers}
@@ -46,8 +46,8 @@ select_runs site setting start after s v info placed k e clear =
     let whole = ordered info h in
     let u : FullValues = record { ints = v; units = zero_units } in
     let w : FullValues = record { ints = s.values; units = zero_units } in
-    let comes : Reaches whole (point whole s.values) [] (λ t. t ≡ (chosen info w).ints) = choice_comes info h (λ c. c ≡ Int) (λ ps r. Reaches whole (point ps r.ints) [] (λ t. t ≡ (chosen info w).ints))
-    (λ ps qs r z step on. goes_on {Such = λ t. t ≡ z} (record { count = 1; values = z; ran = ap (λ q. and_then q (evaluate 0 whole)) step; such = refl }) (λ t is. subst (λ t. Reaches whole (point qs t) [] (λ t. t ≡ (chosen info w).ints)) (sym is) on))
+    let comes : Reaches (environment site start after) whole (point whole s.values) [] (λ t. t ≡ (chosen info w).ints) = choice_comes info h (environment site start after) (λ c. c ≡ Int) (λ ps r. Reaches (environment site start after) whole (point ps r.ints) [] (λ t. t ≡ (chosen info w).ints))
+    (λ ps qs r z step on. goes_on {Such = λ t. t ≡ z} (record { count = 1; values = z; ran = ap (λ q. and_then q (evaluate (environment site start after) 0 whole)) step; such = refl }) (λ t is. subst (λ t. Reaches (environment site start after) whole (point qs t) [] (λ t. t ≡ (chosen info w).ints)) (sym is) on))
     (λ rd rs ps r none on. absurd (cc)) w ints e.is_state.values (record { count = 0; values = (chosen info w).ints; ran = refl; such = refl }) in
     subst (λ r. ComesOut site start after Next [] r s) (ints_chosen u (compares info.condition v) rds (all_of info.x) (all_of info.y) ints (are_of_int inputs parts.1).1.1 (are_of_int (all_of info.y) both.1))
     (pieces_out whole [] (chosen info u).ints (choice_range rds o.first o.second o.how _ _) (subst (λ ps. Enters site start after (slots_alone (slots_of site.context.flags ps)) s v) o.pieces e)
@@ -110,7 +110,7 @@ twice_same v w (suc n) x back hv hw lt same =
     subst (Same (set_reg v (suc n) (back x))) (sym (set_twice w (suc n) x (back (reg (set_reg w (suc n) x) (suc n))) ∙ ap (λ y. set_reg w (suc n) (back y)) (reads_back w (suc n) x hw (omega arith) lt))) (same_set v w (suc n) (back x) hv hw lt same)
 
 -- pieces that give the register such a number
-gives : {site : Site} {start after : ℕ} {s : State} {v : Values} (whole : List Piece) (rd x y : ℕ) → AreInRange whole → rd < 32 → x < 2 ^ 64 → x ≡ y → Enters site start after (slots_alone (slots_of site.context.flags whole)) s v → Reaches whole (point whole s.values) [] (Same (set_reg v rd x)) → ComesOut site start after Next [] (set_reg v rd y) s
+gives : {site : Site} {start after : ℕ} {s : State} {v : Values} (whole : List Piece) (rd x y : ℕ) → AreInRange whole → rd < 32 → x < 2 ^ 64 → x ≡ y → Enters site start after (slots_alone (slots_of site.context.flags whole)) s v → Reaches (environment site start after) whole (point whole s.values) [] (Same (set_reg v rd x)) → ComesOut site start after Next [] (set_reg v rd y) s
 gives {site} {start} {after} {s} {v} whole rd x y ranges lt fits is e r =
     subst (λ z. ComesOut site start after Next [] (set_reg v rd z) s) is
     (pieces_out whole [] (set_reg v rd x) ranges e (reaches_such (λ w same. same_but [] same) r) (λ all. are_values_set v rd x e.are_values lt fits))

@@ -3,7 +3,8 @@ pub use Rattle.mach_records.specs.declared.records.Event.TheVariants.{CallSite}
 pub use Rattle.rv_base.specs.{CondCodes.complement_of, CondCodes.holds, CondCodes.signed64, CondCodes.signed_below, LabelUse.code_limit, Regs.class_of, Regs.number_of, declared.amode.AMode.AMode, declared.call.TryCallInfo.TryCallInfo, declared.call.UserStackMap.UserStackMap}
 pub use Rattle.rv_base.specs.declared.{condcodes.IntCC.IntCC, condcodes.IntCC.TheVariants.Equal, condcodes.IntCC.TheVariants.NotEqual, external_name.ExternalName.ExternalName, flags.IsaFlags.IsaFlags, frame.FrameLayout.FrameLayout, ir_type.IrType.IrType, label.MachLabel.MachLabel}
 pub use Rattle.rv_base.specs.declared.{mem_flags.MemFlagsData.MemFlagsData, regs.Reg.Reg, regs.Reg.TheVariants.Real, regs.Reg.TheVariants.Virtual as AVirtual, regs.RegClass.RegClass, regs.RegClass.TheVariants.Float, regs.RegClass.TheVariants.Int, regs.Writable.Writable, trap.TrapCode.TrapCode}
-pub use Rattle.rv_code.proofs.Courses.{AreShort, Comes, InCourse, IsUsableAt, Sets, address_sums, comes_here, comes_on, course_before, eight_there, goes_ahead, number_comes, rrr_writes, set_at, set_twice, shorter, size_append, stands_split, writes}
+pub use Rattle.rv_code.specs.Evaluation.{AreShort}
+pub use Rattle.rv_code.proofs.Courses.{Comes, InCourse, IsUsableAt, Sets, address_sums, comes_here, comes_on, course_before, eight_there, goes_ahead, number_comes, rrr_writes, set_at, set_twice, shorter, size_append, stands_split, writes}
 pub use Rattle.rv_code.proofs.{LineOperands.IsRestorable, LineOperands.is_restorable, LineOperands.t0_other, LineOperands.target_fine, MadeOfPieces.pieces_long, Operands.Keeps, Operands.call_usable, Operands.keeps}
 pub use Rattle.rv_code.proofs.OperationActs.{HasSize, IsIntegerLoad, IsIntegerStore, back_number, jalr_acts, jalr_sized, jump_acts, lui_acts, lui_sized, not_true, plus_none, set_own, small_number, window_some}
 pub use Rattle.rv_code.proofs.Registers.{are_values_set, count_set, equals_itself, half_power, none_below, not_below, not_zero, reads_back, reads_other, reads_set, same_set, small_shift, spare_set, temporary_set}

@@ -1,11 +1,10 @@
 -- What loads, stores, addresses and numbers put.
+use Rattle.{rv_code.specs.Pieces.Word64, rv_sequences.proofs.Terms.{Constant, Do, IsFinePlace, Place, Rri, Sh, has_load, has_store, immediate_pieces, load_most, loaded, slots_of}}
 pub use Rattle.rv_inst.proofs.Immediates.{upper_is, lower_is, splits, splits_not}
 use Rattle.rv_sequences.proofs.{SlotsPut.{alone, aim_put_at, none_put, both_alone, alone_long, alone_usable}, Terms.{Ld, Trap, PlaceLabel, ◌≡◌, ◌≢◌, zero, suc, refl, ◌-◌, ◌^◌, ◌<◌, ◌==◌, true, false, ℤ, pos, negsuc, ◌≤ℤ◌, ap, arith, ℕ, ◌+◌, ◌≤◌, List, [], ◌∷◌, ◌++◌, length, Option, Some, sym}}
-use Rattle.rv_sequences.proofs.Terms.{subst, append_assoc, ◌∙◌, cast_unsigned, w16, to_le_bytes, w64, w32, nat_tests, ints, IsSigned, low64, is_near, Location, AtLabel, AtConstant, if◌then◌else◌, ◌&&◌, IsaFlags, VCodeConstant, MachLabel, TrapCode, value_of, IsSplittable, Decoded, Addi, LabelUse}
+use Rattle.rv_sequences.proofs.Terms.{subst, append_assoc, ◌∙◌, cast_unsigned, w16, w32, nat_tests, ints, IsSigned, low64, is_near, Location, AtLabel, AtConstant, if◌then◌else◌, ◌&&◌, IsaFlags, VCodeConstant, MachLabel, TrapCode, value_of, IsSplittable, Decoded, Addi, LabelUse}
 use Rattle.rv_sequences.proofs.Terms.{word_bytes, use_at, shape_of, bytes_of, allocated_of, with_bytes, with_use, with_record, with_named, Shape, constant_label, Buffer, IsSoundBuffer, PutsAlone, upper_of, lower_of, short_rri, Slot, Op, Fixup, Names, Label, IsPatchable, Puts, access_slots}
-use Rattle.rv_sequences.proofs.Terms.{Constant, Do, Rri, immediate_pieces, slots_of}
-use Rattle.rv_sequences.proofs.Terms.{immediate_slots, inline_slots, labelled, lower_slots, naming_slots, offset_slots, number_slots, half_load_slots, half_store_slots, load_line_slots, load_slots, moved_to_integer, store_line_slots, store_slots, IsPlain, IsShort, is_low, slots_by, LoadOP, StoreOP}
-use Rattle.rv_sequences.proofs.Terms.{Sh, has_load, has_store, loaded, IsFinePlace, Place, load_most}
+use Rattle.rv_sequences.proofs.Terms.{immediate_slots, literal_slots, labelled, lower_slots, naming_slots, offset_slots, number_slots, half_load_slots, half_store_slots, load_line_slots, load_slots, moved_to_integer, store_line_slots, store_slots, IsPlain, IsShort, is_low, slots_by, LoadOP, StoreOP}
 
 -- ---- tests of offsets and of their immediates; the immediates that make an offset are its own
 
@@ -70,12 +69,12 @@ lower_put {flags} rd lower old new low high other p = subst (λ c. PutsAlone fla
 
 pub immediates_put : {flags : IsaFlags} (rd : ℕ) (o upper lower : ℤ) (old new : Buffer) → negsuc 524287 ≤ℤ upper → upper ≤ℤ pos 524287 → negsuc 2047 ≤ℤ lower → lower ≤ℤ pos 2047 → value_of upper lower ≡ o → PutsAlone flags (immediate_slots flags rd upper lower) old new → PutsAlone flags (offset_slots flags rd o) old new
 immediates_put {flags} rd o upper lower old new a b c d e p =
-    subst (λ t. PutsAlone flags (slots_of flags (if t then immediate_pieces rd (upper_of o) (lower_of o) else Constant rd (low64 o) ∷ [])) old new) (sym (splits o upper lower a b c d e))
+    subst (λ t. PutsAlone flags (slots_of flags (if t then immediate_pieces rd (upper_of o) (lower_of o) else Constant rd (Word64 (low64 o)) ∷ [])) old new) (sym (splits o upper lower a b c d e))
     (subst (λ u. PutsAlone flags (immediate_slots flags rd u (lower_of o)) old new) (sym (upper_is o upper lower a b c d e))
     (subst (λ l. PutsAlone flags (immediate_slots flags rd upper l) old new) (sym (lower_is o upper lower a b c d e)) p))
 
-pub constant_put : {flags : IsaFlags} (rd : ℕ) (o : ℤ) (old new : Buffer) → ¬ (IsSplittable o) → PutsAlone flags (inline_slots flags rd Ld 8 (to_le_bytes w64 (low64 o))) old new → PutsAlone flags (offset_slots flags rd o) old new
-constant_put {flags} rd o old new h p = subst (λ t. PutsAlone flags (slots_of flags (if t then immediate_pieces rd (upper_of o) (lower_of o) else Constant rd (low64 o) ∷ [])) old new) (sym (splits_not o h)) p
+pub constant_put : {flags : IsaFlags} (rd : ℕ) (o : ℤ) (old new : Buffer) → ¬ (IsSplittable o) → PutsAlone flags (literal_slots flags rd (Word64 (low64 o))) old new → PutsAlone flags (offset_slots flags rd o) old new
+constant_put {flags} rd o old new h p = subst (λ t. PutsAlone flags (slots_of flags (if t then immediate_pieces rd (upper_of o) (lower_of o) else Constant rd (Word64 (low64 o)) ∷ [])) old new) (sym (splits_not o h)) p
 
 -- ---- an upper immediate
 

@@ -1,8 +1,9 @@
 -- The slots that calls put, one call after the other.
+use Rattle.rv_code.specs.Pieces.{Word32, Word64}
 use Rattle.rv_sequences.proofs.{BufferAfterSlots.{lasts_after_slots, puts_bytes}, Encoded.{word_encodes, half_jump_patchable, half_encodes}, OwnForms.own_word, PlainSlots.plain_keeps, Terms.{Ld, Lw, Trap, ◌≡◌, ◌≢◌, ℕ, ◌+◌, true, false, nat_eq, List, [], ◌∷◌, length, ℤ, IsPatchable, Some, refl, ap}}
-use Rattle.rv_sequences.proofs.Terms.{sym, ◌∙◌, subst, arith, inl, inr, ◌++◌, ◌<◌, if◌then◌else◌, ◌%◌, ◌^◌, to_le_bytes, w16, w32, w64, length-append, nat_tests, IsaFlags, MachLabel, Decoded, decode, compressed, Base, Jal, decoded_jump, IntegerCompare, LabelUse, Jal20, RVCJump, word_bytes, half_at}
+use Rattle.rv_sequences.proofs.Terms.{sym, ◌∙◌, subst, arith, inl, inr, ◌++◌, ◌<◌, if◌then◌else◌, ◌%◌, ◌^◌, to_le_bytes, w16, w32, length-append, nat_tests, IsaFlags, MachLabel, Decoded, decode, compressed, Base, Jal, decoded_jump, IntegerCompare, LabelUse, Jal20, RVCJump, word_bytes, half_at}
 use Rattle.rv_sequences.proofs.Terms.{use_at, shape_of, bytes_of, allocated_of, with_bytes, with_use, Shape, IsUsable, with_record, Buffer, IsSoundBuffer, PutsAlone, PutsSlots, Label, Slot, Op, Fixup, Data, size_of, PutsSlot, Puts, jump_to, wide_jump_to, branch_to, trap_bytes, trap_slots}
-use Rattle.rv_sequences.proofs.Terms.{inline_slots, constant_slots, IrType, RegClass, move_op, move_pieces, move_by, slots_of, bits_of, TrapCode, label_kinds, Lasts, IsPlain, decode_half, IsOwnForm, IsHalf}
+use Rattle.rv_sequences.proofs.Terms.{literal_of, literal_slots, load_over, IrType, RegClass, move_op, move_pieces, move_by, slots_of, bits_of, TrapCode, label_kinds, Lasts, IsPlain, decode_half, IsOwnForm, IsHalf}
 
 -- ---- one call
 
@@ -92,15 +93,15 @@ bytes_put flags old new bytes put sound = alone (slot_put (Data bytes) old new p
 pub trap_put : (flags : IsaFlags) (old mid new : Buffer) (code : TrapCode) (bytes : List ℕ) → bytes ≡ trap_bytes flags → shape_of mid ≡ with_record (Trap code) (shape_of old) → shape_of new ≡ with_bytes bytes (shape_of mid) → IsSoundBuffer new → PutsAlone flags (trap_slots flags code) old new
 trap_put flags old mid new code bytes are recorded put sound = alone (record { puts = (shape_of mid, (tt, recorded), (shape_of new, put ∙ ap (λ b. with_bytes b (shape_of mid)) are, refl)); sound = sound })
 
-pub constant_word : {flags : IsaFlags} (rd : ℕ) (type : IrType) (imm : ℕ) (old new : Buffer) → bits_of type ≡ 32 → PutsAlone flags (inline_slots flags rd Lw 4 (to_le_bytes w32 (imm % 2 ^ 32))) old new → PutsAlone flags (constant_slots flags rd type imm) old new
+pub constant_word : {flags : IsaFlags} (rd : ℕ) (type : IrType) (imm : ℕ) (old new : Buffer) → bits_of type ≡ 32 → PutsAlone flags (load_over flags rd Lw 4 ++ Data (to_le_bytes w32 (imm % 2 ^ 32)) ∷ []) old new → PutsAlone flags (literal_slots flags rd (literal_of type imm)) old new
 constant_word {flags} rd type imm old new is p =
     let e : nat_eq (bits_of type) 32 ≡ true = grind (arith, nat_tests) in
-    rw e p
+    subst (λ c. PutsAlone flags (literal_slots flags rd (if c then Word32 imm else Word64 imm)) old new) (sym e) p
 
-pub constant_double : {flags : IsaFlags} (rd : ℕ) (type : IrType) (imm : ℕ) (old new : Buffer) → bits_of type ≢ 32 → PutsAlone flags (inline_slots flags rd Ld 8 (to_le_bytes w64 imm)) old new → PutsAlone flags (constant_slots flags rd type imm) old new
+pub constant_double : {flags : IsaFlags} (rd : ℕ) (type : IrType) (imm : ℕ) (old new : Buffer) → bits_of type ≢ 32 → PutsAlone flags (literal_slots flags rd (Word64 imm)) old new → PutsAlone flags (literal_slots flags rd (literal_of type imm)) old new
 constant_double {flags} rd type imm old new other p =
     let e : nat_eq (bits_of type) 32 ≡ false = grind (arith, nat_tests) in
-    rw e p
+    subst (λ c. PutsAlone flags (literal_slots flags rd (if c then Word32 imm else Word64 imm)) old new) (sym e) p
 
 -- ---- instructions of sixteen bits
 

@@ -4,8 +4,8 @@ pub use Rattle.{mach_buffer.specs.{Shape.{with_bytes, with_named, with_record, w
 pub use Rattle.{mach_uses.specs.declared.uses.Use.Use, rv_base.specs.{CondCodes.complement_of, Flags.no_flags, IrType.bits_of, LabelUse.{IsFresh, SameOutside}, Regs.{class_of, number_of}, declared.{constant.VCodeConstant.VCodeConstant, flags.IsaFlags.IsaFlags, ir_type.IrType.IrType}}}
 pub use Rattle.{rv_base.specs.declared.{ir_type.IrType.TheVariants.{F16, F32, F64}, label.MachLabel.MachLabel, regs.{Reg.{Reg, TheVariants.{Real, Virtual}}, RegClass.{RegClass, TheVariants.{Float, Vector}}}, trap.TrapCode.TrapCode}, rv_code.proofs.LineSlots.{IsPlain, IsShort, IsSummed}}
 pub use Rattle.rv_code.proofs.{LineSlots.{access_short, address_short, is_low, load_most, load_over_short, loaded, number_by, offset_short, own_word, real_number, slots_by, small_signed}, MadeOfPieces.{move_by, pieces_few, pieces_long}, OperationActs.{has_integer_load, short_load_either}}
-pub use Rattle.rv_code.{proofs.OperationActs.short_store_either, specs.{Choices.{choice_pieces, move_action, move_pieces}, Sequences.zeros_pieces, Immediates.{lower_of, lower_of_distance, upper_of, upper_of_distance}, InstParts.{access_slots, address_slots, branch_to, constant_slots, half_load_slots}}}
-pub use Rattle.rv_code.specs.InstParts.{half_store_slots, immediate_slots, inline_slots, jump_to, labelled, load_line_slots, load_slots, lower_slots, moved_to_float, moved_to_integer, naming_slots, number_slots, offset_slots, slots_alone, store_line_slots, store_slots, trap_bytes, trap_slots}
+pub use Rattle.rv_code.{proofs.OperationActs.short_store_either, specs.{Choices.{choice_pieces, move_action, move_pieces}, Sequences.zeros_pieces, Immediates.{lower_of, lower_of_distance, upper_of, upper_of_distance}, InstParts.{access_slots, address_slots, branch_to, half_load_slots}}}
+pub use Rattle.rv_code.specs.InstParts.{half_store_slots, immediate_slots, jump_to, literal_of, literal_slots, load_over, labelled, load_line_slots, load_slots, lower_slots, moved_to_float, moved_to_integer, naming_slots, number_slots, offset_slots, slots_alone, store_line_slots, store_slots, trap_bytes, trap_slots}
 pub use Rattle.rv_code.specs.{InstParts.wide_jump_to, Operations.{decoded_addi, decoded_jump, jump_size, jump_word, short_jump}, Pieces.{Action, Branch, Constant, Do, Piece, Rri, branches, immediate_pieces, number_pieces, pieces_most, slots_for, slots_of}, Probes.probe_pieces}
 pub use Rattle.rv_code.specs.{Sites.BytesAt, Slots.{Address, Fixup, Allocate, CallTo, Data, RelocPair, Here, Label, Names, Records, Op, Slot, address_event, call_event, label_of, lower_event, names_of, own_label, records_of, size_of, slot_size, upper_event, uses_of}, Usable.IsMove}
 pub use Rattle.{rv_compress.specs.{Encoded.{Holds, IsHalf, IsWord, WhereHalf}, declared.compressed.Encoded.{Encoded, TheVariants.{Half, Word}}}, rv_encode.{proofs.{Decoding.{branch_decodes, opcode_decodes}, MemoryDecoding.load_decodes}, specs.Layouts.{IsBType, IsIType, IsUType}}}

@@ -1,8 +1,8 @@
 //! Instructions that become several pieces of code: traps, constants among the code, and data.
 
-ghost use Rattle.std.specs.Prelude.{◌≡◌, ◌⊎◌, [], ◌∷◌, ◌+◌, ◌*◌, ◌%◌, ◌^◌, ◌<◌, length, pos, OnOk, OnErr, Some, true, false};
+ghost use Rattle.std.specs.Prelude.{◌≡◌, ◌⊎◌, [], ◌∷◌, ◌++◌, ◌+◌, ◌*◌, ◌%◌, ◌^◌, ◌<◌, length, pos, OnOk, OnErr, Some, true, false};
 ghost use Rattle.std.specs.Int.{to_le_bytes};
-ghost use mir.Syntax.{w32, w64};
+ghost use mir.Syntax.{w32};
 ghost use Rattle.rv_base.specs.declared.flags.IsaFlags.{IsaFlags};
 ghost use Rattle.rv_base.specs.Regs.{number_of};
 ghost use Rattle.rv_base.specs.LabelUse.{code_limit};
@@ -15,10 +15,10 @@ ghost use Rattle.mach_buffer.specs.Buffer.{bytes_of, allocated_of, spoiled_of};
 ghost use Rattle.rv_sequences.specs.Emitted.{IsSoundBuffer};
 ghost use Rattle.rv_sequences.specs.Parts.{PutsAlone};
 ghost use Rattle.rv_code.specs.Slots.{Data};
-ghost use Rattle.rv_code.specs.Pieces.{slots_of};
+ghost use Rattle.rv_code.specs.Pieces.{Word64, literal_slots, slots_of};
 ghost use Rattle.rv_code.specs.Traps.{trap_if_pieces};
 ghost use Rattle.rv_sequences.specs.Code.{code_most, pieces_of, AreSound, IsLabelled};
-ghost use Rattle.rv_code.specs.InstParts.{trap_slots, load_over, inline_slots, constant_slots};
+ghost use Rattle.rv_code.specs.InstParts.{trap_slots, load_over, literal_of};
 
 use crate::code::{CodePiece, bind, branch, put_code};
 use crate::shortest::put_short_jump;
@@ -109,7 +109,7 @@ pub fn put_constant(
     requires rd { IsIntRegister rd.reg }
     requires room { length (bytes_of sink.old) + 20 < code_limit }
     requires sound { IsSoundBuffer sink.old }
-    ensures slots { OnOk result (PutsAlone flags (constant_slots flags (number_of rd.reg) ty imm) sink.old sink.new) }
+    ensures slots { OnOk result (PutsAlone flags (literal_slots flags (number_of rd.reg) (literal_of ty imm)) sink.old sink.new) }
     ensures refused { OnErr result (spoiled_of sink.new ≡ true) }
 {
     if ty.bits() == 32 {
@@ -129,7 +129,7 @@ fn put_word_constant(
     requires rd { IsIntRegister rd.reg }
     requires room { length (bytes_of sink.old) + 20 < code_limit }
     requires sound { IsSoundBuffer sink.old }
-    ensures slots { OnOk result (PutsAlone flags (inline_slots flags (number_of rd.reg) loads.Lw 4 (to_le_bytes w32 imm)) sink.old sink.new) }
+    ensures slots { OnOk result (PutsAlone flags (load_over flags (number_of rd.reg) loads.Lw 4 ++ Data (to_le_bytes w32 imm) ∷ []) sink.old sink.new) }
     ensures refused { OnErr result (spoiled_of sink.new ≡ true) }
 {
     put_load_over(sink, flags, rd, LoadOP::Lw, 4)?;
@@ -147,7 +147,7 @@ pub(crate) fn put_double_constant(
     requires rd { IsIntRegister rd.reg }
     requires room { length (bytes_of sink.old) + 20 < code_limit }
     requires sound { IsSoundBuffer sink.old }
-    ensures slots { OnOk result (PutsAlone flags (inline_slots flags (number_of rd.reg) loads.Ld 8 (to_le_bytes w64 imm)) sink.old sink.new) }
+    ensures slots { OnOk result (PutsAlone flags (literal_slots flags (number_of rd.reg) (Word64 imm)) sink.old sink.new) }
     ensures refused { OnErr result (spoiled_of sink.new ≡ true) }
 {
     put_load_over(sink, flags, rd, LoadOP::Ld, 8)?;
