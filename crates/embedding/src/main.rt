@@ -71,10 +71,12 @@ fn print_code(rt: &impl Print, code: &Code) -> io::Result<()> {
     Ok(())
 }
 
-/// Prints the code of a function; or, where a word is a number, assembles another one so many times, for `bench/assemble`.
+/// Prints the code of a function; or, where two words are numbers, assembles another one so many times, which has so many blocks, for
+/// `bench/assemble`.
 fn main(rt: HostRuntime) -> anyhow::Result<()> {
-    if let Some(times) = env::args(&rt)?.nth(1) {
-        let size = assemble_again(rt.alloc(), times.parse()?)?;
+    let mut words = env::args(&rt)?.skip(1);
+    if let (Some(times), Some(blocks)) = (words.next(), words.next()) {
+        let size = assemble_again(rt.alloc(), times.parse()?, blocks.parse()?)?;
         println!(rt; "{size} bytes")?;
         return Ok(());
     }

@@ -1,4 +1,4 @@
-//! A function of 200 lines, and how it is assembled many times, for `bench/assemble`.
+//! A function of as many lines as wanted, and how it is assembled many times, for `bench/assemble`.
 
 use crate::code_of;
 use rv_base::{
@@ -9,9 +9,6 @@ use rv_imms::Imm12;
 use rv_inst::{CondBrTarget, EmitError, Inst, Line};
 use rv_ops::{AluOPRRI, AluOPRRR, IntegerCompare, LoadOP};
 use std::alloc::Global;
-
-/// How many blocks the function has.
-const BLOCKS: u32 = 33;
 
 /// Five lines that compute, and go to the label where two registers differ.
 fn push_block(lines: &mut Vec<Line>, label: MachLabel) -> Result<(), OutOfMemory> {
@@ -50,21 +47,21 @@ fn push_block(lines: &mut Vec<Line>, label: MachLabel) -> Result<(), OutOfMemory
     Ok(())
 }
 
-/// A function of 200 lines: 33 blocks, each of which begins with a label and may go to the next one, the end and a return.
-fn two_hundred(alloc: Global) -> Result<Vec<Line>, OutOfMemory> {
+/// A function of so many blocks of six lines, each of which begins with a label and may go to the next one, the end and a return.
+fn function_of(alloc: Global, blocks: u32) -> Result<Vec<Line>, OutOfMemory> {
     let mut lines = Vec::new(alloc);
-    for block in 0..BLOCKS {
+    for block in 0..blocks {
         lines.push(Line::Bind(MachLabel::from_u32(block)))?;
         push_block(&mut lines, MachLabel::from_u32(block + 1))?;
     }
-    lines.push(Line::Bind(MachLabel::from_u32(BLOCKS)))?;
+    lines.push(Line::Bind(MachLabel::from_u32(blocks)))?;
     lines.push(Line::Inst(Inst::Ret))?;
     Ok(lines)
 }
 
-/// Assembles the function so many times, and returns how many bytes its code has.
-pub fn assemble_again(alloc: Global, times: u32) -> Result<usize, EmitError> {
-    let Ok(lines) = two_hundred(alloc) else {
+/// Assembles a function of so many blocks so many times, and returns how many bytes its code has.
+pub fn assemble_again(alloc: Global, times: u32, blocks: u32) -> Result<usize, EmitError> {
+    let Ok(lines) = function_of(alloc, blocks) else {
         return Err(EmitError::OutOfMemory);
     };
     let mut size = 0;
