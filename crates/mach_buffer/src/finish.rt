@@ -1,5 +1,8 @@
 //! The end of a buffer: the last veneers, and the patches.
 
+ghost use Rattle.std.specs.Prelude.{◌≡◌, ◌<◌};
+ghost use Rattle.std.specs.List.{AllByRecursion};
+
 use crate::buffer::MachBuffer;
 use crate::code::Code;
 use crate::constants::Constants;
@@ -29,13 +32,23 @@ pub struct Finished {
     pub unwinds: List<MachUnwind>,
 }
 
+/// Bytes as a list: each is below 256.
+fn list_of(bytes: Vec<u8>) -> List<u8>
+    ensures list { result ≡ bytes.items }
+    ensures fits { AllByRecursion (λ b. b < 256) result }
+{
+    List::from_vec(bytes)
+}
+
 impl<L: MachInstLabelUse> MachBuffer<L> {
     ghost use Rattle.std.specs.Prelude.{◌≡◌, ◌≢◌, ◌<◌, length, OnOk, IfOk, false};
     ghost use Rattle.rv_base.specs.LabelUse.{code_limit};
     ghost use Rattle.mach_buffer.specs.Islands.{aligned};
     ghost use Rattle.mach_buffer.specs.Finish.{padded_for, CanFinish, Finishes};
     ghost use Rattle.mach_buffer.specs.LastVeneers.{LastPut};
-    ghost use Rattle.mach_records.specs.Records.{calls_in, maps_in, offset_or_zero, patches_in, relocs_in, traps_in, tries_in, unwinds_in};
+    ghost use Rattle.std.specs.List.{AllByRecursion};
+    ghost use Rattle.mach_records.specs.Ranges.{RecordedFits};
+    ghost use Rattle.mach_records.specs.Records.{by_kind as records_by_kind, calls_in, maps_in, offset_or_zero, patches_in, relocs_in, traps_in, tries_in, unwinds_in};
     ghost use Rattle.mach_buffer.specs.Buffer.{shape_of, bytes_of, labels_of, place_of, registered_of, records_of, spoiled_of, Unless, IsSound};
 
     /// Puts a veneer for each use that is pending, by deadline, then by place, then as recorded; then the constants that
@@ -54,6 +67,8 @@ impl<L: MachInstLabelUse> MachBuffer<L> {
         ensures patchable_call_sites { IfOk result (λ f. f.patchable_call_sites ≡ patches_in (records_of self)) }
         ensures stack_maps { IfOk result (λ f. f.stack_maps ≡ maps_in (records_of self)) }
         ensures unwinds { IfOk result (λ f. f.unwinds ≡ unwinds_in (records_of self)) }
+        ensures bytes { IfOk result (λ f. AllByRecursion (λ b. b < 256) f.bytes) }
+        ensures fits { OnOk result (RecordedFits (records_by_kind (place_of self) (records_of self))) }
         ensures unspoiled { OnOk result (spoiled_of self ≡ false) }
     {
         self.check()?;
@@ -73,6 +88,8 @@ impl<L: MachInstLabelUse> MachBuffer<L> {
         ensures patchable_call_sites { IfOk result (λ f. f.patchable_call_sites ≡ patches_in (records_of self)) }
         ensures stack_maps { IfOk result (λ f. f.stack_maps ≡ maps_in (records_of self)) }
         ensures unwinds { IfOk result (λ f. f.unwinds ≡ unwinds_in (records_of self)) }
+        ensures bytes { IfOk result (λ f. AllByRecursion (λ b. b < 256) f.bytes) }
+        ensures fits { OnOk result (RecordedFits (records_by_kind (place_of self) (records_of self))) }
     {
         let recorded = by_kind(&self.records, self.labels.places(), self.alloc)?;
         self.put_last()?;
@@ -94,7 +111,7 @@ impl<L: MachInstLabelUse> MachBuffer<L> {
             placed,
         } = constants;
         Ok(Finished {
-            bytes: List::from_vec(bytes),
+            bytes: list_of(bytes),
             labels: List::from_vec(labels.into_bound()),
             constants: List::from_vec(placed),
             relocs: recorded.relocs,

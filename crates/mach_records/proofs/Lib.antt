@@ -1,1 +1,2 @@
 pub mod OfRecords
+pub mod Ranges

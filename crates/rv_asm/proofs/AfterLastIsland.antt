@@ -1,6 +1,6 @@
 -- What is pending since the last island, by the lines and their spans, where islands end, and that none is early or too long.
 use Rattle.{rv_asm.proofs.LabelNames.uses_labels, rv_asm.proofs.LinesInBuffer.{InstAppends, line_gap, LineAppends}, rv_asm.proofs.RefusalOrder.{all_at, all_both, none_any}}
-use Rattle.rv_asm.proofs.Spans.{bound_by_append, bound_by_more, ends_more, get_drop, open_low, open_more, open_on, open_own, OpenAfter, own_uses, uses_more, of_cond, read_last, read_more}
+use Rattle.rv_asm.proofs.Spans.{bound_by_append, bound_by_more, get_drop, open_low, open_more, open_on, open_own, OpenAfter, own_uses, uses_more, of_cond, read_last, as_before, as_last}
 use Rattle.rv_asm.proofs.Words.{[], AfterLastIsland, aligned, ap, append_each, Appends, AppendsIsland, AppendsSequence, arith, before_or_last, Bind, BindPut, Bool, both_lists, both_ways, bound_by, bound_kept, bound_pending, broken_rule, Buffer, bytes_of, cases_Bool, cases_eq, cases_lt, cond}
 use Rattle.rv_asm.proofs.Words.{constants_end, constants_named, constants_of, constants_taken, constants_waiting, Context, deadline, deadlines, deadlines_as, direct_never_pending, drop, Each, each_none, emitted_keeps, end_before, end_of, EndsIn, false, false_from_ne_true, first_after_island}
 use Rattle.rv_asm.proofs.Words.{first_inner, forward_of, from_of, Gap, has_veneer_of, inl, inr, Inst, inst_rule, is_buffer_label, is_pending, IsDue, island_after, island_end, IslandAsked, IslandIfNeeded, Jal20, keeps, label_kinds, LabelUse, le-ltb, leb-false, length, length-append, length-drop}
@@ -14,12 +14,6 @@ use Rattle.{rv_asm.proofs.Words.{try_labels, unplaced_of, Use, uses_after_island
 deadlines_passing : (test : Use LabelUse → Bool) (uses : List (Use LabelUse)) → deadlines test label_kinds uses ≡ map (deadline label_kinds) (passing test uses)
 deadlines_passing test [] = refl
 deadlines_passing test (u ∷ uses) = (λ j. cond (test u) (deadline label_kinds u ∷ deadlines_passing test uses j) (deadlines_passing test uses j)) ∙ sym (of_cond (map (deadline label_kinds)) (test u) (u ∷ passing test uses) (passing test uses))
-
--- of the open uses alone
-pub pending_open : (context : Context) (lines : List Line) (spans : List LineSpan) (gaps : List Gap) (b : Buffer) → AfterLastIsland context lines spans gaps b → pending b ≡ deadlines (pending_at (place_of b)) label_kinds (uses_after_island context lines spans gaps)
-pending_open context lines spans gaps b s =
-    let test = pending_at (place_of b) in
-    deadlines_passing test (uses_of b) ∙ ap (map (deadline label_kinds)) s.ends.same ∙ sym (deadlines_passing test (uses_after_island context lines spans gaps))
 
 -- ==== Where islands end, and what follows the last line, by the lines and their spans.
 
@@ -64,7 +58,7 @@ module _ (context : Context) (lines : List Line) (spans : List LineSpan) (gaps :
       let same : deadlines (pending_at (place_of b)) label_kinds uses ≡ deadlines test label_kinds uses = deadlines_as (pending_at (place_of b)) test label_kinds uses (λ j u h.
       let k = first_after_island spans gaps (length lines) in
       same_test (place_of b) (bound_by spans 0 lines) u (λ served. since.places u.label.number (low_from context spans k (drop k lines) (λ i line e. since.ruled (k + i) line (sym (get_drop lines k i) ∙ e)) j u h served))) in
-      sym same ∙ sym (pending_open context lines spans gaps b since)
+      sym (deadlines_passing (pending_at (place_of b)) (uses_of b) ∙ ap (map (deadline label_kinds)) since.ends.same ∙ sym (deadlines_passing (pending_at (place_of b)) uses) ∙ same)
 
   -- the constants
   pub constants_left : constants_waiting context lines spans gaps ≡ unplaced_of (shape_of b)
@@ -92,16 +86,17 @@ module _ (context : Context) (lines : List Line) (spans more : List LineSpan) (g
   ends_same : (from : ℕ) → island_after context lines (spans ++ more) (gaps ++ more_gaps) from ≡ island_after context lines spans gaps from
   ends_same from = λ j. island_end (constants_end context.constants (drop (length (constants_named (take (last_same j) lines))) (constants_named lines))) (aligned (from + 4)) (length (waiting_same j)) (from + forward_of Jal20)
 
--- lines and spans more change nothing before them
-pub due_more : (context : Context) (lines more : List Line) (spans more_spans : List LineSpan) (gaps more_gaps : List Gap) (i from to distance : ℕ) → length spans ≡ length lines → length gaps ≡ length lines → i ≤ length lines → IsDue context lines spans gaps i from to distance → IsDue context (lines ++ more) (spans ++ more_spans) (gaps ++ more_gaps) i from to distance
-due_more context lines more spans more_spans gaps more_gaps i from to distance count gap_count le d =
+-- lines and spans more change nothing before them, nor do offsets that are the same
+due_kept : {context : Context} {lines : List Line} {spans : List LineSpan} {gaps : List Gap} {i from to start end distance : ℕ} (more : List Line) (more_spans : List LineSpan) (more_gaps : List Gap) → length spans ≡ length lines → length gaps ≡ length lines → i ≤ length lines → from ≡ start → to ≡ end → IsDue context lines spans gaps i from to distance →
+    IsDue context (lines ++ more) (spans ++ more_spans) (gaps ++ more_gaps) i start end distance
+due_kept {context} {lines} {spans} {gaps} {i} {from} {to} {start} {end} {distance} more more_spans more_gaps count gap_count le starts ends d =
     let short : length (take i lines) ≤ length lines = omega (arith, length-take-le i lines le, le) in
     let long : length (take i lines) ≤ length spans = omega (arith, count, short) in
     let gap_long : length (take i lines) ≤ length gaps = omega (arith, gap_count, short) in
-    record {
+    rw (sym starts, sym ends) (record {
       needed = grind (arith, take-append-le i lines more le, waiting_same context (take i lines) spans more_spans gaps more_gaps long gap_long, d.needed);
       ends = grind (arith, take-append-le i lines more le, ends_same context (take i lines) spans more_spans gaps more_gaps long gap_long from, d.ends);
-    }
+    })
 
 -- ==== What is pending since the last island, as lines are put.
 
@@ -228,13 +223,12 @@ module _ (context : Context) (lines : List Line) (spans : List LineSpan) (gaps :
         adds = λ e. open_on context lines spans gaps line span gap built.count built.gap_count (λ j. e j || level j);
       })
       (λ put.
-      let ends = built.ends in
       record {
         uses = [];
         taken = constants_named lines;
         ends = subst (λ names. EndsIn [] (length names) mid) built.named (ends_island old mid put.1);
         names = put.1.named ∙ built.named;
-        adds = λ e. open_own context lines spans gaps line span gap built.count built.gap_count (or_right (nat_lt gap.from gap.to) _ (lt-ltb (end_before spans (length lines)) span.start (omega (arith, put.1.longer, ends, start))));
+        adds = λ e. open_own context lines spans gaps line span gap built.count built.gap_count (or_right (nat_lt gap.from gap.to) _ (lt-ltb (end_before spans (length lines)) span.start (omega (arith, put.1.longer, built.ends, start))));
       })
       m.put
 
@@ -269,12 +263,6 @@ since_next context lines spans gaps (Bind label) span old new b s rule p = recor
 }
 
 -- ==== No island is early or too long, as lines are put.
-
--- lines and spans more change nothing before them, nor do offsets that are the same
-due_kept : {context : Context} {lines : List Line} {spans : List LineSpan} {gaps : List Gap} {i from to start end distance : ℕ} (more : List Line) (more_spans : List LineSpan) (more_gaps : List Gap) → length spans ≡ length lines → length gaps ≡ length lines → i ≤ length lines → from ≡ start → to ≡ end → IsDue context lines spans gaps i from to distance →
-    IsDue context (lines ++ more) (spans ++ more_spans) (gaps ++ more_gaps) i start end distance
-due_kept {context} {lines} {spans} {gaps} {i} {from} {to} {start} {end} {distance} more more_spans more_gaps count gap_count le starts ends d =
-    rw (sym starts, sym ends) (due_more context lines more spans more_spans gaps more_gaps i from to distance count gap_count le d)
 
 -- ---- no island is early
 
@@ -318,34 +306,30 @@ module _ (context : Context) (lines : List Line) (spans : List LineSpan) (gaps :
   kept le starts ends d = due_kept (line ∷ []) (span ∷ []) (line_gap context old new span line p ∷ []) b.count b.gap_count le starts ends d
 
   before : (i : ℕ) → i < length lines → DueBefore i
-  before i lt gap =
-      let start = read_more spans (span ∷ []) (λ x. x.start) i (omega (arith, lt, b.count)) in
-      let end = ends_more spans (span ∷ []) i (omega (arith, lt, b.count)) in
-      kept (omega arith) (sym end) (sym start) (h.before i lt (omega (arith, start, end, gap)))
+  before i lt =
+      as_before (λ before start from to end. before < start → IsDue context (lines ++ line ∷ []) all all_gaps i before start line_space) spans (span ∷ []) gaps (line_gap context old new span line p ∷ []) i (omega (arith, lt, b.count)) (omega (arith, lt, b.gap_count)) (λ gap. kept (omega arith) refl refl (h.before i lt gap))
 
-  start : start_of all (length lines) ≡ span.start
-  start = ap (start_of all) (sym b.count) ∙ read_last spans span (λ x. x.start)
-
-  end : end_before all (length lines) ≡ length (bytes_of old)
-  end = ends_more spans (span ∷ []) (length lines) (let count = b.count in omega (arith, count)) ∙ sym b.ends
-
-  before_last : (x : Line) → LineAppends context x old new span → DueBefore (length lines)
-  before_last (Put inst) q gap = kept (omega arith) (sym end) (sym q.start ∙ sym start) (room_due context lines spans gaps line_space old old q.mid q.made b s (record { waits = refl; stand = refl; named = refl; registered = refl }) q.room (let starts = q.start in omega (arith, start, end, starts, gap)))
-  before_last (Bind label) q gap = let starts = q.start in absurd (omega (arith, start, end, starts, gap))
+  before_last : (x : Line) → LineAppends context x old new span → end_before spans (length lines) < span.start → IsDue context (lines ++ line ∷ []) all all_gaps (length lines) (end_before spans (length lines)) span.start line_space
+  before_last (Put inst) q gap = kept (omega arith) b.ends (sym q.start) (room_due context lines spans gaps line_space old old q.mid q.made b s (record { waits = refl; stand = refl; named = refl; registered = refl }) q.room (omega (arith, b.ends, q.start, gap)))
+  before_last (Bind label) q gap = absurd (omega (arith, b.ends, q.start, gap))
 
   each_before : (i : ℕ) → i < length (lines ++ line ∷ []) → DueBefore i
-  each_before i lt = ⊎_elim (before i) (λ high. let last : length lines ≡ i = omega (arith, lt, high, length-append lines (line ∷ [])) in subst DueBefore last (before_last line p)) (cases_lt i (length lines))
+  each_before i lt = ⊎_elim (before i)
+      (λ high.
+      let last : length lines ≡ i = omega (arith, lt, high, length-append lines (line ∷ [])) in
+      subst DueBefore last (as_last (λ before start from to end. before < start → IsDue context (lines ++ line ∷ []) all all_gaps (length lines) before start line_space) spans span gaps (line_gap context old new span line p) (length lines) (sym b.count) (sym b.gap_count) (before_last line p)))
+      (cases_lt i (length lines))
 
   within : (i : ℕ) (inst : Inst) → slice_get lines i ≡ Some (Put inst) → DueWithin i inst
-  within i inst was space gap asked =
+  within i inst was =
       let lt = slice_get_within lines i (Put inst) was in
-      let from = read_more gaps (line_gap context old new span line p ∷ []) (λ x. x.from) i (omega (arith, lt, b.gap_count)) in
-      let to = read_more gaps (line_gap context old new span line p ∷ []) (λ x. x.to) i (omega (arith, lt, b.gap_count)) in
-      let end = read_more spans (span ∷ []) (λ x. x.end) i (omega (arith, lt, b.count)) in
-      kept (omega arith) (sym from) (sym to) (h.within i inst space was (omega (arith, from, to, gap)) ((λ j. space_in (request_of context inst) (sym end j - sym to j)) ∙ asked))
+      as_before (λ before start from to end. (space : ℕ) → from < to → space_in (request_of context inst) (end - to) ≡ Some space → IsDue context (lines ++ line ∷ []) all all_gaps i from to space) spans (span ∷ []) gaps (line_gap context old new span line p ∷ []) i (omega (arith, lt, b.count)) (omega (arith, lt, b.gap_count))
+      (λ space gap asked. kept (omega arith) refl refl (h.within i inst space was gap asked))
 
 within_last : (context : Context) (lines : List Line) (spans : List LineSpan) (gaps : List Gap) (inst : Inst) (span : LineSpan) (old new : Buffer) (b : LinesStand context lines spans gaps old) (s : AfterLastIsland context lines spans gaps old) (p : InstAppends context inst old new span) (h : NotEarly context lines spans gaps) → DueWithin context lines spans gaps (Put inst) span old new b s p h (length lines) inst
-within_last context lines spans gaps inst span old new b s p h space gap asked = by (space_in (request_of context inst) (length a.code)) refl a.island
+within_last context lines spans gaps inst span old new b s p h =
+    as_last (λ before start from to end. (space : ℕ) → from < to → space_in (request_of context inst) (end - to) ≡ Some space → IsDue context (lines ++ Put inst ∷ []) (spans ++ span ∷ []) (gaps ++ own ∷ []) (length lines) from to space) spans span gaps own (length lines) (sym b.count) (sym b.gap_count)
+    (λ space gap asked. by space gap asked (space_in (request_of context inst) (length a.code)) refl a.island)
   where
     a : Appends context inst p.mid new
     a = p.emitted
@@ -353,30 +337,18 @@ within_last context lines spans gaps inst span old new b s p h space gap asked =
     own : Gap
     own = line_gap context old new span (Put inst) p
 
-    from : from_of (gaps ++ own ∷ []) (length lines) ≡ length (bytes_of a.mid)
-    from = ap (from_of (gaps ++ own ∷ [])) (sym b.gap_count) ∙ read_last gaps own (λ x. x.from)
-
-    to : to_of (gaps ++ own ∷ []) (length lines) ≡ length (bytes_of a.last)
-    to = ap (to_of (gaps ++ own ∷ [])) (sym b.gap_count) ∙ read_last gaps own (λ x. x.to)
-
-    end : end_of (spans ++ span ∷ []) (length lines) ≡ length (bytes_of new)
-    end = ap (end_of (spans ++ span ∷ [])) (sym b.count) ∙ read_last spans span (λ x. x.end) ∙ p.end
-
-    long : length (bytes_of new) ≡ length (bytes_of a.last) + length a.code
-    long = ap length a.adds.bytes ∙ length-append (bytes_of a.last) a.code
-
-    rest : end_of (spans ++ span ∷ []) (length lines) - to_of (gaps ++ own ∷ []) (length lines) ≡ length a.code
-    rest = omega (arith, end, to, long)
+    rest : span.end - length (bytes_of a.last) ≡ length a.code
+    rest = omega (arith, p.end, (ap length a.adds.bytes ∙ length-append (bytes_of a.last) a.code))
 
     same : WaitsAs a.mid p.mid
     same = record { waits = still_pending a.first; stand = a.first.constants; named = a.unnamed; registered = a.first.registered }
 
-    by : (o : Option ℕ) → space_in (request_of context inst) (length a.code) ≡ o → IslandAsked o a.mid a.last → IsDue context (lines ++ Put inst ∷ []) (spans ++ span ∷ []) (gaps ++ own ∷ []) (length lines) (from_of (gaps ++ own ∷ []) (length lines)) (to_of (gaps ++ own ∷ []) (length lines)) space
-    by None is level = let e : length (bytes_of a.last) ≡ length (bytes_of a.mid) = ap (λ (b : Buffer). length (bytes_of b)) level in absurd (omega (arith, from, to, e, gap))
-    by (Some n) is (second, room) =
+    by : (space : ℕ) → length (bytes_of a.mid) < length (bytes_of a.last) → space_in (request_of context inst) (span.end - length (bytes_of a.last)) ≡ Some space → (o : Option ℕ) → space_in (request_of context inst) (length a.code) ≡ o → IslandAsked o a.mid a.last → IsDue context (lines ++ Put inst ∷ []) (spans ++ span ∷ []) (gaps ++ own ∷ []) (length lines) (length (bytes_of a.mid)) (length (bytes_of a.last)) space
+    by space gap asked None is level = let e : length (bytes_of a.last) ≡ length (bytes_of a.mid) = ap (λ (b : Buffer). length (bytes_of b)) level in absurd (omega (arith, e, gap))
+    by space gap asked (Some n) is (second, room) =
         let n_is : n ≡ space = same_Some n space (sym is ∙ ap (space_in (request_of context inst)) (sym rest) ∙ asked) in
-        due_kept (Put inst ∷ []) (span ∷ []) (own ∷ []) b.count b.gap_count (omega arith) (sym from) (sym to)
-        (subst (IsDue context lines spans gaps (length lines) (length (bytes_of a.mid)) (length (bytes_of a.last))) n_is (in_line context lines spans gaps n old p.mid a.mid a.last p.made second b s p.room same room (omega (arith, from, to, gap))))
+        due_kept (Put inst ∷ []) (span ∷ []) (own ∷ []) b.count b.gap_count (omega arith) refl refl
+        (subst (IsDue context lines spans gaps (length lines) (length (bytes_of a.mid)) (length (bytes_of a.last))) n_is (in_line context lines spans gaps n old p.mid a.mid a.last p.made second b s p.room same room gap))
 
 pub early_next : (context : Context) (lines : List Line) (spans : List LineSpan) (gaps : List Gap) (line : Line) (span : LineSpan) (old new : Buffer) → LinesStand context lines spans gaps old → AfterLastIsland context lines spans gaps old → (p : LineAppends context line old new span) → NotEarly context lines spans gaps → NotEarly context (lines ++ line ∷ []) (spans ++ span ∷ []) (gaps ++ line_gap context old new span line p ∷ [])
 early_next context lines spans gaps (Put own) span old new b s p h = record {

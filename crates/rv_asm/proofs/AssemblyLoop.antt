@@ -1,12 +1,12 @@
 -- The loop over lines: what it keeps, turn by turn, and what it ends with.
-use Rattle.{rv_asm.proofs.AfterLastIsland.{early_next, since_next, since_none}, rv_asm.proofs.LabelNames.{can_finish, finished_short, low_label, named_next, named_none, sized_next, sized_none}}
-use Rattle.{rv_asm.proofs.LinesInBuffer.{built_more, built_none, LastsTo, line_gap, line_added, line_appends, LineAppends, returns_within}, rv_asm.proofs.RefusalOrder.{not_before, frame_small, lines_small, lines_take, names_bound, no_rule_broken, none_stuck, parts, sum_small}}
+use Rattle.{mach_records.{specs.Ranges.RecordedFits, specs.Records.by_kind}, rv_asm.{proofs.AfterLastIsland.{early_next, since_next, since_none}, proofs.LabelNames.{can_finish, finished_short, low_label, named_next, named_none, sized_next, sized_none}}}
+use Rattle.rv_asm.{proofs.LinesInBuffer.{built_more, built_none, LastsTo, line_gap, line_added, line_appends, LineAppends, returns_within}, proofs.RefusalOrder.{not_before, frame_small, lines_small, lines_take, names_bound, no_rule_broken, none_stuck, parts, sum_small}}
 use Rattle.rv_asm.proofs.Spans.{get_drop, open_more, returns_next, read_last, read_more}
-use Rattle.rv_asm.proofs.Words.{[], AfterLastIsland, allocated_of, ap, arith, before_or_last, below, Bind, BindPut, binds, Bool, Buffer, bytes_of, CallReturn, calls_in, CanFinish, CanPut, Code, cond, cond_both, constants_of, Context, drop, EmitVState, end_of, eqb-true, false, Finishes}
-use Rattle.rv_asm.proofs.Words.{first_after_island, Gap, get_or_from_slice_get, GoStraight, has_bad_frame, has_veneer_of, inl, inr, Inst, is_bound, is_none, is_reached, IsaFlags, IsFinished, IsIn, IsSoundBuffer, label_kinds, labels_of, LabelUse, length, length-take-le, Line, line_returns, LinePut}
-use Rattle.rv_asm.proofs.Words.{LineSpan, LinesStand, List, MachLabel, maps_in, Named, named_of, None, not, NotEarly, offset_or_zero, or_parts, passing, patches_in, pending_at, place_of, Put, records_of, refl, registered_of, relocs_in, returns_from, ReturnsWithin, same_Some, shape_of, Sized}
-use Rattle.rv_asm.proofs.Words.{slice_get, slice_get-append, slice_get_read, slice_get_within, slice_index_or, Some, start_of, subst, suc, sym, take, take_all, take_more, traps_in, tries_in, true, unwinds_in, Use, uses_after_island, uses_bare, uses_from, uses_in, uses_of, zero, ℕ, ◌&&◌, ◌++◌, ◌+◌}
-use Rattle.{rv_asm.proofs.Words.{◌-◌, ◌<◌, ◌^◌, ◌∙◌, ◌∷◌, ◌≡◌, ◌≤◌, ◌⊎◌}, rv_asm.specs.Refusal.lines_refusal}
+use Rattle.rv_asm.proofs.Words.{AllByRecursion, ReturnFits, SpanFits, [], AfterLastIsland, allocated_of, ap, arith, before_or_last, below, Bind, BindPut, binds, Bool, Buffer, bytes_of, CallReturn, calls_in, CanFinish, CanPut, Code, cond, cond_both, constants_of, Context}
+use Rattle.rv_asm.proofs.Words.{drop, EmitVState, end_of, eqb-true, false, Finishes, first_after_island, Gap, get_or_from_slice_get, GoStraight, has_bad_frame, has_veneer_of, inl, inr, Inst, is_bound, is_none, is_reached, IsaFlags, IsFinished, IsIn, IsSoundBuffer}
+use Rattle.rv_asm.proofs.Words.{label_kinds, labels_of, LabelUse, length, length-take-le, Line, line_returns, LinePut, LineSpan, LinesStand, List, MachLabel, maps_in, Named, named_of, None, not, NotEarly, offset_or_zero, or_parts, passing, patches_in, pending_at}
+use Rattle.rv_asm.proofs.Words.{place_of, Put, records_of, refl, registered_of, relocs_in, returns_from, ReturnsWithin, same_Some, shape_of, Sized, slice_get, slice_get-append, slice_get_read, slice_get_within, slice_index_or, Some, start_of, subst, suc, sym, take}
+use Rattle.rv_asm.{proofs.Words.{take_all, take_more, traps_in, tries_in, true, unwinds_in, Use, uses_after_island, uses_bare, uses_from, uses_in, uses_of, zero, ℕ, ◌&&◌, ◌++◌, ◌+◌, ◌-◌, ◌<◌, ◌^◌, ◌∙◌, ◌∷◌, ◌≡◌, ◌≤◌, ◌⊎◌}, specs.Refusal.lines_refusal}
 
 -- ---- among uses
 
@@ -50,18 +50,13 @@ line_uses_in context spans first (Put x ∷ lines) (suc i) inst k u there own =
 line_uses_in context spans first (Bind l ∷ lines) (suc i) inst k u there own =
     line_uses_in context spans (suc first) lines i inst k u there (grind (arith, own))
 
--- a use of a line after which no island stands
-open_use : (context : Context) (lines : List Line) (spans : List LineSpan) (gaps : List Gap) (i : ℕ) (inst : Inst) (k : ℕ) (u : Use LabelUse) → first_after_island spans gaps (length lines) ≤ i → slice_get lines i ≡ Some (Put inst) → slice_get (uses_in context (start_of spans i) (end_of spans i) inst) k ≡ Some u → IsIn (uses_after_island context lines spans gaps) u
-open_use context lines spans gaps i inst k u le there own =
-    let n = first_after_island spans gaps (length lines) in
-    line_uses_in context spans n (drop n lines) (i - n) inst k u (grind (arith, get_drop lines n (i - n), there)) (grind (arith, own))
-
--- while its label isn't bound, it is in the buffer
+-- a use of a line after which no island stands: while its label isn't bound, it is in the buffer
 still_there : (context : Context) (lines : List Line) (spans : List LineSpan) (gaps : List Gap) (b : Buffer) (i : ℕ) (inst : Inst) (k : ℕ) (u : Use LabelUse) → AfterLastIsland context lines spans gaps b → first_after_island spans gaps (length lines) ≤ i → slice_get lines i ≡ Some (Put inst) → slice_get (uses_in context (start_of spans i) (end_of spans i) inst) k ≡ Some u → has_veneer_of u.kind ≡ true → place_of b u.label.number ≡ None → IsIn (uses_of b) u
 still_there context lines spans gaps b i inst k u since le there own served unbound =
     let test = pending_at (place_of b) in
     let waits : test u ≡ true = λ j. served j && (is_none (uses_bare context (start_of spans i) (end_of spans i) inst k u own j) && not (is_reached label_kinds (unbound j) u)) in
-    let among = open_use context lines spans gaps i inst k u le there own in
+    let n = first_after_island spans gaps (length lines) in
+    let among = line_uses_in context spans n (drop n lines) (i - n) inst k u (grind (arith, get_drop lines n (i - n), there)) (grind (arith, own)) in
     passed test (uses_of b) u (subst (λ us. IsIn us u) (sym since.ends.same) (passes test (uses_after_island context lines spans gaps) among.index u among.there waits))
 
 -- ---- the loop
@@ -207,10 +202,10 @@ ready context lines n spans b e le s =
     can_finish context lines spans b all.built all.named all.sized (sum_small context lines e) (names_bound lines lines (parts context lines e).unbound)
 
 -- and then it is finished
-pub finished : (context : Context) (lines : List Line) (n : ℕ) (code : Code) (b : Buffer) → lines_refusal context lines ≡ None → length lines ≤ n → SoFar context lines n code.lines b → code.returns ≡ returns_from context.flags code.lines 0 (take n lines) → (f : Finishes label_kinds (shape_of b) code.bytes) → code.constants ≡ f.put.constants → code.labels ≡ labels_of b → code.relocs ≡ relocs_in (records_of b) → code.traps ≡ traps_in (records_of b) → code.call_sites ≡ calls_in (records_of b) → code.try_call_sites ≡ tries_in (offset_or_zero (place_of b)) (records_of b) → code.patchable_call_sites ≡ patches_in (records_of b) → code.stack_maps ≡ maps_in (records_of b) → code.unwinds ≡ unwinds_in (records_of b) → code.end ≡ length (bytes_of b) → IsFinished context lines code
-finished context lines n code b e le s returns f constants labels relocs traps call_sites try_call_sites patchable_call_sites stack_maps unwinds end =
+pub finished : (context : Context) (lines : List Line) (n : ℕ) (code : Code) (b : Buffer) → lines_refusal context lines ≡ None → length lines ≤ n → SoFar context lines n code.lines b → code.returns ≡ returns_from context.flags code.lines 0 (take n lines) → (f : Finishes label_kinds (shape_of b) code.bytes) → code.constants ≡ f.put.constants → code.labels ≡ labels_of b → code.relocs ≡ relocs_in (records_of b) → code.traps ≡ traps_in (records_of b) → code.call_sites ≡ calls_in (records_of b) → code.try_call_sites ≡ tries_in (offset_or_zero (place_of b)) (records_of b) → code.patchable_call_sites ≡ patches_in (records_of b) → code.stack_maps ≡ maps_in (records_of b) → code.unwinds ≡ unwinds_in (records_of b) → code.end ≡ length (bytes_of b) → AllByRecursion (λ b. b < 256) code.bytes → AllByRecursion SpanFits code.lines → AllByRecursion ReturnFits code.returns → RecordedFits (by_kind (place_of b) (records_of b)) → IsFinished context lines code
+finished context lines n code b e le s returns f constants labels relocs traps call_sites try_call_sites patchable_call_sites stack_maps unwinds end bytes_fit spans_fit returns_fit records_fit =
     let all = at_end context lines n code.lines b le s in
-    record { sink = b; gaps = all.gaps; built = all.built; named = all.named; sized = all.sized; since = all.since; early = all.early; straight = all.straight; ready = ready context lines n code.lines b e le s; finished = f; constants = constants; returns = returns ∙ ap (returns_from context.flags code.lines 0) (take_all n lines le); labels = labels; relocs = relocs; traps = traps; call_sites = call_sites; try_call_sites = try_call_sites; patchable_call_sites = patchable_call_sites; stack_maps = stack_maps; unwinds = unwinds; end = end }
+    record { sink = b; gaps = all.gaps; built = all.built; named = all.named; sized = all.sized; since = all.since; early = all.early; straight = all.straight; ready = ready context lines n code.lines b e le s; finished = f; constants = constants; returns = returns ∙ ap (returns_from context.flags code.lines 0) (take_all n lines le); labels = labels; relocs = relocs; traps = traps; call_sites = call_sites; try_call_sites = try_call_sites; patchable_call_sites = patchable_call_sites; stack_maps = stack_maps; unwinds = unwinds; end = end; bytes_fit = bytes_fit; spans_fit = spans_fit; returns_fit = returns_fit; records_fit = records_fit }
 
 -- the code is short
 pub code_short : (context : Context) (lines : List Line) (n : ℕ) (spans : List LineSpan) (b : Buffer) (bytes : List ℕ) → lines_refusal context lines ≡ None → length lines ≤ n → SoFar context lines n spans b → Finishes label_kinds (shape_of b) bytes → length bytes < 2 ^ 32

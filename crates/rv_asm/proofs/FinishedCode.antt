@@ -1,4 +1,5 @@
 -- Code that was built and finished keeps what is promised of it.
+use Rattle.mach_buffer.proofs.LastVeneers.{padding_for}
 use Rattle.{rv_asm.proofs.AfterLastIsland.{constants_left, uses_waiting}, rv_asm.proofs.Images.{data_there, fields_after, fields_within, is_filled, keeps_outside, placed_at, puts_split, reloc_ends, trap_if_there, trap_reported, trap_there}, rv_asm.proofs.LabelNames.{bound_place, finished_short}}
 use Rattle.{rv_asm.proofs.LineRecords.{LineSpread, constants_unfilled, fields_apart, fields_in_lines, handlers_reported, lines_save}, rv_asm.proofs.LinesInBuffer.{gap_within, outside_more}, rv_asm.proofs.LinesJoin.{full_runs, IsThreaded, Known, LineIn, site_of, threaded_runs}}
 use Rattle.{rv_asm.proofs.RefusalOrder.{accepted_frame, accepted_lines, AllBound, bind_at, names_bound, no_rule_broken, none_stuck, parts, sum_small}, rv_asm.proofs.Spans.line_at}
@@ -10,6 +11,7 @@ use Rattle.rv_asm.proofs.Words.{lasts_after_slots, lasts_more, le-leb, length, l
 use Rattle.rv_asm.proofs.Words.{padding, parts_are_self_contained, parts_of, parts_stand, PartsIn, patches_in, pending, place_of, pos, Put, put_all, put_at, put_constant, put_constant_at, put_each, put_veneer, puts_bytes, reads_operation, recorded, recorded_get, records_from, records_of, refl}
 use Rattle.rv_asm.proofs.Words.{relocs_in, Reported, Request, request_of, returns_from, RunsAsListed, RVCJump, same_Some, SavesReal, Shape, shape_of, Site, size_of, size_sum, slice_get, slice_get-append, slice_get-append_last, Slot, slots_alone, SlotsIn, Some, StandApart, start_of, subst, suc, sym}
 use Rattle.{rv_asm.proofs.Words.{to_of, ToLabel, TrapCode, traps_in, tries_in, true, unplaced_of, unwinds_in, Use, use_at, uses_in, uses_of, VCodeConstant, veneers_end, zero, ℕ, ℤ, ⊎_elim, ◌%◌, ◌&&◌, ◌*◌, ◌++◌, ◌+◌, ◌-ℤ◌, ◌<◌, ◌^◌, ◌∙◌, ◌∷◌, ◌≡◌, ◌≤◌, ◌⊎◌}, rv_asm.specs.Jumps.{GoesTo, HasJumps}}
+use Rattle.rv_asm.proofs.CodeRanges.{code_fits}
 use Rattle.{rv_asm.specs.Refusal.{lines_refusal, refusal}, rv_code.specs.Operations.{decoded_jump, short_jump}, rv_machine.specs.Layout.compressed}
 use Rattle.rv_machine.specs.declared.ops.BaseOp.TheVariants as base_op
 
@@ -126,13 +128,8 @@ module _ (job : Job) (code : Code) (gaps : List Gap) (b : Buffer) (built : Lines
     each_in : (i : ℕ) (line : Line) → slice_get job.lines i ≡ Some line → LineIn site line (start_of code.lines i) (end_of code.lines i) × (end_of code.lines i % 2 ≡ 0)
     each_in i (Put inst) e =
         let h = built.each i (Put inst) e in
-        let setting = h.there.0 in
-        let le = h.within in
-        let longer = f.finishes.grows.longer in
-        let long = f.finishes.same_length in
-        let same = keeps.long in
-        let p = parts_stand site (shape_of b) code.bytes f keeps refl refl built.fields filled (parts_of (context_of job) setting inst) (start_of code.lines i) (end_of code.lines i) (parts_are_self_contained (context_of job) setting inst (ruled i (Put inst) e)) h.even (omega arith) h.there.1 in
-        (record { setting = setting; even = h.even; within = p.3; stands = p.0 }, p.1)
+        let p = parts_stand site (shape_of b) code.bytes f keeps refl refl built.fields filled (parts_of (context_of job) h.there.0 inst) (start_of code.lines i) (end_of code.lines i) (parts_are_self_contained (context_of job) h.there.0 inst (ruled i (Put inst) e)) h.even (omega (arith, h.within, f.finishes.grows.longer, f.finishes.same_length, keeps.long)) h.there.1 in
+        (record { setting = h.there.0; even = h.even; within = p.3; stands = p.0 }, p.1)
     each_in i (Bind label) e = let h = built.each i (Bind label) e in let same = h.there.0 in let even = h.even in (same, omega arith)
 
     gap_in : (i : ℕ) → suc i < length job.lines → GapIn site (end_of code.lines i) (start_of code.lines (suc i))
@@ -141,21 +138,22 @@ module _ (job : Job) (code : Code) (gaps : List Gap) (b : Buffer) (built : Lines
         let next = line_at job.lines (suc i) lt in
         gap_stands site (shape_of b) code.bytes f keeps refl refl built.fields filled (end_of code.lines i) (start_of code.lines (suc i)) (each_in i here.0 here.1).1 (built.each (suc i) next.0 next.1).gap
 
-    own_form : (inst : Inst) (d : Decoded) (start end : ℕ) (setting : EmitVState) → operation_of (context_of job) inst ≡ Some d → PartsIn job.flags (parts_of (context_of job) setting inst) (shape_of b) start end → IsPlacedAt site mem → IsOwnForm d (fetch mem (base + start))
-    own_form inst d start end setting one parts there =
-        let a = one_slot (context_of job) setting inst d one in
-        let slots = subst (λ ps. PartsIn job.flags ps (shape_of b) start end) a.only parts in
-        own_stands site (shape_of b) code.bytes f keeps refl refl a.trap d start slots.0 slots.1 mem there
+    still : IsPlacedAt site mem
+    still = placed_at code base symbols slots mem (context_of job) f.finishes.put.place (records_of b) placed
+
+    own_form : (i : ℕ) (inst : Inst) (d : Decoded) → slice_get job.lines i ≡ Some (Put inst) → operation_of (context_of job) inst ≡ Some d → IsOwnForm d (fetch mem (base + start_of code.lines i))
+    own_form i inst d listed one =
+        let stood = (built.each i (Put inst) listed).there in
+        let a = one_slot (context_of job) stood.0 inst d one in
+        let slots = subst (λ ps. PartsIn job.flags ps (shape_of b) (start_of code.lines i) (end_of code.lines i)) a.only stood.1 in
+        own_stands site (shape_of b) code.bytes f keeps refl refl a.trap d (start_of code.lines i) slots.0 slots.1 mem still
 
   -- the operation of a line of one machine word is read at its start, in its own form
   pub built_operations : HasOperations job code
   built_operations = record {
     each = λ i inst d base symbols slots mem listed core one placed.
         let line = (each_in base symbols slots mem placed i (Put inst) listed).0 in
-        let there = placed_at code base symbols slots mem (context_of job) f.finishes.put.place (records_of b) placed in (
-          has_operation (site_of job code known base symbols slots mem) (start_of code.lines i) d line.setting inst (end_of code.lines i) core one line.stands mem there,
-          own_form base symbols slots mem placed inst d (start_of code.lines i) (end_of code.lines i) (built.each i (Put inst) listed).there.0 one (built.each i (Put inst) listed).there.1 there,
-        );
+        (has_operation (site base symbols slots mem placed) (start_of code.lines i) d line.setting inst (end_of code.lines i) core one line.stands mem (still base symbols slots mem placed), own_form base symbols slots mem placed i inst d listed one);
   }
 
   -- and so it is by the decoder of all units' operations
@@ -163,10 +161,7 @@ module _ (job : Job) (code : Code) (gaps : List Gap) (b : Buffer) (built : Lines
   built_full_operations = record {
     each = λ i inst d base symbols slots mem listed one placed.
         let line = (each_in base symbols slots mem placed i (Put inst) listed).0 in
-        let there = placed_at code base symbols slots mem (context_of job) f.finishes.put.place (records_of b) placed in (
-          reads_operation (site_of job code known base symbols slots mem) (start_of code.lines i) d line.setting inst (end_of code.lines i) one line.stands mem there,
-          own_form base symbols slots mem placed inst d (start_of code.lines i) (end_of code.lines i) (built.each i (Put inst) listed).there.0 one (built.each i (Put inst) listed).there.1 there,
-        );
+        (reads_operation (site base symbols slots mem placed) (start_of code.lines i) d line.setting inst (end_of code.lines i) one line.stands mem (still base symbols slots mem placed), own_form base symbols slots mem placed i inst d listed one);
   }
 
   pub built_threaded : length code.bytes < code_limit → code.end ≡ length (bytes_of b) → code.returns ≡ returns_from job.flags code.lines 0 job.lines → ((i : ℕ) (line : Line) → slice_get job.lines i ≡ Some line → is_stuck job.frame line ≡ false) →
@@ -225,8 +220,8 @@ module _ (job : Job) (code : Code) (gaps : List Gap) (b : Buffer) (built : Lines
     jump_keeps = keeps_outside code base symbols slots mem (context_of job) fin.finishes.put.place (records_of b) relocs placed
 
     -- of a line, after other slots
-    goes : (i : ℕ) (inst : Inst) (front : List Slot) (kind : LabelUse) (label : MachLabel) (operation : ℤ → Decoded) (more : List Slot) (at k end : ℕ) → ((d : ℤ) → is_integer (operation d).op ≡ true) → slice_get job.lines i ≡ Some (Put inst) → SlotsIn job.flags (front ++ Fixup kind (Label label) (λ d. operation d ∷ []) ∷ more) (shape_of b) (start_of code.lines i) end → start_of code.lines i + size_of front ≡ at → slice_get (uses_in (context_of job) (start_of code.lines i) (end_of code.lines i) inst) k ≡ Some (use_at at label kind) → has_veneer_of kind ≡ true → is_bound job.lines label.number ≡ true → GoesTo job code gaps base mem i at kind operation label
-    goes i inst front kind label operation more at k end integer listed q sized own served bound =
+    goes : (i : ℕ) (inst : Inst) (front : List Slot) (kind : LabelUse) (label : MachLabel) (operation : ℤ → Decoded) (more : List Slot) (at k : ℕ) → ((d : ℤ) → is_integer (operation d).op ≡ true) → slice_get job.lines i ≡ Some (Put inst) → PartsIn job.flags (slots_alone (front ++ Fixup kind (Label label) (λ d. operation d ∷ []) ∷ more)) (shape_of b) (start_of code.lines i) (end_of code.lines i) → start_of code.lines i + size_of front ≡ at → slice_get (uses_in (context_of job) (start_of code.lines i) (end_of code.lines i) inst) k ≡ Some (use_at at label kind) → has_veneer_of kind ≡ true → is_bound job.lines label.number ≡ true → GoesTo job code gaps base mem i at kind operation label
+    goes i inst front kind label operation more at k integer listed (end, q, last) sized own served bound =
         let to = label_start code.lines job.lines label.number in
         let u : Use LabelUse = use_at at label kind in
         let p = puts_split job.flags (shape_of b) code.bytes fin q.old.allocated front (Fixup kind (Label label) (λ d. operation d ∷ []) ∷ more) q.old q.new q.puts in
@@ -251,22 +246,17 @@ module _ (job : Job) (code : Code) (gaps : List Gap) (b : Buffer) (built : Lines
 
     jal_goes : (i : ℕ) (label : MachLabel) → slice_get job.lines i ≡ Some (Put (Jal label)) → GoesTo job code gaps base mem i (start_of code.lines i) (jump_kind job.flags) (short_jump job.flags) label
     jal_goes i label e =
-        let stood = (built.each i (Put (Jal label)) e).there in
-        goes i (Jal label) [] (jump_kind job.flags) label (short_jump job.flags) [] (start_of code.lines i) 0 stood.1.0 (short_jump_integer job.flags) e stood.1.1 (omega arith) refl (served_jump job.flags) (named i (Put (Jal label)) e).0
+        goes i (Jal label) [] (jump_kind job.flags) label (short_jump job.flags) [] (start_of code.lines i) 0 (short_jump_integer job.flags) e (built.each i (Put (Jal label)) e).there.1 (omega arith) refl (served_jump job.flags) (named i (Put (Jal label)) e).0
 
     branch_goes : (i : ℕ) (t : MachLabel) (not_taken : CondBrTarget) (kind : IntegerCompare) → slice_get job.lines i ≡ Some (Put (CondBr (ToLabel t) not_taken kind)) → GoesTo job code gaps base mem i (start_of code.lines i) B12 (decoded_branch kind) t
     branch_goes i t Fallthrough kind e =
-        let stood = (built.each i (Put (CondBr (ToLabel t) Fallthrough kind)) e).there in
-        goes i (CondBr (ToLabel t) Fallthrough kind) [] B12 t (decoded_branch kind) [] (start_of code.lines i) 0 stood.1.0 (λ d. refl) e stood.1.1 (omega arith) refl refl (named i (Put (CondBr (ToLabel t) Fallthrough kind)) e).0
+        goes i (CondBr (ToLabel t) Fallthrough kind) [] B12 t (decoded_branch kind) [] (start_of code.lines i) 0 (λ d. refl) e (built.each i (Put (CondBr (ToLabel t) Fallthrough kind)) e).there.1 (omega arith) refl refl (named i (Put (CondBr (ToLabel t) Fallthrough kind)) e).0
     branch_goes i t (ToLabel f) kind e =
-        let stood = (built.each i (Put (CondBr (ToLabel t) (ToLabel f) kind)) e).there in
-        goes i (CondBr (ToLabel t) (ToLabel f) kind) [] B12 t (decoded_branch kind) _ (start_of code.lines i) 0 stood.1.0 (λ d. refl) e stood.1.1 (omega arith) refl refl (named i (Put (CondBr (ToLabel t) (ToLabel f) kind)) e).0
+        goes i (CondBr (ToLabel t) (ToLabel f) kind) [] B12 t (decoded_branch kind) _ (start_of code.lines i) 0 (λ d. refl) e (built.each i (Put (CondBr (ToLabel t) (ToLabel f) kind)) e).there.1 (omega arith) refl refl (named i (Put (CondBr (ToLabel t) (ToLabel f) kind)) e).0
 
     other_goes : (i : ℕ) (t f : MachLabel) (kind : IntegerCompare) → slice_get job.lines i ≡ Some (Put (CondBr (ToLabel t) (ToLabel f) kind)) → GoesTo job code gaps base mem i (start_of code.lines i + 4) (jump_kind job.flags) (short_jump job.flags) f
     other_goes i t f kind e =
-        let stood = (built.each i (Put (CondBr (ToLabel t) (ToLabel f) kind)) e).there in
-        let parts : PartsIn job.flags (parts_of (context_of job) stood.0 (CondBr (ToLabel t) (ToLabel f) kind)) (shape_of b) (start_of code.lines i) (end_of code.lines i) = stood.1 in
-        goes i (CondBr (ToLabel t) (ToLabel f) kind) (branch_to kind (Label t) ∷ []) (jump_kind job.flags) f (short_jump job.flags) [] (start_of code.lines i + 4) 1 parts.0 (short_jump_integer job.flags) e parts.1 (omega arith) refl (served_jump job.flags) (named i (Put (CondBr (ToLabel t) (ToLabel f) kind)) e).1.0
+        goes i (CondBr (ToLabel t) (ToLabel f) kind) (branch_to kind (Label t) ∷ []) (jump_kind job.flags) f (short_jump job.flags) [] (start_of code.lines i + 4) 1 (short_jump_integer job.flags) e (built.each i (Put (CondBr (ToLabel t) (ToLabel f) kind)) e).there.1 (omega arith) refl (served_jump job.flags) (named i (Put (CondBr (ToLabel t) (ToLabel f) kind)) e).1.0
 
   pub built_jumps : HasJumps job code gaps
   built_jumps = record {
@@ -296,15 +286,11 @@ module _ {L : Type 0} where
   veneers_leave kinds [] s = refl
   veneers_leave kinds (i ∷ order) s = veneers_leave kinds order (put_veneer kinds i s) ∙ veneer_leaves kinds i (slice_get s.uses i) s
 
-  padding_leaves : (n : ℕ) (s : Shape L) → (padded_for n s).constants ≡ s.constants
-  padding_leaves zero s = refl
-  padding_leaves (suc n) s = refl
-
   -- those of a buffer are the first of finished code's
   stood : (kinds : Kinds L) (s : Shape L) (bytes : List ℕ) (f : Finishes kinds s bytes) (j : ℕ) (c : ConstPlace) → slice_get s.constants j ≡ Some c → slice_get f.put.constants j ≡ Some c
   stood kinds s bytes f j c h =
       let before = put_all kinds f.order (padded_for (length f.order) s) in
-      grind (arith, f.whole, each_stays (unplaced_of before) before j c, veneers_leave kinds f.order (padded_for (length f.order) s), padding_leaves (length f.order) s, h)
+      grind (arith, f.whole, each_stays (unplaced_of before) before j c, veneers_leave kinds f.order (padded_for (length f.order) s), ap (λ (x : Shape L). x.constants) (padding_for (length f.order) s).1, h)
 
 -- the end of the last veneers
 veneers_long : (n : ℕ) (bytes : List ℕ) → length (cond (nat_eq n 0) bytes (bytes ++ padding (length bytes))) + 8 * n ≡ veneers_end n (length bytes)
@@ -330,15 +316,15 @@ module _ (job : Job) (code : Code) (gaps : List Gap) (b : Buffer) (built : Lines
 -- ==== Code that was built and finished keeps what is promised of it.
 
 -- saved registers are the machine's
-pub finished_saves : (job : Job) (code : Code) → refusal job ≡ None → IsFinished (context_of job) job.lines code → AllByRecursion SavesReal code.unwinds
+finished_saves : (job : Job) (code : Code) → refusal job ≡ None → IsFinished (context_of job) job.lines code → AllByRecursion SavesReal code.unwinds
 finished_saves job code accepted f = subst (AllByRecursion SavesReal) (sym (f.unwinds ∙ ap unwinds_in f.built.records)) (lines_save (context_of job) code.lines 0 job.lines (no_rule_broken (context_of job) job.lines (accepted_lines job accepted)))
 
-module _ (job : Job) (code : Code) (accepted : refusal job ≡ None) (f : IsFinished (context_of job) job.lines code) (fits : CodeFits code) where
+module _ (job : Job) (code : Code) (accepted : refusal job ≡ None) (f : IsFinished (context_of job) job.lines code) where
   abbrev e : lines_refusal (context_of job) job.lines ≡ None
   e = accepted_lines job accepted
 
   abbrev finished : IsFinishedTo (shape_of f.sink) code.bytes
-  finished = record { can = f.ready; finishes = f.finished; all_bytes = all_bytes code.bytes fits.bytes }
+  finished = record { can = f.ready; finishes = f.finished; all_bytes = all_bytes code.bytes f.bytes_fit }
 
   named : (i : ℕ) (line : Line) → slice_get job.lines i ≡ Some line → AllBound job.lines (named_labels line)
   named = names_bound job.lines job.lines (parts (context_of job) job.lines e).unbound
@@ -351,9 +337,7 @@ module _ (job : Job) (code : Code) (accepted : refusal job ≡ None) (f : IsFini
 
   pub finished_reported : Reported job code
   finished_reported =
-      let longer = f.finished.grows.longer in
-      let long = f.finished.same_length in
-      built_reported job code f.gaps f.sink f.built finished f.constants (omega (arith, short)) f.returns (f.labels ∙ f.named.labels) f.relocs f.traps f.call_sites f.try_call_sites f.patchable_call_sites f.stack_maps f.unwinds f.end (omega (arith, longer, long)) named
+      built_reported job code f.gaps f.sink f.built finished f.constants (omega (arith, short)) f.returns (f.labels ∙ f.named.labels) f.relocs f.traps f.call_sites f.try_call_sites f.patchable_call_sites f.stack_maps f.unwinds f.end (omega (arith, f.finished.grows.longer, f.finished.same_length)) named
       (record { early = f.early; tail = built_tail job code f.gaps f.sink f.built f.since f.finished f.end f.constants; short = bytes_short })
       (built_jumps job code f.gaps f.sink f.built finished f.relocs (omega (arith, short)) f.straight named)
 
@@ -371,3 +355,6 @@ module _ (job : Job) (code : Code) (accepted : refusal job ≡ None) (f : IsFini
 
   pub finished_full_operations : HasFullOperations job code
   finished_full_operations = built_full_operations job code f.gaps f.sink f.built finished f.constants f.relocs f.traps (no_rule_broken (context_of job) job.lines e)
+
+  pub finished_ranges : CodeFits code
+  finished_ranges = code_fits (context_of job) job.lines code e f (finished_saves job code accepted f)

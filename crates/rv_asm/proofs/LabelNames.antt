@@ -251,15 +251,13 @@ room_uses distance old new made m = room_by (Uses 17 old) distance old new made 
 -- so many bytes, veneers for so many uses more, and five own labels at most
 code_uses : (count : ℕ) (code : List ℕ) (own : List (Use LabelUse)) (size more : ℕ) (old new : Buffer) → count ≤ 5 → AppendsSequence count code own old new → length (bytes_of new) ≡ length (bytes_of old) + size → length (pending new) ≤ length (pending old) + more → Uses (size + 8 * more) old new
 code_uses count code own size more old new own_few p long few =
-    let allocated = p.allocated in
     -- code puts no constant
-    record { size = omega (arith, long, few, reserve_kept old new p.registered (λ k. high_kept p (first_constant + k) (omega arith))); allocated = omega (arith, allocated, own_few) }
+    record { size = omega (arith, long, few, reserve_kept old new p.registered (λ k. high_kept p (first_constant + k) (omega arith))); allocated = omega (arith, p.allocated, own_few) }
 
 -- one thing after another, of which one allocates no label
 uses_then : (first rest : ℕ) (old mid new : Buffer) → (allocated_of mid ≡ allocated_of old) ⊎ (allocated_of new ≡ allocated_of mid) → Uses first old mid → Uses rest mid new → Uses (first + rest) old new
 uses_then first rest old mid new same a b =
-    let x = a.size in let y = b.size in let z = a.allocated in let w = b.allocated in
-    record { size = omega (arith, x, y); allocated = ⊎_elim (λ none. omega (arith, w, none)) (λ none. omega (arith, z, none)) same }
+    record { size = omega (arith, a.size, b.size); allocated = ⊎_elim (λ none. omega (arith, b.allocated, none)) (λ none. omega (arith, a.allocated, none)) same }
 
 more_uses : (least most : ℕ) (old new : Buffer) → least ≤ most → Uses least old new → Uses most old new
 more_uses least most old new le u = let x = u.size in record { size = omega (arith, le, x); allocated = u.allocated }
@@ -274,15 +272,13 @@ asked_uses {size} {mid} {last} {new} (Some r) n (made, room) alone u = uses_then
 pub emitted_uses : (context : Context) (inst : Inst) (old new : Buffer) → inst_rule context inst ≡ None → Appends context inst old new → Uses (inst_sum context inst - 17) old new
 emitted_uses context inst old new rule a =
     let ways = length (inst_ways inst) in
-    let first = code_long a.first in
     let last : length (bytes_of new) ≡ length (bytes_of a.last) + length a.code = ap length a.adds.bytes ∙ length-append (bytes_of a.last) a.code in
     let still : length (pending a.mid) ≤ length (pending old) + 0 = let same = ap length (still_pending a.first) in omega (arith, same) in
     let few : length (pending new) ≤ length (pending a.last) + ways = omega (arith, (ap length (pending_adds context inst old new a) ∙ length-append (pending a.last) _), few_ways context (place_of new) (length (bytes_of old)) (length (bytes_of new)) inst) in
-    let front = code_uses 0 a.front [] (length a.front) 0 old a.mid (omega arith) (no_own a.front [] old a.mid a.first) first still in
+    let front = code_uses 0 a.front [] (length a.front) 0 old a.mid (omega arith) (no_own a.front [] old a.mid a.first) (code_long a.first) still in
     let rest = code_uses a.own a.code _ (length a.code) ways a.last new a.few a.adds last few in
     let alone : is_some (request_of context inst) ≡ true → allocated_of new ≡ allocated_of a.last = λ some. let none = a.alone some in omega (arith, none, a.adds.allocated) in
-    let most = fits_most (inst_size context inst) _ a.fits in
-    more_uses (length a.front + 8 * 0 + (17 + (length a.code + 8 * ways))) _ old new (omega (arith, most, most_counts context inst rule))
+    more_uses (length a.front + 8 * 0 + (17 + (length a.code + 8 * ways))) _ old new (omega (arith, fits_most (inst_size context inst) _ a.fits, most_counts context inst rule))
     (uses_then (length a.front + 8 * 0) (17 + (length a.code + 8 * ways)) old a.mid new (inl a.first.allocated) front (asked_uses (request_of context inst) (length a.code) a.island alone rest))
 
 -- ---- the loop's invariant
@@ -298,18 +294,13 @@ sized_next context lines (Put inst) old new span rule s p =
     let block : Uses (inst_sum context inst - 17) p.mid new = emitted_uses context inst p.mid new rule p.emitted in
     let sum = sum_next context lines (Put inst) in
     let least = sum_least context (Put inst) in
-    let size = s.size in
-    let allocated = s.allocated in
-    record { reach = p.reach; size = omega (arith, room.size, block.size, sum, least, size); allocated = omega (arith, room.allocated, block.allocated, sum, least, allocated) }
+    record { reach = p.reach; size = omega (arith, room.size, block.size, sum, least, s.size); allocated = omega (arith, room.allocated, block.allocated, sum, least, s.allocated) }
 sized_next context lines (Bind label) old new span rule s p =
     let sum = sum_next context lines (Bind label) in
     let long : length (bytes_of new) ≡ length (bytes_of old) = ap length p.bytes in
     let slack : HasSlack (length (bytes_of old)) 14 (pending new) = slack_same (length (bytes_of old)) 14 (pending old) (pending new) p.fewer (slack_from_reach (length (bytes_of old)) (pending old) s.reach) in
     let reach : CanReach (length (bytes_of old)) (pending new) = reach_from_slack (length (bytes_of old)) (pending new) slack in
-    let reserve = reserve_kept old new p.registered (λ k. p.kept (first_constant + k) (λ e. absurd (omega (arith, e, p.low)))) in
-    let size = s.size in
-    let allocated = s.allocated in
-    record { reach = subst (λ n. CanReach n (pending new)) (sym long) reach; size = omega (arith, sum, long, fewer_from_due (pending new) (pending old) p.fewer, reserve, size); allocated = omega (arith, sum, p.allocated, allocated) }
+    record { reach = subst (λ n. CanReach n (pending new)) (sym long) reach; size = omega (arith, sum, long, fewer_from_due (pending new) (pending old) p.fewer, reserve_kept old new p.registered (λ k. p.kept (first_constant + k) (λ e. absurd (omega (arith, e, p.low)))), s.size); allocated = omega (arith, sum, p.allocated, s.allocated) }
 
 -- ==== A buffer of lines can be finished, and how long its code is.
 

@@ -8,5 +8,6 @@ pub mod AssemblyLoop
 pub mod Images
 pub mod LineRecords
 pub mod LinesJoin
+pub mod CodeRanges
 pub mod FinishedCode
 pub mod Laws

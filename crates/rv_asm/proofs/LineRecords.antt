@@ -180,8 +180,7 @@ line_fill context f (Put (LoadExtNameGot rd name)) start from to end h = (omega 
 line_fill context f (Put (LoadExtNameNear rd name offset)) start from to end h = (omega arith, (omega arith, omega (arith, h.first, h.gap, h.last, h.size)))
 line_fill context f (Put (LoadExtNameFar rd name offset)) start from to end h = (omega (arith, h.first, h.gap, h.last, h.size), omega (arith, h.first, h.gap, h.last, h.size))
 line_fill context f (Put (Call info)) start from to end h =
-    let within = h.back.returns _ refl in
-    (omega arith, return_fill context.frame _ info.stack_map info.try_call_info (patch_records info.patchable _ _) (start + 8) end (patch_fill info.patchable _ _ (start + 8) end (omega (arith, within))))
+    (omega arith, return_fill context.frame _ info.stack_map info.try_call_info (patch_records info.patchable _ _) (start + 8) end (patch_fill info.patchable _ _ (start + 8) end (omega (arith, h.back.returns _ refl))))
 line_fill context f (Put (CallInd info)) start from to end h =
     subst (λ rs. FillInTurn (relocs_in rs) start end) (append-nil (return_records context.frame _ info.stack_map info.try_call_info))
     (return_fill context.frame _ info.stack_map info.try_call_info [] start end (spans_ascend h))
@@ -219,9 +218,8 @@ inst_among context f (Call info) start from to end j r h e =
     let own = fill_between (relocs_in (inst_records context start end (Call info))) start (start + 8) j r turn e in
     call_among (request_of context (Call info)) refl h own.0 own.1
 inst_among context f (CallInd info) start from to end j r h e =
-    let some = some_field r.kind in
     let ends = (fill_between _ 0 0 j r (subst (λ rs. FillInTurn (relocs_in rs) 0 0) (append-nil (return_records context.frame _ info.stack_map info.try_call_info)) (return_fill context.frame _ info.stack_map info.try_call_info [] 0 0 (omega arith))) e).1 in
-    absurd (omega arith)
+    absurd (omega (arith, some_field r.kind, ends))
 inst_among context f (ReturnCall info) start from to end j r h e =
     let least = (h.least refl).filled in
     let own = fill_between (relocs_in (inst_records context start end (ReturnCall info))) (end - 8) end j r ((omega arith, omega (arith, least))) e in
@@ -240,33 +238,21 @@ module _ (context : Context) (bytes : List ℕ) (spans : List LineSpan) (gaps : 
   abbrev SpreadAt : ℕ → Line → Type 0
   SpreadAt i line = LineSpread context line f (start_of spans i) (from_of gaps i) (to_of gaps i) (end_of spans i)
 
-  -- lines, the first of which has index i, are as long as they must be; between two stands nothing, or an island
-  abbrev AreLong : ℕ → List Line → Type 0
-  AreLong i [] = Unit {0}
-  AreLong i (line ∷ lines) = SpreadAt i line × (0 < length lines → IsGap context.flags bytes (end_of spans i) (start_of spans (suc i))) × AreLong (suc i) lines
-
-  are_long : (i : ℕ) (lines : List Line) → ((k : ℕ) (line : Line) → slice_get lines k ≡ Some line → SpreadAt (i + k) line) → ((k : ℕ) → suc k < length lines → IsGap context.flags bytes (end_of spans (i + k)) (start_of spans (suc (i + k)))) →
-      AreLong i lines
-  are_long i [] long joined = tt
-  are_long i (line ∷ lines) long joined =
-      let here : i + 0 ≡ i = omega arith in
-      let next : (k : ℕ) → i + suc k ≡ suc i + k = λ k. omega arith in (
-        subst (λ n. SpreadAt n line) here (long 0 line refl),
-        λ lt. subst (λ n. IsGap context.flags bytes (end_of spans n) (start_of spans (suc n))) here (joined 0 (omega (arith, lt))),
-        are_long (suc i) lines (λ k l e. subst (λ n. SpreadAt n l) (next k) (long (suc k) l e))
-            (λ k lt. subst (λ n. IsGap context.flags bytes (end_of spans n) (start_of spans (suc n))) (next k) (joined (suc k) (omega (arith, lt)))),
-      )
-
   relocs_split : (i : ℕ) (line : Line) (lines : List Line) → relocs_in (records_from context spans i (line ∷ lines)) ≡ relocs_in (line_records context (start_of spans i) (end_of spans i) line) ++ relocs_in (records_from context spans (suc i) lines)
   relocs_split i line lines = flat_map-append record_relocs (line_records context (start_of spans i) (end_of spans i) line) (records_from context spans (suc i) lines)
 
-  lines_fill : (i : ℕ) (lines : List Line) (from : ℕ) → AreLong i lines → (0 < length lines → from ≤ start_of spans i) → (to : ℕ) × FillInTurn (relocs_in (records_from context spans i lines)) from to
-  lines_fill i [] from long starts = (from, omega arith)
-  lines_fill i (line ∷ lines) from long starts =
+  -- lines, the first of which has index i, are as long as they must be; between two stands nothing, or an island
+  lines_fill : (i : ℕ) (lines : List Line) (from : ℕ) → ((k : ℕ) (line : Line) → slice_get lines k ≡ Some line → SpreadAt (i + k) line) → ((k : ℕ) → suc k < length lines → IsGap context.flags bytes (end_of spans (i + k)) (start_of spans (suc (i + k)))) → (0 < length lines → from ≤ start_of spans i) →
+      (to : ℕ) × FillInTurn (relocs_in (records_from context spans i lines)) from to
+  lines_fill i [] from long joined starts = (from, omega arith)
+  lines_fill i (line ∷ lines) from long joined starts =
+      let here : i + 0 ≡ i = omega arith in
+      let next : (k : ℕ) → i + suc k ≡ suc i + k = λ k. omega arith in
       let first = relocs_in (line_records context (start_of spans i) (end_of spans i) line) in
       let more = relocs_in (records_from context spans (suc i) lines) in
-      let rest = lines_fill (suc i) lines (end_of spans i) long.2 (λ lt. ⊎_elim (λ same. omega arith) (λ island. let longer = island.longer in omega arith) (long.1 lt)) in
-      let both = fill_both first more (start_of spans i) (end_of spans i) rest.0 (line_fill context f line (start_of spans i) (from_of gaps i) (to_of gaps i) (end_of spans i) long.0) rest.1 in
+      let rest = lines_fill (suc i) lines (end_of spans i) (λ k l e. subst (λ n. SpreadAt n l) (next k) (long (suc k) l e)) (λ k lt. subst (λ n. IsGap context.flags bytes (end_of spans n) (start_of spans (suc n))) (next k) (joined (suc k) (omega (arith, lt))))
+      (λ lt. ⊎_elim (λ same. omega arith) (λ island. let longer = island.longer in omega arith) (subst (λ n. IsGap context.flags bytes (end_of spans n) (start_of spans (suc n))) here (joined 0 (omega (arith, lt))))) in
+      let both = fill_both first more (start_of spans i) (end_of spans i) rest.0 (line_fill context f line (start_of spans i) (from_of gaps i) (to_of gaps i) (end_of spans i) (subst (λ n. SpreadAt n line) here (long 0 line refl))) rest.1 in
       (rest.0, subst (λ rs. FillInTurn rs from rest.0) (sym (relocs_split i line lines)) (fill_from (first ++ more) from (start_of spans i) rest.0 (starts (omega arith)) both))
 
   -- a relocation is one of a line, whose index is i and some
@@ -319,7 +305,5 @@ module _ (context : Context) (bytes : List ℕ) (spans : List LineSpan) (gaps : 
     pub fields_apart : ((i : ℕ) → suc i < length lines → IsGap context.flags bytes (end_of spans i) (start_of spans (suc i))) → (j k : ℕ) (r s : MachReloc) → j ≢ k → slice_get (relocs_in (records_from context spans 0 lines)) j ≡ Some r → slice_get (relocs_in (records_from context spans 0 lines)) k ≡ Some s → IsApart r.offset (field_size r.kind) s.offset (field_size s.kind)
     fields_apart joined j k r s differ e g =
         let same : (n : ℕ) → n ≡ 0 + n = λ n. omega arith in
-        let all_long = are_long 0 lines (λ n line at. subst (λ m. SpreadAt m line) (same n) (long n line at))
-        (λ n lt. subst (λ m. IsGap context.flags bytes (end_of spans m) (start_of spans (suc m))) (same n) (joined n lt)) in
-        let all = lines_fill 0 lines (start_of spans 0) all_long (λ lt. omega arith) in
+        let all = lines_fill 0 lines (start_of spans 0) (λ n line at. subst (λ m. SpreadAt m line) (same n) (long n line at)) (λ n lt. subst (λ m. IsGap context.flags bytes (end_of spans m) (start_of spans (suc m))) (same n) (joined n lt)) (λ lt. omega arith) in
         fill_apart (relocs_in (records_from context spans 0 lines)) (start_of spans 0) all.0 j k r s all.1 differ e g

@@ -297,126 +297,6 @@ outside_or_on from size (a ∷ addresses) = ⊎_elim
     with_first first (inl others) = inl (outside_more from size a addresses first others)
     with_first first (inr (k, lt, low, high)) = inr (suc k, omega arith, low, high)
 
--- ---- where a line is left
-
--- from where it is entered: at its start, or where its call returns
-module _ (job : Job) (code : Code) (known : Known) (t : IsThreaded job code known) (base : ℕ) (symbols slots : Addresses) (i : ℕ) (line : Line) (v : FullValues) (b : FullState) (entry : Entry) (listed : slice_get job.lines i ≡ Some line) (s : StandsAt (record { job = job; code = code; base = base; symbols = symbols; slots = slots }) (entry_point entry i) v b) where
-  abbrev placing_of : Placing
-  placing_of = record { job = job; code = code; base = base; symbols = symbols; slots = slots }
-
-  abbrev there_from : LineAt placing_of (entry_point entry i)
-  there_from = record { index = i; line = line; entry = entry; at = refl; listed = listed }
-
-  -- by integer words at last, which lead to its exit
-  pub led_out : {took : List Answer} {made : FullValues} (exit : Exit) → exit_from entry (environment_at there_from) line v.ints ≡ exit → ExitBound job.lines exit → FullEnds (site_of job code known base symbols slots b.state.values.mem) (start_of code.lines i) (end_of code.lines i) exit (temporaries_from entry line) made took b → (meaning_of entry line).takes (environment_at there_from) v ((meaning_of entry line).own_of took) ≡ Some (made, []) → CameOut placing_of (entry_point entry i) v b
-  led_out {took} {made} exit is bound g takes =
-      let led = reaches job code known t base symbols slots b.state.values.mem s.placed i (slice_get_within job.lines i line listed) (temporaries_from entry line) made.ints g.state.state exit bound g.last in
-      let r = led.reached in
-      record {
-        steps = r.steps + g.steps;
-        state = put r.state g.state;
-        ran = fiter_after job.flags r.steps g.steps b g.state g.ran ∙ integer_run job.flags r.steps r.state g.state r.ran;
-        point = led.point;
-        values = record { ints = r.state.values; units = g.state.units };
-        took = took;
-        line = record {
-          there = there_from;
-          made = made;
-          takes = takes;
-          effect = record { ints = r.same; units = g.units };
-          leads = subst (λ x. Leads job.lines code i x led.point) (sym is) led.leads;
-        };
-        moved = λ back. let moved = r.moved back in omega arith;
-        answers = g.answers;
-        stands = record {
-          pc = r.stands;
-          stopped = r.stopped;
-          same = record { ints = same_itself r.state.values; units = refl };
-          is_state = record { state = r.is_state; units = g.is_state.units; answers = g.is_state.answers };
-          are_values = r.is_state.values;
-          legal = ap is_legal g.setting ∙ s.legal;
-          placed = placed_again code base symbols slots b.state.values.mem (context_of job) known.place known.records r.state.values.mem r.placed t.fields s.placed;
-        };
-      }
-
--- ---- each line
-
-module _ (job : Job) (code : Code) (known : Known) (t : IsThreaded job code known) (base : ℕ) (symbols slots : Addresses) (i : ℕ) (v : FullValues) (b : FullState) where
-  abbrev placing : Placing
-  placing = record { job = job; code = code; base = base; symbols = symbols; slots = slots }
-
-  abbrev start : ℕ
-  start = start_of code.lines i
-
-  abbrev end : ℕ
-  end = end_of code.lines i
-
-  abbrev full_site : Site
-  full_site = site_of job code known base symbols slots b.state.values.mem
-
-  -- what it is read among by its own place, and by the listing
-  abbrev own : Environment
-  own = environment full_site start end
-
-  abbrev env : Environment
-  env = environment_of job code base symbols slots i
-
-  module _ (inst : Inst) (listed : slice_get job.lines i ≡ Some (Put inst)) where
-    agree : AgreeOn (named_labels (Put inst)) own env
-    agree = agrees job code known t base symbols slots b.state.values.mem i (Put inst) listed
-
-    abbrev m : FullMeaning
-    m = inst_meaning AtStart inst
-
-    -- from its start
-    inst_comes : StandsAt placing (At i) v b → OneComes placing (At i) v b
-    inst_comes s = by (outside_or_on base (length code.bytes) (m.writes env v (m.own_of b.answers)))
-      where
-        there : LineAt placing (At i)
-        there = record { index = i; line = Put inst; entry = AtStart; at = refl; listed = listed }
-
-        stood : InstIn full_site inst start end
-        stood = t.line base symbols slots b.state.values.mem s.placed i (Put inst) listed
-
-        means : MeansSame m own env v
-        means = meaning_agrees v AtStart inst agree
-
-        led : EndsAsMeant full_site start end m (inst_exit own inst v.ints) (inst_temporaries inst) v b ⊎ FullyAsks full_site start end m v b → OneComes placing (At i) v b
-        led (inl o) = inl (led_out job code known t base symbols slots i (Put inst) v b AtStart listed s (inst_exit own inst v.ints) (sym (exit_agrees (Put inst) v.ints agree)) (exit_bound job.lines own (Put inst) v.ints (t.named i (Put inst) listed)) o.ends (sym (means.takes (m.own_of o.took)) ∙ o.takes))
-        led (inr a) = inr (inl (record { there = there; steps = a.steps; state = a.state; ran = a.ran; asks = a.asks; took = a.took; answers = a.answers; few = subst (λ n. length a.took < 2 * n) means.own a.few }))
-
-        by : AreOutside base (length code.bytes) (m.writes env v (m.own_of b.answers)) ⊎ IsOn base (length code.bytes) (m.writes env v (m.own_of b.answers)) → OneComes placing (At i) v b
-        by (inl outside) = led (inst_full_runs stood.setting inst (t.ruled i (Put inst) listed) (t.fit i (Put inst) listed) (enters job code known t base symbols slots i b.state v.ints s.placed s.is_state.state s.are_values s.same.ints inst listed s.pc) s.same s.is_state
-            (subst (λ n. AreOutside base n (m.writes own v (m.own_of b.answers))) (sym (from_long b.state.values.mem base (length code.bytes))) (subst (AreOutside base (length code.bytes)) (sym (means.writes (m.own_of b.answers))) outside)))
-        by (inr on) = inr (inr (record { there = there; took = b.answers; left = []; answers = sym (append-nil b.answers); on = on }))
-
-    -- from where it returns
-    pub return_comes : (r : Return) → return_of job.flags inst ≡ Some r → StandsAt placing (Returned i) v b → CameOut placing (Returned i) v b
-    return_comes r is s =
-        let h = t.line base symbols slots b.state.values.mem s.placed i (Put inst) listed in
-        let e = enters_back job code known t base symbols slots i b.state v.ints s.placed s.is_state.state s.are_values s.same.ints inst r listed is s.pc in
-        let o = inst_full_resumes h.setting inst r (t.ruled i (Put inst) listed) is (labels_within job code known t b.state.values.mem base) e s.same s.is_state in
-        let means : MeansSame (inst_meaning AtReturn inst) own env v = meaning_agrees v AtReturn inst agree in
-        led_out job code known t base symbols slots i (Put inst) v b AtReturn listed s (try_exit (try_call_of inst)) refl (return_bound job.lines inst (t.named i (Put inst) listed)) o.ends (sym (means.takes ((inst_meaning AtReturn inst).own_of o.took)) ∙ o.takes)
-
-  pub line_comes : (line : Line) → slice_get job.lines i ≡ Some line → StandsAt placing (At i) v b → OneComes placing (At i) v b
-  line_comes (Put inst) listed s = inst_comes inst listed s
-  line_comes (Bind label) listed s =
-      let ends : FullEnds full_site start end Next [] v [] b = record {
-        steps = 0;
-        state = b;
-        ran = fiter_none job.flags b;
-        last = passes job code known t base symbols slots i b.state v.ints s.placed s.is_state.state s.are_values s.same.ints label listed s.pc;
-        units = s.same.units;
-        is_state = s.is_state;
-        answers = refl;
-        setting = refl;
-      } in
-      inl (led_out job code known t base symbols slots i (Bind label) v b AtStart listed s Next refl tt ends refl)
-
--- ==== Code in which each line comes out, asks for an answer or writes on the code runs on the machine with all units: by induction over
--- the lines that are passed.
-
 -- ---- where lines lead there is a line
 
 abbrev IsThere : Job → Point → Type 0
@@ -440,24 +320,135 @@ exit_is_bound lines among AtReturn (Put inst) v bound = return_bound lines inst 
 exit_is_bound lines among AtReturn (Bind label) v bound = tt
 
 module _ (job : Job) (code : Code) (known : Known) (t : IsThreaded job code known) (base : ℕ) (symbols slots : Addresses) where
-  abbrev placing_at : Placing
-  placing_at = record { job = job; code = code; base = base; symbols = symbols; slots = slots }
+  abbrev placing : Placing
+  placing = record { job = job; code = code; base = base; symbols = symbols; slots = slots }
+
+  abbrev there_from : (i : ℕ) (line : Line) (entry : Entry) → slice_get job.lines i ≡ Some line → LineAt placing (entry_point entry i)
+  there_from i line entry listed = record { index = i; line = line; entry = entry; at = refl; listed = listed }
+
+  -- ---- where a line is left
+
+  -- from where it is entered: at its start, or where its call returns
+  module _ (i : ℕ) (line : Line) (v : FullValues) (b : FullState) (entry : Entry) (listed : slice_get job.lines i ≡ Some line) (s : StandsAt placing (entry_point entry i) v b) where
+    -- by integer words at last, which lead to its exit
+    pub led_out : {took : List Answer} {made : FullValues} (exit : Exit) → exit_from entry (environment_at (there_from i line entry listed)) line v.ints ≡ exit → ExitBound job.lines exit → FullEnds (site_of job code known base symbols slots b.state.values.mem) (start_of code.lines i) (end_of code.lines i) exit (temporaries_from entry line) made took b → (meaning_of entry line).takes (environment_at (there_from i line entry listed)) v ((meaning_of entry line).own_of took) ≡ Some (made, []) → CameOut placing (entry_point entry i) v b
+    led_out {took} {made} exit is bound g takes =
+        let led = reaches job code known t base symbols slots b.state.values.mem s.placed i (slice_get_within job.lines i line listed) (temporaries_from entry line) made.ints g.state.state exit bound g.last in
+        let r = led.reached in
+        record {
+          steps = r.steps + g.steps;
+          state = put r.state g.state;
+          ran = fiter_after job.flags r.steps g.steps b g.state g.ran ∙ integer_run job.flags r.steps r.state g.state r.ran;
+          point = led.point;
+          values = record { ints = r.state.values; units = g.state.units };
+          took = took;
+          line = record {
+            there = there_from i line entry listed;
+            made = made;
+            takes = takes;
+            effect = record { ints = r.same; units = g.units };
+            leads = subst (λ x. Leads job.lines code i x led.point) (sym is) led.leads;
+          };
+          moved = λ back. let moved = r.moved back in omega arith;
+          answers = g.answers;
+          stands = record {
+            pc = r.stands;
+            stopped = r.stopped;
+            same = record { ints = same_itself r.state.values; units = refl };
+            is_state = record { state = r.is_state; units = g.is_state.units; answers = g.is_state.answers };
+            are_values = r.is_state.values;
+            legal = ap is_legal g.setting ∙ s.legal;
+            placed = placed_again code base symbols slots b.state.values.mem (context_of job) known.place known.records r.state.values.mem r.placed t.fields s.placed;
+          };
+        }
+
+  -- ---- each line
+
+  module _ (i : ℕ) (v : FullValues) (b : FullState) where
+    abbrev start : ℕ
+    start = start_of code.lines i
+
+    abbrev end : ℕ
+    end = end_of code.lines i
+
+    abbrev full_site : Site
+    full_site = site_of job code known base symbols slots b.state.values.mem
+
+    -- what it is read among by its own place, and by the listing
+    abbrev own : Environment
+    own = environment full_site start end
+
+    abbrev env : Environment
+    env = environment_of job code base symbols slots i
+
+    module _ (inst : Inst) (listed : slice_get job.lines i ≡ Some (Put inst)) where
+      agree : AgreeOn (named_labels (Put inst)) own env
+      agree = agrees job code known t base symbols slots b.state.values.mem i (Put inst) listed
+
+      abbrev m : FullMeaning
+      m = inst_meaning AtStart inst
+
+      -- from its start
+      inst_comes : StandsAt placing (At i) v b → OneComes placing (At i) v b
+      inst_comes s = by (outside_or_on base (length code.bytes) (m.writes env v (m.own_of b.answers)))
+        where
+          stood : InstIn full_site inst start end
+          stood = t.line base symbols slots b.state.values.mem s.placed i (Put inst) listed
+
+          means : MeansSame m own env v
+          means = meaning_agrees v AtStart inst agree
+
+          led : EndsAsMeant full_site start end m (inst_exit own inst v.ints) (inst_temporaries inst) v b ⊎ FullyAsks full_site start end m v b → OneComes placing (At i) v b
+          led (inl o) = inl (led_out i (Put inst) v b AtStart listed s (inst_exit own inst v.ints) (sym (exit_agrees (Put inst) v.ints agree)) (exit_bound job.lines own (Put inst) v.ints (t.named i (Put inst) listed)) o.ends (sym (means.takes (m.own_of o.took)) ∙ o.takes))
+          led (inr a) = inr (inl (record { there = there_from i (Put inst) AtStart listed; steps = a.steps; state = a.state; ran = a.ran; asks = a.asks; took = a.took; answers = a.answers; few = subst (λ n. length a.took < 2 * n) means.own a.few }))
+
+          by : AreOutside base (length code.bytes) (m.writes env v (m.own_of b.answers)) ⊎ IsOn base (length code.bytes) (m.writes env v (m.own_of b.answers)) → OneComes placing (At i) v b
+          by (inl outside) = led (inst_full_runs stood.setting inst (t.ruled i (Put inst) listed) (t.fit i (Put inst) listed) (enters job code known t base symbols slots i b.state v.ints s.placed s.is_state.state s.are_values s.same.ints inst listed s.pc) s.same s.is_state
+              (subst (λ n. AreOutside base n (m.writes own v (m.own_of b.answers))) (sym (from_long b.state.values.mem base (length code.bytes))) (subst (AreOutside base (length code.bytes)) (sym (means.writes (m.own_of b.answers))) outside)))
+          by (inr on) = inr (inr (record { there = there_from i (Put inst) AtStart listed; took = b.answers; left = []; answers = sym (append-nil b.answers); on = on }))
+
+      -- from where it returns
+      pub return_comes : (r : Return) → return_of job.flags inst ≡ Some r → StandsAt placing (Returned i) v b → CameOut placing (Returned i) v b
+      return_comes r is s =
+          let h = t.line base symbols slots b.state.values.mem s.placed i (Put inst) listed in
+          let e = enters_back job code known t base symbols slots i b.state v.ints s.placed s.is_state.state s.are_values s.same.ints inst r listed is s.pc in
+          let o = inst_full_resumes h.setting inst r (t.ruled i (Put inst) listed) is (labels_within job code known t b.state.values.mem base) e s.same s.is_state in
+          let means : MeansSame (inst_meaning AtReturn inst) own env v = meaning_agrees v AtReturn inst agree in
+          led_out i (Put inst) v b AtReturn listed s (try_exit (try_call_of inst)) refl (return_bound job.lines inst (t.named i (Put inst) listed)) o.ends (sym (means.takes ((inst_meaning AtReturn inst).own_of o.took)) ∙ o.takes)
+
+    pub line_comes : (line : Line) → slice_get job.lines i ≡ Some line → StandsAt placing (At i) v b → OneComes placing (At i) v b
+    line_comes (Put inst) listed s = inst_comes inst listed s
+    line_comes (Bind label) listed s =
+        let ends : FullEnds full_site start end Next [] v [] b = record {
+          steps = 0;
+          state = b;
+          ran = fiter_none job.flags b;
+          last = passes job code known t base symbols slots i b.state v.ints s.placed s.is_state.state s.are_values s.same.ints label listed s.pc;
+          units = s.same.units;
+          is_state = s.is_state;
+          answers = refl;
+          setting = refl;
+        } in
+        inl (led_out i (Bind label) v b AtStart listed s Next refl tt ends refl)
+
+  -- ==== Code in which each line comes out, asks for an answer or writes on the code runs on the machine with all units: by induction over
+  -- the lines that are passed.
 
   -- at each point, one line; or the listing's run ends there
-  one_line : (p : Point) (v : FullValues) (b : FullState) → IsThere job p → StandsAt placing_at p v b → IsExit p ⊎ OneComes placing_at p v b
-  one_line (At i) v b there s = inr (line_comes job code known t base symbols slots i v b there.0 there.1 s)
-  one_line (Returned i) v b there s = inr (inl (return_comes job code known t base symbols slots i v b there.0 there.2 there.1 there.3 s))
+  one_line : (p : Point) (v : FullValues) (b : FullState) → IsThere job p → StandsAt placing p v b → IsExit p ⊎ OneComes placing p v b
+  one_line (At i) v b there s = inr (line_comes i v b there.0 there.1 s)
+  one_line (Returned i) v b there s = inr (inl (return_comes i v b there.0 there.2 there.1 there.3 s))
   one_line p v b there s = inl tt
 
   -- ---- any number of lines
 
-  lines_there : (k : ℕ) (p : Point) (v : FullValues) (least : ℕ) (took : List Answer) (q : Point) (w : FullValues) → IsThere job p → Lines placing_at k p v least took q w → IsThere job q
+  lines_there : (k : ℕ) (p : Point) (v : FullValues) (least : ℕ) (took : List Answer) (q : Point) (w : FullValues) → IsThere job p → Lines placing k p v least took q w → IsThere job q
   lines_there zero p v least took q w there l = subst (IsThere job) (sym l.2) there
   lines_there (suc k) p v least took q w there l =
       let at = l.line.there in
       led_there job code at.index (exit_from at.entry (environment_at at) at.line l.values.ints) q (exit_is_bound job.lines (environment_at at) at.entry at.line l.values (t.named at.index at.line at.listed)) l.line.leads
 
-  one_more : (k : ℕ) (p : Point) (v : FullValues) (b : FullState) (r : Reached placing_at k p v b) → CameOut placing_at r.point r.values r.state → Reached placing_at (suc k) p v b
+  one_more : (k : ℕ) (p : Point) (v : FullValues) (b : FullState) (r : Reached placing k p v b) → CameOut placing r.point r.values r.state → Reached placing (suc k) p v b
   one_more k p v b r o = record {
     steps = o.steps + r.steps;
     state = o.state;
@@ -472,22 +463,22 @@ module _ (job : Job) (code : Code) (known : Known) (t : IsThreaded job code know
     stands = o.stands;
   }
 
-  next : (k : ℕ) (p : Point) (v : FullValues) (b : FullState) → IsThere job p → RunsOn placing_at k p v b → RunsOn placing_at (suc k) p v b
+  next : (k : ℕ) (p : Point) (v : FullValues) (b : FullState) → IsThere job p → RunsOn placing k p v b → RunsOn placing (suc k) p v b
   next k p v b there (inr (inl c)) = inr (inl (record { count = c.count; before = omega (arith, c.before); reached = c.reached; stops = c.stops }))
   next k p v b there (inr (inr c)) = inr (inr (record { count = c.count; before = omega (arith, c.before); reached = c.reached; overwrites = c.overwrites }))
   next k p v b there (inl c) = from c.whole
     where
-      on : c.count ≡ k → IsExit c.reached.point ⊎ OneComes placing_at c.reached.point c.reached.values c.reached.state → RunsOn placing_at (suc k) p v b
+      on : c.count ≡ k → IsExit c.reached.point ⊎ OneComes placing c.reached.point c.reached.values c.reached.state → RunsOn placing (suc k) p v b
       on e (inl end) = inl (record { count = c.count; within = omega (arith, c.within); reached = c.reached; whole = inr end })
       on e (inr (inl out)) = inl (record { count = suc c.count; within = omega (arith, c.within); reached = one_more c.count p v b c.reached out; whole = inl (ap suc e) })
       on e (inr (inr (inl stops))) = inr (inl (record { count = c.count; before = omega (arith, e); reached = c.reached; stops = stops }))
       on e (inr (inr (inr off))) = inr (inr (record { count = c.count; before = omega (arith, e); reached = c.reached; overwrites = off }))
 
-      from : (c.count ≡ k) ⊎ IsExit c.reached.point → RunsOn placing_at (suc k) p v b
+      from : (c.count ≡ k) ⊎ IsExit c.reached.point → RunsOn placing (suc k) p v b
       from (inl e) = on e (one_line c.reached.point c.reached.values c.reached.state (lines_there c.count p v c.reached.least c.reached.took c.reached.point c.reached.values there c.reached.lines) c.reached.stands)
       from (inr end) = inl (record { count = c.count; within = omega (arith, c.within); reached = c.reached; whole = inr end })
 
-  runs_on : (k : ℕ) (p : Point) (v : FullValues) (b : FullState) → IsThere job p → StandsAt placing_at p v b → RunsOn placing_at k p v b
+  runs_on : (k : ℕ) (p : Point) (v : FullValues) (b : FullState) → IsThere job p → StandsAt placing p v b → RunsOn placing k p v b
   runs_on zero p v b there s = inl (record {
     count = 0;
     within = lit≤ tt;

@@ -164,11 +164,9 @@ all_bound all (l ∷ labels) e = let h = label_bound (is_bound all l.number) _ _
 
 -- each label that a line names is bound
 pub names_bound : (all lines : List Line) → unbound_in (is_bound all) lines ≡ None → (i : ℕ) (line : Line) → slice_get lines i ≡ Some line → AllBound all (named_labels line)
-names_bound all lines e = all_at (λ (l : Line). AllBound all (named_labels l)) lines (among lines e)
-  where
-    among : (ls : List Line) → unbound_in (is_bound all) ls ≡ None → AllByRecursion (λ (l : Line). AllBound all (named_labels l)) ls
-    among [] e = tt
-    among (l ∷ ls) e = (all_bound all (named_labels l) (none_both _ _ e).0, among ls (none_both (unbound_among (is_bound all) (named_labels l)) _ e).1)
+names_bound all [] e i line h = absurd (cc)
+names_bound all (l ∷ lines) e zero line h = subst (λ (l : Line). AllBound all (named_labels l)) (same_Some l line h) (all_bound all (named_labels l) (none_both _ _ e).0)
+names_bound all (l ∷ lines) e (suc i) line h = names_bound all lines (none_both (unbound_among (is_bound all) (named_labels l)) _ e).1 i line h
 
 -- ---- sizes
 

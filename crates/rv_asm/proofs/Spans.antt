@@ -133,20 +133,16 @@ own_last : (context : Context) (spans : List LineSpan) (line : Line) (span : Lin
 own_last context spans (Put inst) span = append-nil _ ∙ (λ j. uses_in context (read_last spans span (λ x. x.start) j) (read_last spans span (λ x. x.end) j) inst)
 own_last context spans (Bind label) span = refl
 
-open_next : (lines : List Line) (spans : List LineSpan) (gaps : List Gap) (line : Line) (span : LineSpan) (gap : Gap) → length spans ≡ length lines → length gaps ≡ length lines →
-    first_after_island (spans ++ span ∷ []) (gaps ++ gap ∷ []) (length (lines ++ line ∷ [])) ≡ cond (nat_lt gap.from gap.to || nat_lt (end_before spans (length lines)) span.start) (length lines) (first_after_island spans gaps (length lines))
-open_next lines spans gaps line span gap count gap_count =
-    let long : length (lines ++ line ∷ []) ≡ suc (length lines) = length-append lines (line ∷ []) ∙ omega arith in
-    let last : ℕ = length lines in
-    rw long (λ j. cond (nat_lt ((ap (from_of (gaps ++ gap ∷ [])) (sym gap_count) ∙ read_last gaps gap (λ x. x.from)) j) ((ap (to_of (gaps ++ gap ∷ [])) (sym gap_count) ∙ read_last gaps gap (λ x. x.to)) j) || nat_lt (ends_more spans (span ∷ []) last (omega (arith, count)) j) ((ap (start_of (spans ++ span ∷ [])) (sym count) ∙ read_last spans span (λ x. x.start)) j)) last (open_more spans (span ∷ []) gaps (gap ∷ []) last (omega (arith, count)) (omega (arith, gap_count)) j))
-
 module _ (context : Context) (lines : List Line) (spans : List LineSpan) (gaps : List Gap) (line : Line) (span : LineSpan) (gap : Gap) (count : length spans ≡ length lines) (gap_count : length gaps ≡ length lines) where
   abbrev here : Bool
   here = nat_lt gap.from gap.to || nat_lt (end_before spans (length lines)) span.start
 
   -- the first line whose uses are open: the last one, or that which it was
   first_by : (b : Bool) → here ≡ b → first_after_island (spans ++ span ∷ []) (gaps ++ gap ∷ []) (length (lines ++ line ∷ [])) ≡ cond b (length lines) (first_after_island spans gaps (length lines))
-  first_by b e = open_next lines spans gaps line span gap count gap_count ∙ (λ j. cond (e j) (length lines) (first_after_island spans gaps (length lines)))
+  first_by b e =
+      let last : ℕ = length lines in
+      let long : length (lines ++ line ∷ []) ≡ suc last = length-append lines (line ∷ []) ∙ omega arith in
+      rw long ((λ j. cond (nat_lt ((ap (from_of (gaps ++ gap ∷ [])) (sym gap_count) ∙ read_last gaps gap (λ x. x.from)) j) ((ap (to_of (gaps ++ gap ∷ [])) (sym gap_count) ∙ read_last gaps gap (λ x. x.to)) j) || nat_lt (ends_more spans (span ∷ []) last (omega (arith, count)) j) ((ap (start_of (spans ++ span ∷ [])) (sym count) ∙ read_last spans span (λ x. x.start)) j)) last (open_more spans (span ∷ []) gaps (gap ∷ []) last (omega (arith, count)) (omega (arith, gap_count)) j)) ∙ (λ j. cond (e j) last (first_after_island spans gaps last)))
 
   abbrev pub OpenAfter : List (Use LabelUse) → List VCodeConstant → Type 0
   OpenAfter uses taken = (uses_after_island context (lines ++ line ∷ []) (spans ++ span ∷ []) (gaps ++ gap ∷ []) ≡ uses) × (constants_taken context (lines ++ line ∷ []) (spans ++ span ∷ []) (gaps ++ gap ∷ []) ≡ taken)

@@ -13,7 +13,6 @@ ghost use Rattle.rv_inst.specs.Context.{context_by};
 
 use crate::frame::copy_of;
 use crate::lines::put_line;
-use crate::ranges::code_fits;
 use crate::refusal::refuse;
 use crate::returns::add_return;
 use mach_buffer::MachBuffer;
@@ -46,10 +45,7 @@ pub fn assemble(
     };
     refuse(alloc, lines, &context)?;
     match build(alloc, lines, flags, frame, constants) {
-        Ok(code) => {
-            code_fits(&code);
-            Ok(code)
-        }
+        Ok(code) => Ok(code),
         Err(OutOfMemory) => Err(EmitError::OutOfMemory),
     }
 }

@@ -5,7 +5,6 @@ mod assembly;
 mod frame;
 mod line_laws;
 mod lines;
-mod ranges;
 mod refusal;
 mod returns;
 mod survey;

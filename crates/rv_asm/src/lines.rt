@@ -15,6 +15,7 @@ ghost use Rattle.rv_emit.specs.Emission.{EmitsIn};
 ghost use Rattle.rv_emit.specs.StackMaps.{with_map};
 ghost use Rattle.rv_code.specs.declared.state.EmitVState.TheVariants.{Unknown};
 ghost use Rattle.rv_emit.specs.State.{setting_after, setting_beyond};
+ghost use Rattle.rv_listing.specs.CodeRanges.{SpanFits};
 ghost use Rattle.rv_asm.specs.LinesInBuffer.{CanPut, InstPut, BindPut, InstSetting, LinePut, LineSetting};
 
 use mach_buffer::MachBuffer;
@@ -38,6 +39,7 @@ pub fn put_line(
 ) -> Result<LineSpan, OutOfMemory>
     requires { CanPut (context_by info.now.isa_flags state.old.frame (registered_of sink.old)) line.now sink.old }
     ensures index { IfOk result (λ span. span.index ≡ index) }
+    ensures fits { IfOk result SpanFits }
     ensures put { IfOk result (λ span. LinePut (context_by info.now.isa_flags state.old.frame (registered_of sink.old)) state.old.vstate line.now sink.old sink.new span) }
     ensures frame { state.new.frame ≡ state.old.frame }
     ensures setting { OnOk result (LineSetting (context_by info.now.isa_flags state.old.frame (registered_of sink.old)) line.now sink.old state.old.vstate state.new.vstate) }
@@ -59,6 +61,7 @@ fn put_bind(
     requires unbound { place_of sink.old label.number ≡ None }
     requires sound { IsSoundBuffer sink.old }
     ensures index { IfOk result (λ span. span.index ≡ index) }
+    ensures fits { IfOk result SpanFits }
     ensures put { IfOk result (λ span. BindPut label sink.old sink.new span) }
     ensures frame { state.new.frame ≡ state.old.frame }
     ensures setting { OnOk result (state.new.vstate ≡ Unknown) }
@@ -84,6 +87,7 @@ fn put_inst(
 ) -> Result<LineSpan, OutOfMemory>
     requires { CanPut (context_by info.now.isa_flags state.old.frame (registered_of sink.old)) (Put inst.now) sink.old }
     ensures index { IfOk result (λ span. span.index ≡ index) }
+    ensures fits { IfOk result SpanFits }
     ensures put { IfOk result (λ span. InstPut (context_by info.now.isa_flags state.old.frame (registered_of sink.old)) state.old.vstate inst.now sink.old sink.new span) }
     ensures frame { state.new.frame ≡ state.old.frame }
     ensures setting { OnOk result (InstSetting (context_by info.now.isa_flags state.old.frame (registered_of sink.old)) inst.now sink.old state.old.vstate state.new.vstate) }

@@ -1,15 +1,13 @@
 -- Offsets, addresses and numbers that are computed in registers, and the way of a machine through a sequence.
-use Rattle.{rv_code.proofs.Registers.{are_values_set, reads_back, reads_other}, rv_code.proofs.Steps.{at_next, goes_at_least, goes_both, goes_none, goes_second, istep_here, iter_after, iter_one, lands, pc_in_code, step_at}, rv_code.proofs.Words.{Values, upper_of_distance, upper_part, w64, wrap}}
-use Rattle.{rv_code.specs.Evaluation.{AreShort, literal_value, symbol_value}, rv_code.specs.InstRuns.environment, rv_code.specs.Sites.symbol_address, rv_machine.specs.Steps.iter, std.proofs.Common.w32}
-use Rattle.rv_code.proofs.Words.{AddressOf, SlotOf, Symbol, Constant, Literal, NameAddress, Word32, Word64, cast_signed, extend_word, inline_size, label_slots, literal_size, literal_slot, literal_slots, lower_word, symbol_slots, upper_word}
-use Rattle.std.proofs.Common.{◌≡◌, ℕ, suc, ◌+◌, ◌-◌, ◌*◌, ◌/◌, ◌%◌, ◌^◌, ◌<◌, ◌≤◌, true, ℤ, pos, negsuc, ◌+ℤ◌, ◌-ℤ◌, arith, ap, ◌∙◌, ⊎_elim, ◌≢◌, Bool, false, List, [], ◌∷◌, ◌++◌, length, Some, refl, sym, subst, lit<, eqb-true, None, ◌==◌, lit≤, if◌then◌else◌, unwrap_or, slice_index, rules}
-use Rattle.rv_code.proofs.Words.{act, Add, Addi, address_at, address_slots, AimsFrom, Allocate, alu_rri, alu_rrr, AluOPRRI, AluOPRRR, and_parts, at, AtConstant, AtLabel, Base, Based, between, byte, BytesAt, cases_lt, CodeHas, constant_label, Decoded, decoded, decoded_addi, decoded_load, Environment}
-use Rattle.rv_code.proofs.Words.{Goes, Here, istep, immediate_of, ints, is_beyond, is_near, is_splittable, IsaFlags, IsAt, IsState, jump_size, Label, load_bytes, load_op, load_over, load_result, LoadOP, Location, low32, low64, lower_of, lower_of_distance, lower_part}
-use Rattle.rv_code.proofs.Words.{MachLabel, Memory, Names, nat_tests, Records, number_slots, offset_slots, Op, PCRelHi20, reg, Same, same_Some, set_reg, shift_limit, short_jump, short_lui, short_rri, short_rrr, signed, Site, size_of, Slot, slot_size, slots_of, StandsIn, State, to_le_bytes, upper_of}
-pub use Rattle.rv_inst.proofs.ImmediateSums.{IsRead, read_low, sum_of_parts, sum_of_negative, offset_sums, address_sums}
-pub use Rattle.rv_inst.proofs.Sequences.{set_twice, bits_back}
-pub use Rattle.rv_code.proofs.LineSlots.{size_append, closed_even, offset_by, offsets, addresses, numbers, is_low, slots_by}
-use Rattle.rv_code.proofs.OperationActs.{IsIntegerLoad, rrr_acts, rri_acts, lui_acts, jump_acts, rrr_sized, rri_sized, lui_sized, jump_len, least_even, least_some, least_few, load_acts_wide, small_number, HasSize, rrr_fits}
+pub use Rattle.{rv_code.proofs.LineSlots.{size_append, is_low}, rv_inst.{proofs.ImmediateSums.{IsRead, read_low, sum_of_parts, sum_of_negative, offset_sums, address_sums}, proofs.Sequences.{set_twice, bits_back}}}
+use Rattle.rv_code.{proofs.OperationActs.{IsIntegerLoad, jump_acts, jump_len, least_even, least_some, least_few, load_acts_wide, small_number, HasSize}, proofs.Registers.{are_values_set, reads_back}}
+use Rattle.rv_code.proofs.Steps.{at_next, goes_at_least, goes_none, goes_second, istep_here, iter_after, iter_one, lands, pc_in_code, step_at}
+use Rattle.rv_code.proofs.Words.{Values, upper_of_distance, upper_part, w64, wrap, AddressOf, SlotOf, Symbol, Literal, NameAddress, Word32, Word64, cast_signed, extend_word, inline_size, label_slots, literal_size, literal_slot, literal_slots, lower_word, symbol_slots}
+use Rattle.rv_code.proofs.Words.{upper_word, act, address_at, AimsFrom, Allocate, and_parts, at, Base, Based, between, byte, BytesAt, cases_lt, CodeHas, Decoded, decoded, decoded_addi, decoded_load, Environment, Goes, Here, istep, ints, is_splittable, IsaFlags, IsAt}
+use Rattle.rv_code.proofs.Words.{IsState, jump_size, Label, load_bytes, load_op, load_over, load_result, LoadOP, Location, low32, low64, lower_of, lower_of_distance, lower_part, MachLabel, Memory, Names, nat_tests, Records, PCRelHi20, reg, Same, same_Some, set_reg}
+use Rattle.rv_code.{proofs.Words.{short_jump, signed, Site, size_of, Slot, slot_size, StandsIn, State, to_le_bytes, upper_of, access_slots, Fixup, label_load_slots, PCRelLo12I, TrapCode}, specs.Evaluation.{AreShort, literal_value, symbol_value}, specs.InstRuns.environment}
+use Rattle.{rv_code.specs.Sites.symbol_address, rv_machine.specs.Steps.iter}
+use Rattle.std.{proofs.Common.{w32, ◌≡◌, ℕ, suc, ◌+◌, ◌-◌, ◌*◌, ◌/◌, ◌%◌, ◌^◌, ◌<◌, ◌≤◌, true, ℤ, pos, negsuc, ◌+ℤ◌, ◌-ℤ◌, arith, ap, ◌∙◌, ⊎_elim, ◌≢◌, List, [], ◌∷◌, ◌++◌, length, Some, refl, sym, subst, lit<, eqb-true, None, ◌==◌, lit≤, unwrap_or, slice_index, rules}, proofs.Common.Option}
 use Rattle.rv_ops.specs.declared.memory.LoadOP.TheVariants as loads
 use Rattle.rv_machine.specs.declared.ops.BaseOp.TheVariants as base
 
@@ -72,19 +70,6 @@ Sets flags size s n x = Goes flags 0 s (at (wrap (s.pc + size)) (set_reg s.value
 pub sets_one : {site : Site} {offset size : ℕ} {s : State} (d : Decoded) (n x : ℕ) → IsAt site offset size s → 0 < size → CodeHas site offset (d ∷ []) → act d s ≡ Some (at (wrap (s.pc + d.len)) (set_reg s.values n x)) → Sets site.context.flags d.len s n x
 sets_one {s = s} d n x h some has acts = goes_at_least (omega arith) (step_at d [] (at (wrap (s.pc + d.len)) (set_reg s.values n x)) h some has acts)
 
--- such an operation alone
-pub sets_alone : {site : Site} {offset : ℕ} {s : State} (allocated : ℕ) (d : Decoded) (n x y : ℕ) → HasSize d → x ≡ y → act d s ≡ Some (at (wrap (s.pc + d.len)) (set_reg s.values n x)) →
-    IsAt site offset (size_of (Op d ∷ [])) s → StandsIn site allocated offset (Op d ∷ []) → Sets site.context.flags (size_of (Op d ∷ [])) s n y
-sets_alone {site} {s = s} allocated d n x y size same acts h stands =
-    let all : d.len ≡ d.len + 0 = omega arith in
-    subst (λ k. Sets site.context.flags k s n y) all (sets_one d n y h (omega arith) stands.0 (acts ∙ ap (λ z. Some (at (wrap (s.pc + d.len)) (set_reg s.values n z))) same))
-
--- one such chain after the other, in one register
-pub sets_both : {flags : IsaFlags} {s : State} (k size n x y : ℕ) → Sets flags k s n x → Sets flags size (at (wrap (s.pc + k)) (set_reg s.values n x)) n y → Sets flags (k + size) s n y
-sets_both {flags} {s} k size n x y g h =
-    let over : wrap (wrap (s.pc + k) + size) ≡ wrap (s.pc + (k + size)) = omega arith in
-    subst (λ (t : State). Goes flags 0 s t) (λ i. at (over i) (set_twice s.values n x y i)) (goes_both g h)
-
 -- before fewer bytes
 pub shorter : {site : Site} {offset size : ℕ} {s : State} (k : ℕ) → IsAt site offset size s → k ≤ size → IsAt site offset k s
 shorter k h le = record { even = h.even; room = omega arith; placed = h.placed; pc = h.pc }
@@ -93,20 +78,9 @@ shorter k h le = record { even = h.even; room = omega arith; placed = h.placed; 
 pub set_at : {site : Site} {offset size : ℕ} {s : State} (k n x : ℕ) → IsAt site offset (k + size) s → k % 2 ≡ 0 → IsAt site (offset + k) size (at (wrap (s.pc + k)) (set_reg s.values n x))
 set_at {s = s} k n x h even = at_next k (at (wrap (s.pc + k)) (set_reg s.values n x)) h even refl h.placed
 
--- after such a chain an operation writes the same register, as it is by the values that it finds
-sets_then : {site : Site} {offset size : ℕ} {s : State} (d : Decoded) (k n x y : ℕ) (f : Values → ℕ) → Sets site.context.flags k s n x → n < 32 → x < 2 ^ 64 → k % 2 ≡ 0 → 0 < d.len → IsState s → IsAt site offset size s → size ≡ k + d.len → CodeHas site (offset + k) (d ∷ []) →
-    ((t : State) → IsState t → act d t ≡ Some (at (wrap (t.pc + d.len)) (set_reg t.values n (f t.values)))) → f (set_reg s.values n x) ≡ y → Sets site.context.flags size s n y
-sets_then {site} {s = s} d k n x y f g lt fits even some is_state h long has acts same =
-    let s1 = at (wrap (s.pc + k)) (set_reg s.values n x) in
-    let next : IsState s1 = record { pc = omega arith; values = are_values_set s.values n x is_state.values lt fits } in
-    subst (λ m. Sets site.context.flags m s n y) (sym long) (sets_both k d.len n x y g (sets_one d n y (set_at k n x (shorter (k + d.len) h (omega arith)) even) some has (acts s1 next ∙ ap (λ z. Some (at (wrap (s1.pc + d.len)) (set_reg s1.values n z))) same)))
-
 -- in exactly so many steps
 pub record SetsIn (count : ℕ) (flags : IsaFlags) (size : ℕ) (s : State) (n x : ℕ) : Type 0 where
   pub ran : iter flags count s ≡ Some (at (wrap (s.pc + size)) (set_reg s.values n x))
-
-pub in_steps : {count size n x : ℕ} {flags : IsaFlags} {s : State} → SetsIn count flags size s n x → Sets flags size s n x
-in_steps {count} h = record { steps = count; moved = omega arith; ran = h.ran }
 
 -- the auipc, the load of bytes that stand after the code, and the jump over them
 pub over_goes : {site : Site} {offset : ℕ} {s : State} (allocated rd size x : ℕ) (op : LoadOP) (bytes : List ℕ) → IsIntegerLoad op → 0 < rd → rd < 32 → size < 16 → length bytes ≡ size → ((mem : Memory) (a : ℕ) → BytesAt mem a bytes → load_result (load_op op) mem a ≡ x) → 0 < size → IsState s →
@@ -170,46 +144,6 @@ literal_goes {site} {s = s} first last allocated rd (NameAddress name addend) so
     let whole : wrap x ≡ x = omega arith in
     over_goes allocated rd 8 x loads.Ld (to_le_bytes w64 x) refl some lt (lit< tt) refl (λ mem a there. eight_there mem a x there ∙ whole) (lit< tt) is_state h (stands.0, (stands.1.0, (stands.1.1.0, tt))) (stands.1.1.1.0 s.values.mem h.placed)
 
--- an offset is put into a register
-pub offset_goes : {site : Site} {offset : ℕ} {s : State} (allocated rd : ℕ) (o : ℤ) → 0 < rd → rd < 32 → IsState s → IsAt site offset (size_of (offset_slots site.context.flags rd o)) s → StandsIn site allocated offset (offset_slots site.context.flags rd o) → Sets site.context.flags (size_of (offset_slots site.context.flags rd o)) s rd (wrap (low64 o))
-offset_goes {site} {offset} {s} allocated rd o some lt is_state =
-    let flags = site.context.flags in
-    let up = short_lui flags rd (upper_of o) in
-    let down = short_rri flags Addi rd rd (lower_of o) in
-    let u = wrap (low64 (upper_of o) * 2 ^ 12) in
-    let up_size = lui_sized flags rd (upper_of o) in
-    let down_size = rri_sized flags Addi rd rd (lower_of o) in
-    offset_by (λ ps. IsAt site offset (size_of (slots_of flags ps)) s → StandsIn site allocated offset (slots_of flags ps) → Sets flags (size_of (slots_of flags ps)) s rd (wrap (low64 o))) rd o
-    (λ fits none h stands. sets_alone allocated up rd u (wrap (low64 o)) up_size (omega (arith, offset_sums o fits, none)) (lui_acts flags rd (upper_of o) s is_state) h stands)
-    (λ fits h stands. sets_then down up.len rd u (wrap (low64 o)) (λ v. wrap (reg v rd + low64 (lower_of o))) (sets_one up rd u h (omega (arith, up_size.some)) stands.0 (lui_acts flags rd (upper_of o) s is_state))
-    lt (omega arith) up_size.even (omega (arith, down_size.some)) is_state h (omega arith) stands.1.0 (λ t is. rri_acts flags Addi rd rd (lower_of o) t refl is) ((λ i. wrap (reads_back s.values rd u is_state.values some lt i + low64 (lower_of o))) ∙ offset_sums o fits))
-    (λ far h stands.
-    let long : size_of (slots_of flags (Constant rd (Word64 (low64 o)) ∷ [])) ≡ inline_size flags 8 = literal_long flags rd (Word64 (low64 o)) in
-    subst (λ n. Sets flags n s rd (wrap (low64 o))) (sym long) (in_steps (literal_goes 0 0 allocated rd (Word64 (low64 o)) some lt is_state (shorter (inline_size flags 8) h (omega arith)) stands)))
-
--- the slots of an address that counts from a register, by whether it is near
-abbrev based_slots : IsaFlags → ℕ → ℕ → ℤ → Bool → List Slot
-based_slots flags rd r o near = if near then Op (short_rri flags Addi rd r o) ∷ [] else offset_slots flags rd o ++ Op (short_rrr flags Add rd rd r) ∷ []
-
--- an address, where a register of it keeps its value
-pub based_goes : {site : Site} {offset : ℕ} {s : State} (allocated rd r : ℕ) (o : ℤ) → 0 < rd → rd < 32 → r ≢ rd → IsState s → IsAt site offset (size_of (address_slots site.context.flags rd (Based r o))) s → StandsIn site allocated offset (address_slots site.context.flags rd (Based r o)) → Sets site.context.flags (size_of (address_slots site.context.flags rd (Based r o))) s rd (wrap (reg s.values r + low64 o))
-based_goes {site} {offset} {s} allocated rd r o some lt apart is_state =
-    let flags = site.context.flags in
-    let address = wrap (reg s.values r + low64 o) in
-    elim (is_near o) as (λ c. IsAt site offset (size_of (based_slots flags rd r o c)) s → StandsIn site allocated offset (based_slots flags rd r o c) → Sets flags (size_of (based_slots flags rd r o c)) s rd address) [
-      | true ↦ λ h stands. sets_alone allocated (short_rri flags Addi rd r o) rd address address (rri_sized flags Addi rd r o) refl (rri_acts flags Addi rd r o s refl is_state) h stands
-      | false ↦ λ h stands.
-          let d = short_rrr flags Add rd rd r in
-          let sized = rrr_sized flags Add rd rd r in
-          let k = size_of (offset_slots flags rd o) in
-          let long : size_of (based_slots flags rd r o false) ≡ k + d.len = size_append (offset_slots flags rd o) (Op d ∷ []) ∙ omega arith in
-          let both = stands_split site allocated offset (offset_slots flags rd o) (Op d ∷ []) stands in
-          let x = wrap (low64 o) in
-          let sum : wrap (reg (set_reg s.values rd x) rd + reg (set_reg s.values rd x) r) ≡ address = (λ i. wrap (reads_back s.values rd x is_state.values some lt i + reads_other s.values rd r x apart i)) ∙ omega arith in
-          sets_then d k rd x address (λ v. wrap (reg v rd + reg v r)) (offset_goes allocated rd o some lt is_state (shorter k h (omega arith)) both.0) lt (omega arith) (closed_even (λ k. None) 0 (offset_slots flags rd o) ((offsets flags rd o).closed _ 0)) (omega arith) is_state h long both.1.0
-          (λ t is. rrr_acts flags Add rd rd r t is) sum
-    ]
-
 -- where a label is bound
 abbrev pub label_address : Site → MachLabel → ℕ
 label_address site l = wrap (site.base + unwrap_or (site.place l.number) 0)
@@ -254,6 +188,24 @@ label_goes {site} {offset} {s} allocated rd l some lt bounds is_state h stands =
     let sum = lower_sums rd l a.to b.to some lt bounds is_state h a.reaches.0 b.reaches.0 in
     pair_goes rd (label_address site l) y (upper_word rd (between offset a.to)) (decoded_addi rd rd z) h a.has refl b.has (λ i. Some (at (wrap (wrap (s.pc + 4) + 4)) (set_reg (set_reg s.values rd y) rd (sum i))))
 
+-- what stands after the record of an access's trap
+pub after_access : (site : Site) (allocated offset : ℕ) (trap : Option TrapCode) (slots : List Slot) → StandsIn site allocated offset (access_slots trap ++ slots) → StandsIn site allocated offset slots
+after_access site allocated offset None slots stands = stands
+after_access site allocated offset (Some code) slots stands = stands.1
+
+-- what a label's place holds
+pub label_load_goes : {site : Site} {offset : ℕ} {s : State} (allocated rd : ℕ) (op : LoadOP) (trap : Option TrapCode) (l : MachLabel) → IsIntegerLoad op → 0 < rd → rd < 32 → AreShort site → IsState s → IsAt site offset 8 s → StandsIn site allocated offset (label_load_slots rd rd op trap l) →
+    SetsIn 2 site.context.flags 8 s rd (load_result (load_op op) s.values.mem (label_address site l))
+label_load_goes {site} {offset} {s} allocated rd op trap l integer some lt bounds is_state h stands =
+    let a = stands.0 in
+    let b = (after_access site allocated (offset + 4) trap (Fixup PCRelLo12I (Label l) (λ d. decoded_load op rd rd (lower_of_distance d) ∷ []) ∷ []) stands.1).0 in
+    let y = upper_sum s.pc offset a.to in
+    let w = set_reg s.values rd y in
+    let z = lower_of_distance (between (offset + 4) b.to) in
+    let sum = lower_sums rd l a.to b.to some lt bounds is_state h a.reaches.0 b.reaches.0 in
+    pair_goes rd (load_result (load_op op) s.values.mem (label_address site l)) y (upper_word rd (between offset a.to)) (decoded_load op rd rd z) h a.has refl b.has
+    (load_acts_wide op rd rd z (at (wrap (s.pc + 4)) w) integer ∙ (λ i. Some (at (wrap (wrap (s.pc + 4) + 4)) (set_reg w rd (load_result (load_op op) s.values.mem (sum i))))))
+
 -- the address of a symbol by the distance to it, or what stands in its slot
 pub symbol_goes : {site : Site} {offset : ℕ} {s : State} (first last allocated rd : ℕ) (symbol : Symbol) → 0 < rd → rd < 32 → IsState s → IsAt site offset 8 s → StandsIn site allocated offset (symbol_slots rd symbol) → SetsIn 2 site.context.flags 8 s rd (symbol_value (environment site first last) symbol s.values.mem)
 symbol_goes {site} {offset} {s} first last allocated rd symbol some lt is_state h stands =
@@ -267,14 +219,6 @@ symbol_goes {site} {offset} {s} first last allocated rd symbol some lt is_state 
       | AddressOf name addend ↦ λ sum has. pair_goes rd _ y (upper_word rd f.distance) (decoded_addi rd rd z) h f.has_upper refl has (λ i. Some (at (wrap (wrap (s.pc + 4) + 4)) (set_reg w rd (sum i))))
       | SlotOf name ↦ λ sum has. pair_goes rd _ y (upper_word rd f.distance) (decoded_load loads.Ld rd rd z) h f.has_upper refl has (λ i. Some (at (wrap (wrap (s.pc + 4) + 4)) (set_reg w rd (load_result (load_op loads.Ld) s.values.mem (sum i)))))
     ]) sum f.has_lower
-
-pub address_goes : {site : Site} {offset : ℕ} {s : State} (start after allocated rd : ℕ) (loc : Location) → 0 < rd → rd < 32 → IsApartAt rd loc → AreShort site → IsState s → IsAt site offset (size_of (address_slots site.context.flags rd loc)) s → StandsIn site allocated offset (address_slots site.context.flags rd loc) → Sets site.context.flags (size_of (address_slots site.context.flags rd loc)) s rd (address_at (environment site start after) s.values loc)
-address_goes start after allocated rd (Based r o) some lt apart bounds is_state h stands = based_goes allocated rd r o some lt (λ e. apart (sym e)) is_state h stands
-address_goes start after allocated rd (AtLabel l) some lt apart bounds is_state h stands = in_steps (label_goes allocated rd l some lt bounds is_state h stands)
-address_goes start after allocated rd (AtConstant k) some lt apart bounds is_state h stands = in_steps (label_goes allocated rd (constant_label k) some lt bounds is_state h stands)
-
-pub address_even : (flags : IsaFlags) (rd : ℕ) (loc : Location) → size_of (address_slots flags rd loc) % 2 ≡ 0
-address_even flags rd loc = closed_even (λ k. None) 0 (address_slots flags rd loc) ((addresses flags rd loc).closed _ 0)
 
 -- it is the same in values that are the same
 pub address_same : (env : Environment) (v w : Values) (loc : Location) → IsUsableAt loc → Same v w → address_at env v loc ≡ address_at env w loc
@@ -318,21 +262,6 @@ sets_comes {s = s} After k n x even lt fits goes c after =
 pub writes : {site : Site} {offset size : ℕ} {Such : Values → Type 0} {s : State} (After : Values → Type 0) (d : Decoded) (n x : ℕ) → HasSize d → CodeHas site offset (d ∷ []) → act d s ≡ Some (at (wrap (s.pc + d.len)) (set_reg s.values n x)) → n < 32 → x < 2 ^ 64 → InCourse site offset (d.len + size) Such s → After (set_reg s.values n x) → Comes site (offset + d.len) size After s
 writes After d n x sized has acts lt fits k after = let some = sized.some in sets_comes After d.len n x sized.even lt fits (sets_one d n x k.here (omega arith) has acts) k after
 
--- one of a register and an immediate
-pub rri_writes : {site : Site} {offset size : ℕ} {Such : Values → Type 0} {s : State} (After : Values → Type 0) (op : AluOPRRI) (rd rs : ℕ) (imm : ℤ) (x : ℕ) → is_beyond (shift_limit (immediate_of op)) imm ≡ false → CodeHas site offset (short_rri site.context.flags op rd rs imm ∷ []) → alu_rri op (reg s.values rs) imm ≡ x → rd < 32 → x < 2 ^ 64 → InCourse site offset ((short_rri site.context.flags op rd rs imm).len + size) Such s → After (set_reg s.values rd x) → Comes site (offset + (short_rri site.context.flags op rd rs imm).len) size After s
-rri_writes {site} {s = s} After op rd rs imm x range has is lt fits k after =
-    let flags = site.context.flags in
-    let d = short_rri flags op rd rs imm in
-    writes After d rd x (rri_sized flags op rd rs imm) has (rri_acts flags op rd rs imm s range k.is_state ∙ ap (λ y. Some (at (wrap (s.pc + d.len)) (set_reg s.values rd y))) is) lt fits k after
-
--- one of two registers
-pub rrr_writes : {site : Site} {offset size : ℕ} {Such : Values → Type 0} {s : State} (After : Values → Type 0) (op : AluOPRRR) (rd rs1 rs2 x : ℕ) → CodeHas site offset (short_rrr site.context.flags op rd rs1 rs2 ∷ []) → alu_rrr op (reg s.values rs1) (reg s.values rs2) ≡ x → rd < 32 → InCourse site offset ((short_rrr site.context.flags op rd rs1 rs2).len + size) Such s → After (set_reg s.values rd x) → Comes site (offset + (short_rrr site.context.flags op rd rs1 rs2).len) size After s
-rrr_writes {site} {s = s} After op rd rs1 rs2 x has is lt k after =
-    let flags = site.context.flags in
-    let fits = subst (λ y. y < 2 ^ 64) is (rrr_fits op (reg s.values rs1) (reg s.values rs2) (k.is_state.values.fits rs1) (k.is_state.values.fits rs2)) in
-    let d = short_rrr flags op rd rs1 rs2 in
-    writes After d rd x (rrr_sized flags op rd rs1 rs2) has (rrr_acts flags op rd rs1 rs2 s k.is_state ∙ ap (λ y. Some (at (wrap (s.pc + d.len)) (set_reg s.values rd y))) is) lt fits k after
-
 leads : {site : Site} {offset size : ℕ} {Such : Values → Type 0} {s : State} (d : Decoded) (to more : ℕ) → CodeHas site offset (d ∷ []) → act d s ≡ Some (at (wrap (site.base + to)) s.values) → to % 2 ≡ 0 → to + more ≤ length site.bytes → 0 < size → InCourse site offset size Such s → Comes site to more Such s
 leads {site} {s = s} d to more has acts even room some k =
     let t = at (wrap (site.base + to)) s.values in
@@ -350,22 +279,3 @@ lower_whole z low =
     let both = and_parts (is_splittable z) (low64 (upper_of z) == 0) low in
     let none : low64 (upper_of z) ≡ 0 = eqb-true (low64 (upper_of z)) 0 both.1 in
     omega (arith, (offset_sums z both.0), none)
-
-pub number_even : (flags : IsaFlags) (rd : ℕ) (z : ℤ) → size_of (number_slots flags rd z) % 2 ≡ 0
-number_even flags rd z = closed_even (λ k. None) 0 (number_slots flags rd z) ((numbers flags rd z).closed _ 0)
-
--- the number, modulo 2 ^ 64, and nothing else
-pub number_goes : {site : Site} {offset : ℕ} {s : State} (allocated rd : ℕ) (z : ℤ) → 0 < rd → rd < 32 → IsState s → IsAt site offset (size_of (number_slots site.context.flags rd z)) s → StandsIn site allocated offset (number_slots site.context.flags rd z) → Sets site.context.flags (size_of (number_slots site.context.flags rd z)) s rd (wrap (low64 z))
-number_goes {site} {offset} {s} allocated rd z some lt is_state =
-    let flags = site.context.flags in
-    (elim (is_low z) as (λ low. is_low z ≡ low → IsAt site offset (size_of (slots_by flags rd z low)) s → StandsIn site allocated offset (slots_by flags rd z low) → Sets flags (size_of (slots_by flags rd z low)) s rd (wrap (low64 z))) [
-      | true ↦ λ low h stands. sets_alone allocated (short_rri flags Addi rd 0 (lower_of z)) rd _ (wrap (low64 z)) (rri_sized flags Addi rd 0 (lower_of z)) (lower_whole z low) (rri_acts flags Addi rd 0 (lower_of z) s refl is_state) h stands
-      | false ↦ λ high h stands. offset_goes allocated rd z some lt is_state h stands
-    ]) refl
-
--- and on the way of a machine
-pub number_comes : {site : Site} {offset size : ℕ} {Such : Values → Type 0} {s : State} (After : Values → Type 0) (allocated rd x : ℕ) (z : ℤ) → 0 < rd → rd < 32 → wrap (low64 z) ≡ x → StandsIn site allocated offset (number_slots site.context.flags rd z) → InCourse site offset (size_of (number_slots site.context.flags rd z) + size) Such s → After (set_reg s.values rd x) → Comes site (offset + size_of (number_slots site.context.flags rd z)) size After s
-number_comes {site} {s = s} After allocated rd x z some lt is stands k after =
-    let flags = site.context.flags in
-    let n = size_of (number_slots flags rd z) in
-    sets_comes After n rd x (number_even flags rd z) lt (omega arith) (subst (λ m. Sets flags n s rd m) is (number_goes allocated rd z some lt k.is_state (shorter n k.here (omega arith)) stands)) k after

@@ -1,21 +1,29 @@
 -- Where pieces stand, the machine does what their evaluation says.
-use Rattle.{rv_code.proofs.Courses.{SetsIn, label_goes, literal_goes, literal_long, shorter, stands_split, symbol_goes}, rv_code.proofs.Registers.are_values_set, rv_code.proofs.StackRuns.{load_fits, placed_after, put_values, stored_bytes}}
-use Rattle.{rv_code.proofs.Steps.{aims_at, istep_here, iter_after, iter_none, iter_one}, rv_code.proofs.Words.{IsAt, Site, StandsIn, State, Values, ints, load_op, same_Some, set_reg, short_jump, slots_of, store_bytes, store_op, trap_bytes, trap_size, wrap}, rv_code.specs.InstRuns.environment}
-use Rattle.{rv_code.specs.Pieces.{Lui, Store}, rv_code.specs.Slots.{AddressOf, SlotOf}, rv_inst.specs.Addresses.inline_size, rv_inst.specs.Meaning.Environment, rv_machine.specs.Steps.iter, rv_ops.specs.declared.memory.LoadOP.TheVariants.Ld}
-use Rattle.std.proofs.Common.{◌≡◌, ℕ, zero, suc, ◌+◌, ◌*◌, ◌%◌, ◌^◌, ◌<◌, ◌≤◌, ℤ, Bool, true, false, nat_eq, [], ◌∷◌, List, length, Option, Some, None, arith, refl, sym, ap, subst, ◌∙◌, lit<, lit≤, eqb-true, if◌then◌else◌, rules}
-use Rattle.rv_code.proofs.Words.{act, Action, after, alu_result_fits, AreInRange, AreValues, at, between, Bind, Branch, branches, CodeHas, Constant, Copy, Decoded, Do, Equal, holds, IntCC, IsaFlags, IsInRange, IsPlacedAt, IsState, istep, Jump, low64, New, op_of, own_label, Piece, piece_size, reg}
-use Rattle.rv_code.specs.Evaluation.{AreShort, distant_value, literal_value, symbol_value, Point, at as points, to, address, is_of_integers, effect, wrote, AllOutside, next, and_then, evaluate, steps_for, steps_on, steps_of, StandIn, IsAtPoint, ComesToPoint}
-use Rattle.rv_code.proofs.Words.{Distant, Literal, NameAddress, OfLabel, OfSymbol, Take, Word32, Word64, distant_slots, literal_slots, literal_size, size_of, slots_for}
-use Rattle.rv_code.proofs.OperationActs.{rrr_fits, HasSize, rrr_acts, rri_acts, lui_acts, rrr_sized, rri_sized, lui_sized, load_acts, load_sized, store_acts, store_sized, jump_acts, window_long, least_even, least_some}
+use Rattle.rv_code.{proofs.Courses.{SetsIn, label_goes, label_load_goes, literal_goes, literal_long, shorter, stands_split, symbol_goes}, proofs.Memories.{load_fits, placed_after, put_values, stored_bytes}}
+use Rattle.rv_code.{proofs.OperationActs.{rrr_fits, HasSize, rri_acts, rrr_sized, rri_sized, lui_sized, jalr_sized, load_sized, store_sized, jump_acts, window_long, least_even, least_some, short_rrr_does, short_lui_does, short_load_does, short_store_does}, proofs.Registers.are_values_set}
+use Rattle.rv_code.proofs.Steps.{aims_at, istep_here, iter_after, iter_none, iter_one}
+use Rattle.rv_code.proofs.Words.{IsAt, Site, StandsIn, State, Values, ints, load_op, same_Some, set_reg, short_jump, slots_of, store_bytes, store_op, trap_bytes, trap_size, wrap, is_float_load, is_float_store, label_load_slots, act, Action, after, alu_result_fits}
+use Rattle.rv_code.proofs.Words.{AreInRange, AreValues, at, between, Bind, Branch, branches, CodeHas, Constant, Copy, Decoded, Do, Equal, holds, IntCC, IsaFlags, IsInRange, IsPlacedAt, IsState, istep, Jump, low64, New, op_of, own_label, Piece, piece_size, reg, Distant}
+use Rattle.rv_code.proofs.Words.{Literal, NameAddress, OfLabel, OfSymbol, Take, Word32, Word64, distant_slots, literal_slots, literal_size, size_of, slots_for}
+use Rattle.rv_code.specs.Evaluation.{label_value, AreShort, distant_value, literal_value, symbol_value, Point, at as points, to, address, is_of_integers, effect, wrote, AllOutside, next, and_then, evaluate, steps_for, steps_on, steps_of, StandIn, IsAtPoint, ComesToPoint}
+use Rattle.{rv_code.{specs.InstRuns.environment, specs.Pieces.{Rrr, Rri, Frr, Go, Jalr, GoNowhere, IsNoLabel, Load, LoadFrom, Lui, Name, Note, Store}, specs.Slots.{AddressOf, SlotOf}}, rv_inst.{proofs.PlainInsts.not_true, specs.Addresses.inline_size, specs.Meaning.Environment}}
+use Rattle.{rv_machine.specs.Steps.iter, rv_ops.specs.declared.memory.LoadOP.TheVariants.Ld}
+use Rattle.std.proofs.Common.{◌≡◌, ◌⊎◌, ⊎_elim, inl, inr, ℕ, zero, suc, ◌+◌, ◌*◌, ◌%◌, ◌^◌, ◌<◌, ◌≤◌, ℤ, Bool, true, false, nat_eq, [], ◌∷◌, List, length, Option, Some, None, arith, refl, sym, ap, subst, ◌∙◌, lit<, lit≤, eqb-true, if◌then◌else◌, rules}
 
 pub action_sized : (flags : IsaFlags) (a : Action) → HasSize (op_of flags a)
 action_sized flags (Copy width rd rs) = record { even = refl; some = lit< tt; few = lit≤ tt }
+action_sized flags (Frr op width rd rs) = record { even = refl; some = lit< tt; few = lit≤ tt }
 action_sized flags _ = search (rules, rrr_sized, rri_sized, lui_sized, load_sized, store_sized)
 
 -- one of integers, in whatever form it stands
 action_acts : (flags : IsaFlags) (a : Action) (s : State) → is_of_integers a ≡ true → IsInRange a → IsState s → act (op_of flags a) s ≡ Some (at (wrap (s.pc + (op_of flags a).len)) (effect a s.values))
 action_acts flags (Copy width rd rs) s e h is = absurd (cc)
-action_acts flags _ s e h is = search (rules, rrr_acts, rri_acts, lui_acts, load_acts, store_acts)
+action_acts flags (Frr op width rd rs) s e h is = absurd (cc)
+action_acts flags (Rrr op rd a b) s e h is = (short_rrr_does flags op rd a b).acts s is.values
+action_acts flags (Rri op rd rs imm) s e h is = rri_acts flags op rd rs imm s h.1 is
+action_acts flags (Lui rd imm) s e h is = (short_lui_does flags rd imm).acts s is.values
+action_acts flags (Load op rd base offset) s e h is = (short_load_does flags op rd base offset (not_true (is_float_load op) e)).acts s is.values
+action_acts flags (Store op base src offset) s e h is = (short_store_does flags op base src offset (not_true (is_float_store op) e)).acts s is.values
 
 pub effect_values : (a : Action) (v : Values) → IsInRange a → AreValues v → AreValues (effect a v)
 effect_values (Lui rd imm) v h hv = are_values_set v rd (wrap (low64 imm * 2 ^ 12)) hv h (omega arith)
@@ -40,6 +48,7 @@ trap_long flags = elim flags.has_zca as (λ c. (if c then 2 else 4) ≡ length {
 
 pub piece_even : (flags : IsaFlags) (p : Piece) → piece_size flags p % 2 ≡ 0
 piece_even flags (Do a) = (action_sized flags a).even
+piece_even flags (Jalr link rs offset) = (jalr_sized flags link rs offset).even
 piece_even flags (Constant rd l) =
     let bytes : literal_size l % 2 ≡ 0 = elim l as (λ l. literal_size l % 2 ≡ 0) [ Word32 n ↦ refl | _ ↦ refl ] in
     omega (arith, least_even flags)
@@ -48,6 +57,8 @@ piece_even flags _ = omega (arith, window_long flags, least_even flags, trap_lon
 -- how long the slots of a piece are
 pub slots_long : (flags : IsaFlags) (p : Piece) → size_of (slots_for flags p) ≡ piece_size flags p
 slots_long flags (Take rd (OfLabel l)) = refl
+slots_long flags (LoadFrom op rd None l) = refl
+slots_long flags (LoadFrom op rd (Some code) l) = refl
 slots_long flags (Constant rd l) = literal_long flags rd l
 slots_long flags (Take rd to) = refl
 slots_long flags p = omega (arith, trap_long flags)
@@ -61,6 +72,7 @@ rest {site} {allocated} {start} {end} p ps k =
       k,
       (piece_even site.context.flags p),
       (ranges p k.ranges),
+      (nowhere p k.bounds),
       (subst (λ n. StandsIn site allocated (start + n) (slots_of site.context.flags ps)) (slots_long site.context.flags p) (stands_split site allocated start (slots_for site.context.flags p) (slots_of site.context.flags ps) k.stand).1),
     )
   where
@@ -68,7 +80,16 @@ rest {site} {allocated} {start} {end} p ps k =
     ranges (Do a) h = h.1
     ranges (Constant rd l) h = h.1
     ranges (Take rd to) h = h.1
+    ranges (LoadFrom op rd trap l) h = h.1
     ranges _ h = h
+
+    nowhere : (p : Piece) → GoNowhere (p ∷ ps) ⊎ AreShort site → GoNowhere ps ⊎ AreShort site
+    nowhere (Take rd to) (inl h) = inl h.1
+    nowhere (LoadFrom op rd trap l) (inl h) = absurd h
+    nowhere (Name constant) (inl h) = absurd h
+    nowhere (Go l) (inl h) = absurd h
+    nowhere p (inl h) = inl h
+    nowhere p (inr h) = inr h
 
 -- where an own label is bound
 record IsBound (site : Site) (allocated start end k : ℕ) (ps : List Piece) : Type 0 where
@@ -147,8 +168,9 @@ sets_here {site} {ps = ps} {s = s} p rd x steps ran fits lt same h =
 pub literal_fits : (env : Environment) (l : Literal) → literal_value env l < 2 ^ 64
 literal_fits env l = elim l as (λ l. literal_value env l < 2 ^ 64) [ Word32 n ↦ omega (arith, ints) | Word64 n ↦ omega arith | NameAddress name addend ↦ omega arith ]
 
-distant_goes : {site : Site} {offset : ℕ} {s : State} (first last allocated rd : ℕ) (to : Distant) → 0 < rd → rd < 32 → AreShort site → IsState s → IsAt site offset 8 s → StandsIn site allocated offset (distant_slots rd to) → SetsIn 2 site.context.flags 8 s rd (distant_value (environment site first last) to s.values.mem)
-distant_goes first last allocated rd (OfLabel l) some lt bounds is_state h stands = label_goes allocated rd l some lt bounds is_state h stands
+distant_goes : {site : Site} {offset : ℕ} {s : State} (first last allocated rd : ℕ) (to : Distant) → 0 < rd → rd < 32 → IsNoLabel to ⊎ AreShort site → IsState s → IsAt site offset 8 s → StandsIn site allocated offset (distant_slots rd to) → SetsIn 2 site.context.flags 8 s rd (distant_value (environment site first last) to s.values.mem)
+distant_goes first last allocated rd (OfLabel l) some lt (inl none) is_state h stands = absurd none
+distant_goes first last allocated rd (OfLabel l) some lt (inr bounds) is_state h stands = label_goes allocated rd l some lt bounds is_state h stands
 distant_goes first last allocated rd (OfSymbol symbol) some lt bounds is_state h stands = symbol_goes first last allocated rd symbol some lt is_state h stands
 
 pub distant_fits : (site : Site) (first last : ℕ) (to : Distant) (s : State) → IsState s → distant_value (environment site first last) to s.values.mem < 2 ^ 64
@@ -170,8 +192,24 @@ one {site} {allocated} {start} {end} first last whole k (Take rd to ∷ ps) v m 
     let flags = site.context.flags in
     let range = h.stand.ranges.0 in
     let there = stands_split site allocated h.offset (distant_slots rd to) (slots_of flags ps) h.stand.stand in
-    let goes = distant_goes first last allocated rd to range.0 range.1 h.stand.bounds h.is_state (shorter 8 h.here (omega arith)) there.0 in
+    let bounds : IsNoLabel to ⊎ AreShort site = ⊎_elim (λ (n : GoNowhere (Take rd to ∷ ps)). inl n.0) (λ (b : AreShort site). inr b) h.stand.bounds in
+    let goes = distant_goes first last allocated rd to range.0 range.1 bounds h.is_state (shorter 8 h.here (omega arith)) there.0 in
     is_there site allocated start end e (sets_here (Take rd to) rd (distant_value (environment site first last) to s.values.mem) 2 goes.ran (distant_fits site first last to s h.is_state) range.1 (ap (λ w. set_reg w rd (distant_value (environment site first last) to w.mem)) h.values) h)
+one {site} {allocated} {start} {end} first last whole k (LoadFrom op rd trap l ∷ ps) v m q s e out h =
+    let flags = site.context.flags in
+    let env = environment site first last in
+    let x = label_value env op l s.values.mem in
+    let range = h.stand.ranges.0 in
+    let bounds : AreShort site = ⊎_elim (λ (n : GoNowhere (LoadFrom op rd trap l ∷ ps)). absurd n) (λ (b : AreShort site). b) h.stand.bounds in
+    (elim (is_float_load op) as (λ c. is_float_load op ≡ c → (if c then None else Some (points ps (set_reg v rd (label_value env op l v.mem)) m)) ≡ Some q → ComesToPoint 2 site allocated start end q s) [
+      | true ↦ λ float f. absurd (cc)
+      | false ↦ λ integer f.
+          let stands = subst (λ (c : Bool). StandsIn site allocated h.offset (label_load_slots (if c then 31 else rd) rd op trap l)) integer (stands_split site allocated h.offset (slots_for flags (LoadFrom op rd trap l)) (slots_of flags ps) h.stand.stand).0 in
+          let goes = label_load_goes allocated rd op trap l integer (range.0 integer) range.1 bounds h.is_state (shorter 8 h.here (omega arith)) stands in
+          is_there site allocated start end f (sets_here (LoadFrom op rd trap l) rd x 2 goes.ran (load_fits (load_op op) s.values.mem (env.label l.number) h.is_state.values.bytes) range.1 (ap (λ w. set_reg w rd (label_value env op l w.mem)) h.values) h)
+    ]) refl e
+one {site} {allocated} {start} {end} first last whole k (Note event ∷ ps) v m q s e out h = is_there site allocated start end e (passes (Note event) refl h)
+one {site} {allocated} {start} {end} first last whole k (Name constant ∷ ps) v m q s e out h = is_there site allocated start end e (passes (Name constant) refl h)
 one {site} {allocated} {start} {end} first last whole k (Branch how a b j ∷ ps) v m q s e out h =
     let aim = h.stand.stand.0 in
     let test = holds how (reg s.values a) (reg s.values b) in
@@ -200,6 +238,9 @@ one_earlier : (env : Environment) (site : Site) (whole ps : List Piece) (v : Val
 one_earlier env site whole (Do a ∷ ps) v m q e out =
     (elim (is_of_integers a) as (λ c. (if c then Some (points ps (effect a v) (wrote a v m)) else None) ≡ Some q → AllOutside site m)
     [ true ↦ λ f. wrote_earlier site a v m (outside_at site f out) | false ↦ λ f. absurd (cc) ]) e
+one_earlier env site whole (LoadFrom op rd trap l ∷ ps) v m q e out =
+    (elim (is_float_load op) as (λ c. (if c then None else Some (points ps (set_reg v rd (label_value env op l v.mem)) m)) ≡ Some q → AllOutside site m)
+    [ true ↦ λ f. absurd (cc) | false ↦ λ f. outside_at site f out ]) e
 one_earlier env site whole (Branch how a b k ∷ ps) v m q e out =
     (elim (holds how (reg v a) (reg v b)) as (λ c. (if c then to (after k whole) v m else Some (points ps v m)) ≡ Some q → AllOutside site m)
     [ true ↦ λ f. to_earlier site (after k whole) v m q f out | false ↦ λ f. outside_at site f out ]) e

@@ -8,6 +8,9 @@ pub mod Registers
 pub mod ZeroNumbers
 pub mod ReversedBytes
 pub mod LongSlots
+pub mod Memories
+pub mod Reaching
+pub mod StackLoads
 pub mod StackRuns
 pub mod LineOperands
 pub mod LineSlots

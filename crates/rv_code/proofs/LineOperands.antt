@@ -1,36 +1,40 @@
 -- What loads, stores, addresses, calls and returns that break no rule give, and what the words of each instruction ask.
-use Rattle.std.proofs.Common.{◌≡◌, ℕ, ◌<◌, false, List, [], ◌∷◌, length, Option, Some, None, refl, ap, subst, lit<, arith, ◌-◌, ◌^◌, not, ℤ, pos, negsuc, ◌+◌, true, ◌-ℤ◌, ◌++◌, ◌==◌, Bool, sym, ◌∙◌, ◌*◌, ◌≤◌, ◌||◌, ◌&&◌, if◌then◌else◌, int_lt, is_none, slice_get, nat_le, rules, eqb-true, unwrap_or}
-use Rattle.rv_code.proofs.Words.{address_targets, AllByRecursion, AluRRR, AMode, AreFineResults, AreOfClass, AreReal, breaks_none, BrTable, Call, CallInd, CallInfo, CallRetPair, class_of, CondBr, Const, Context, def_registers, differ_in_class, either_into, eqb-false, exceeds_arguments}
-use Rattle.rv_code.proofs.Words.{Extend, ExternalName, Float, FrameLayout, I8, InReg, Inst, inst_rule, inst_sum, Int, ints, is_base, is_buffer_label, is_distant, is_fifth, is_high, is_high_at, is_int_class, is_int_type, is_into_stack, is_loaded_from, is_not_of, is_on_stack, is_other_class}
-use Rattle.rv_code.proofs.Words.{is_out_of_place, is_reserved, is_shorter, is_stack, is_unloadable, is_vector_class, is_virtual, is_zero, IsApart, IsFine, IsFineAddress, IsFineResult, IsFineTry, IsFineUnit, IsIntRegister, IsUsable, LabelAddress, labels_of, lacks_constant, lacks_named, Ld, leb-false}
-use Rattle.rv_code.proofs.Words.{list_any, Load, load_class, load_format, load_size, LoadAddr, LoadInlineConst, LoadOP, loads_unless, location_differs, location_loads, location_of, location_registers, ltb-false, MachLabel, MemFlagsData, Mov, MovFromPReg, number_of, OnStack, or_parts, PReg}
-use Rattle.rv_code.proofs.Words.{RawData, Real, Reg, RegClass, registers_in, RegOffset, restores, result_loads, results_clash, RetLocation, ReturnCall, ReturnCallInd, same_class, saved_load, saves_from, Select, setup_loads, slice_get_within, sp_to_args_end, sp_to_fp_of, StackLoad, Store}
-use Rattle.rv_code.proofs.Words.{store_class, StoreOP, tail_call_of, TryCallInfo, UnitWord, use_registers, Vector, Virtual, Writable}
-use Rattle.rv_inst.specs.Descriptions.{sequence_registers, third}
-use Rattle.rv_inst.specs.declared.inst.Inst.TheVariants.{Jal}
-use Rattle.rv_inst.specs.declared.sequence.Sequence.{Sequence}
-use Rattle.rv_code.specs.Usable.{IsFineSequence}
-use Rattle.rv_base.specs.declared.constant.Constant.{Constant}
-use Rattle.rv_base.specs.AMode.{IsNear, base_of, own_offset, registers_of}
-use Rattle.rv_inst.specs.Frames.{is_unsaved, is_t0, is_bad_frame, is_bad_frame_for}
-use Rattle.rv_inst.specs.declared.tail_calls.TailCall.{TailCall}
-use Rattle.rv_base.specs.declared.call.CallArgPair.{CallArgPair}
-use Rattle.rv_base.specs.declared.call.ReturnCallInfo.{ReturnCallInfo}
-use Rattle.rv_code.proofs.Courses.{IsUsableAt, IsRealAt, IsApartAt}
-use Rattle.rv_code.proofs.OperationActs.{IsIntegerLoad, IsIntegerStore}
-use Rattle.rv_code.proofs.Operands.{Keeps, AreUsable, are_usable, not_zero, listed, or_left, or_right, is_real, numbers_differ, keeps, none_of_both, listed_try, call_usable, not_false, data_kept, constant_kept, move_kept, preg_usable, listed_targets, extend_kept, select_fine, table_fine, usable_of}
-use Rattle.rv_code.proofs.Operands.{number_low, by_none, other_number, one_class}
-use Rattle.rv_code.proofs.StackRuns.{IsLoadable, IsLoadableAs, AreStackLoads, IsOtherAs, AreOthersAs}
+use Rattle.{rv_base.{specs.AMode.{IsNear, base_of, own_offset, registers_of}, specs.declared.call.CallArgPair.CallArgPair, specs.declared.call.ReturnCallInfo.ReturnCallInfo, specs.declared.constant.Constant.Constant}, rv_code.proofs.Courses.{IsUsableAt, IsRealAt, IsApartAt}}
+use Rattle.rv_code.{proofs.Operands.{Keeps, AreUsable, are_usable, not_zero, listed, or_left, or_right, is_real, numbers_differ, keeps, none_of_both, not_false, usable_of, number_low, by_none, other_number, one_class}, proofs.OperationActs.{IsIntegerLoad, IsIntegerStore}}
+use Rattle.rv_code.proofs.StackLoads.{IsLoadable, IsLoadableAs, AreStackLoads, IsOtherAs, AreOthersAs}
+use Rattle.rv_code.proofs.Words.{address_targets, AllByRecursion, AMode, AreFineResults, AreOfClass, AreReal, breaks_none, Call, CallInd, CallInfo, CallRetPair, class_of, Const, Context, def_registers, differ_in_class, either_into, eqb-false, exceeds_arguments}
+use Rattle.rv_code.proofs.Words.{ExternalName, Float, FrameLayout, I8, InReg, Inst, inst_rule, inst_sum, Int, ints, is_base, is_buffer_label, is_distant, is_fifth, is_high, is_high_at, is_int_class, is_int_type, is_into_stack, is_loaded_from, is_not_of, is_on_stack}
+use Rattle.rv_code.proofs.Words.{is_other_class, is_out_of_place, is_reserved, is_shorter, is_stack, is_unloadable, is_vector_class, is_virtual, is_zero, IsFineAddress, IsFineResult, IsFineUnit, IsIntRegister, IsUsable, LabelAddress, labels_of, lacks_constant}
+use Rattle.rv_code.proofs.Words.{lacks_named, Ld, leb-false, list_any, Load, load_class, load_format, load_size, LoadAddr, LoadOP, loads_unless, location_differs, location_loads, location_of, location_registers, ltb-false, MachLabel, MemFlagsData, number_of, OnStack}
+use Rattle.rv_code.proofs.Words.{or_parts, PReg, Real, Reg, RegClass, registers_in, RegOffset, restores, result_loads, results_clash, RetLocation, ReturnCall, ReturnCallInd, same_class, saved_load, saves_from, setup_loads, slice_get_within, sp_to_args_end, sp_to_fp_of}
+use Rattle.{rv_code.{proofs.Words.{StackLoad, Store, inst_registers, is_float_load, is_misplaced, IsRealRegister, store_class, StoreOP, tail_call_of, UnitWord, use_registers, Vector, Virtual, Writable}, specs.Usable.{IsFineSequence, KeepsRules}}, rv_inst.specs.Context.context_by}
+use Rattle.rv_inst.{specs.Descriptions.{sequence_of, sequence_registers, third, unit_word}, specs.Frames.{is_unsaved, is_t0, is_bad_frame, is_bad_frame_for}, specs.declared.inst.Inst.TheVariants.Nop0, specs.declared.sequence.Sequence.Sequence, specs.declared.tail_calls.TailCall.TailCall}
+use Rattle.std.proofs.Common.{◌≡◌, ℕ, ◌<◌, false, List, [], ◌∷◌, length, Option, Some, None, refl, ap, subst, lit<, arith, ◌-◌, ◌^◌, not, ℤ, pos, negsuc, ◌+◌, true, ◌-ℤ◌, ◌++◌, ◌==◌, Bool, sym, ◌∙◌, ◌*◌, ◌≤◌, ◌||◌, ◌&&◌, if◌then◌else◌, int_lt, is_none, IfSome}
+use Rattle.std.proofs.Common.{slice_get, nat_le, rules, eqb-true, unwrap_or}
 use Rattle.rv_inst.specs.declared.error.Rule.TheVariants as rule
+
+-- ---- what an instruction that is of some kind, and breaks no rule, gives.
+
+-- it keeps the rules of its context
+pub keeps_rules : (context : Context) (inst : Inst) → inst_rule context inst ≡ None → KeepsRules context.constants inst
+keeps_rules context inst e = record { flags = context.flags; frame = context.frame; rule = e }
+
+-- what its kind keeps
+pub kept : {constants : List Constant} {inst other : Inst} → inst ≡ other → KeepsRules constants inst → Keeps other
+kept {constants} {inst} {other} is h = subst Keeps is (keeps (context_by h.flags h.frame constants) inst h.rule)
+
+-- integer registers below x30, where each of its registers is to be one
+pub ints_kept : {constants : List Constant} {inst other : Inst} → inst ≡ other → KeepsRules constants inst → is_misplaced other ≡ list_any is_other_class (inst_registers other) → AreUsable (inst_registers other)
+ints_kept {constants} {inst} {other} is h all = let k = kept is h in are_usable (inst_registers other) k.real (sym all ∙ k.placed) k.free
+
+-- the constant that is named among those that there are
+constant_there : {constants : List Constant} {inst other : Inst} → inst ≡ other → KeepsRules constants inst → lacks_constant constants other ≡ false
+constant_there {constants} {inst} {other} is h = subst (λ i. lacks_constant constants i ≡ false) is (breaks_none (context_by h.flags h.frame constants) inst h.rule rule.Constant)
 
 -- ---- what loads, stores and addresses that break no rule give of their registers, offsets and labels.
 
 near : (o : ℤ) → is_distant o ≡ false → IsNear o
 near o e = let both = or_parts (int_lt o (negsuc (2 ^ 62 - 1))) (int_lt (pos (2 ^ 62)) o) e in (omega (arith, ints), omega (arith, ints))
-
-apart : (r : Reg) (mode : AMode) → IsUsable r → AreUsable (registers_of mode) → is_base r (base_of mode) ≡ false → IsApart r (base_of mode)
-apart r (RegOffset base o) h all e = search (rules, numbers_differ)
-apart r _ h all e = search (rules, numbers_differ)
 
 -- a constant that doesn't lack bytes is there
 is_there : (constants : List Constant) (size n : ℕ) → is_shorter (slice_get constants n) size ≡ false → n < length constants
@@ -50,9 +54,9 @@ real_at : (frame : FrameLayout) (r : Reg) (mode : AMode) → IsUsable r → (is_
 real_at frame r (Const k) h e = search (rules, not_zero)
 real_at frame r _ h e = search (rules, not_zero)
 
-apart_at : (frame : FrameLayout) (r : Reg) (mode : AMode) → 0 < number_of r → IsApart r (base_of mode) → IsApartAt (number_of r) (location_of frame mode)
-apart_at frame r (Const k) real h = search rules
-apart_at frame r _ real h = search rules
+apart_at : (frame : FrameLayout) (r : Reg) (mode : AMode) → IsUsable r → AreUsable (registers_of mode) → is_base r (base_of mode) ≡ false → 0 < number_of r → IsApartAt (number_of r) (location_of frame mode)
+apart_at frame r (Const k) h all e real = search rules
+apart_at frame r _ h all e real = search (rules, numbers_differ)
 
 -- a register that an access moves, and those that its address counts from
 record IsAccess (class : RegClass) (r : Reg) (mode : AMode) : Type 0 where
@@ -87,6 +91,18 @@ load_kept frame rd op flags from integer k =
 pub store_kept : (frame : FrameLayout) (to : AMode) (op : StoreOP) (flags : MemFlagsData) (src : Reg) → IsIntegerStore op → Keeps (Store src op flags to) → IsUsable src × IsUsableAt (location_of frame to)
 store_kept frame to op flags src integer k = let a = access (store_class op) src to k.real k.placed k.free in (usable_int (store_class op) src to (ap (λ c. if c then Float else Int) integer) a, usable_at frame to a.address)
 
+-- what their words ask
+pub load_fine : {constants : List Constant} {inst : Inst} {rd : Writable Reg} {op : LoadOP} {flags : MemFlagsData} {from : AMode} → inst ≡ Load rd op flags from → KeepsRules constants inst → IsRealRegister rd.reg × (is_float_load op ≡ false → IsIntRegister rd.reg) × IsFineAddress constants from
+load_fine {constants} {inst} {rd} {op} {flags} {from} is h =
+    let k = kept is h in let a = access (load_class op) rd.reg from k.real k.placed k.free in
+    (is_real rd.reg a.real, (λ integer. (usable_int (load_class op) rd.reg from (loads_int op integer) a).0), fine_address constants (load_size op) from a.address k.ranged k.listed (constant_there is h))
+
+pub store_fine : {constants : List Constant} {inst : Inst} {to : AMode} {op : StoreOP} {flags : MemFlagsData} {src : Reg} → inst ≡ Store src op flags to → KeepsRules constants inst → IsRealRegister src × IsFineAddress constants to
+store_fine {constants} {inst} {to} {op} {flags} {src} is h = let k = kept is h in let a = access (store_class op) src to k.real k.placed k.free in (is_real src a.real, fine_address constants 0 to a.address k.ranged k.listed (constant_there is h))
+
+pub load_addr_fine : {constants : List Constant} {inst : Inst} {rd : Writable Reg} {mem : AMode} → inst ≡ LoadAddr rd mem → KeepsRules constants inst → IsIntRegister rd.reg × IsFineAddress constants mem
+load_addr_fine {constants} {inst} {rd} {mem} is h = let k = kept is h in let all = ints_kept is h refl in (all.0.0, fine_address constants 0 mem all.1 k.ranged k.listed (constant_there is h))
+
 -- of any register
 pub full_load_kept : (frame : FrameLayout) (rd : Writable Reg) (op : LoadOP) (flags : MemFlagsData) (from : AMode) → Keeps (Load rd op flags from) → (number_of rd.reg < 32) × IsUsableAt (location_of frame from)
 full_load_kept frame rd op flags from k = let a = access (load_class op) rd.reg from k.real k.placed k.free in (number_low rd.reg a.real, usable_at frame from a.address)
@@ -104,7 +120,7 @@ pub load_addr_kept : (frame : FrameLayout) (rd : Writable Reg) (mem : AMode) →
 load_addr_kept frame rd mem k =
     let all = are_usable (rd.reg ∷ registers_of mem) k.real k.placed k.free in
     let real = not_zero rd.reg all.0 k.counted in
-    record { usable = all.0; real = real; based = usable_at frame mem all.1; apart = apart_at frame rd.reg mem real (apart rd.reg mem all.0 all.1 k.apart) }
+    record { usable = all.0; real = real; based = usable_at frame mem all.1; apart = apart_at frame rd.reg mem all.0 all.1 k.apart real }
 
 pub label_address_kept : (dst : Writable Reg) (label : MachLabel) → Keeps (LabelAddress dst label) → IsUsable dst.reg × (0 < number_of dst.reg)
 label_address_kept dst label k = let usable = (are_usable (dst.reg ∷ []) k.real k.placed k.free).0 in (usable, not_zero dst.reg usable (or_left (is_zero dst.reg) false k.counted))
@@ -210,29 +226,6 @@ pub unless_loadable : (patchable : Bool) (defs : List CallRetPair) → AreStackL
 unless_loadable true defs h = tt
 unless_loadable false defs h = h
 
--- what a call asks of what it puts
-pub record CallAsks (t : Option TryCallInfo) (defs : List CallRetPair) : Type 0 where
-  pub goes_on : IsFineTry t
-  pub results : AreFineResults defs
-
-pub call_asks : (context : Context) (inst : Inst) (info : CallInfo ExternalName) → inst ≡ Call info → inst_rule context inst ≡ None → CallAsks info.try_call_info info.defs
-call_asks context inst info is rule = let k = keeps context (Call info) (ap (inst_rule context) (sym is) ∙ rule) in record { goes_on = listed_try info.try_call_info k.listed_try; results = (call_kept info k).results }
-
-pub record CallIndAsks (called : Reg) (t : Option TryCallInfo) (defs : List CallRetPair) : Type 0 where
-  pub dest : IsIntRegister called
-  pub goes_on : IsFineTry t
-  pub results : AreFineResults defs
-
-pub call_ind_asks : (context : Context) (inst : Inst) (info : CallInfo Reg) → inst ≡ CallInd info → inst_rule context inst ≡ None → CallIndAsks info.dest info.try_call_info info.defs
-call_ind_asks context inst info is rule = let k = keeps context (CallInd info) (ap (inst_rule context) (sym is) ∙ rule) in record { dest = (call_usable info k).0; goes_on = listed_try info.try_call_info k.listed_try; results = (call_ind_kept info k).results }
-
--- by what the code knows of it
-pub fine_try : (constants : List Constant) (inst : Inst) (info : CallInfo ExternalName) → inst ≡ Call info → IsFine constants inst → IsFineTry info.try_call_info
-fine_try constants inst info is h = (subst (IsFine constants) is h).0
-
-pub fine_ind : (constants : List Constant) (inst : Inst) (info : CallInfo Reg) → inst ≡ CallInd info → IsFine constants inst → IsIntRegister info.dest × IsFineTry info.try_call_info
-fine_ind constants inst info is h = let f = subst (IsFine constants) is h in (f.0, f.1)
-
 -- ---- what a tail call that breaks no rule gives: its register is t0, and its frame can be taken away.
 
 fifth_fine : (r : Reg) → is_fifth r ≡ true → IsIntRegister r × (number_of r ≡ 5)
@@ -253,55 +246,28 @@ tail_sum context inst info is = ap (inst_sum context) is ∙ omega arith
 pub jump_sum : (context : Context) (inst : Inst) (info : ReturnCallInfo Reg) → inst ≡ ReturnCallInd info → inst_sum context inst ≡ 128 + 32 * length context.frame.clobbered_callee_saves
 jump_sum context inst info is = ap (inst_sum context) is ∙ omega arith
 
-pub target_kept : (context : Context) (inst : Inst) (info : ReturnCallInfo Reg) → inst ≡ ReturnCallInd info → inst_rule context inst ≡ None → IsIntRegister info.dest × (number_of info.dest ≡ 5)
-target_kept context inst info is rule = target_fine info (keeps context (ReturnCallInd info) (ap (inst_rule context) (sym is) ∙ rule))
-
--- ---- an instruction that breaks no rule gives what its words ask.
-
--- an instruction of one register, of two, and a word of a unit
-one_int : (r : Reg) → list_any is_virtual (r ∷ []) ≡ false → list_any is_other_class (r ∷ []) ≡ false → list_any is_reserved (r ∷ []) ≡ false → IsIntRegister r
-one_int r real placed free = (are_usable (r ∷ []) real placed free).0.0
-
-two_ints : (r s : Reg) → list_any is_virtual (r ∷ s ∷ []) ≡ false → list_any is_other_class (r ∷ s ∷ []) ≡ false → list_any is_reserved (r ∷ s ∷ []) ≡ false → IsIntRegister r × IsIntRegister s
-two_ints r s real placed free = let all = are_usable (r ∷ s ∷ []) real placed free in (all.0.0, all.1.0.0)
+-- ---- words of units, and sequences.
 
 unit_fine : (w : UnitWord) → list_any is_virtual (registers_in w.places) ≡ false → list_any is_out_of_place w.places ≡ false → not w.rounding ≡ false → not w.width ≡ false → IsFineUnit w
 unit_fine w real placed rounded wide =
     (by_none is_virtual AreReal tt (λ r rs one others. (is_real r one, others)) (registers_in w.places) real, by_none is_out_of_place AreOfClass tt (λ p ps one others. (sym (one_class (class_of p.reg) p.class one), others)) w.places placed, not_false w.rounding rounded, not_false w.width wide)
 
+-- what the word of a unit asks
+pub word_fine : (inst : Inst) → Keeps inst → IfSome (unit_word inst) (λ (w : UnitWord). IsFineUnit w)
+word_fine Nop0 k = tt
+word_fine inst k = search (rules, k, unit_fine)
+
 third_fine : (s : Sequence) (tmp3 : Option (Writable Reg)) → AreUsable (s.rs ∷ s.tmp1.reg ∷ s.tmp2.reg ∷ third tmp3 ++ s.rd.reg ∷ []) → IsIntRegister (unwrap_or tmp3 s.tmp2).reg × IsIntRegister s.rd.reg
 third_fine s None all = (all.1.1.0.0, all.1.1.1.0.0)
 third_fine s (Some w) all = (all.1.1.1.0.0, all.1.1.1.1.0.0)
 
-sequence_fine : (s : Sequence) → list_any is_virtual (sequence_registers s) ≡ false → list_any is_other_class (sequence_registers s) ≡ false → list_any is_reserved (sequence_registers s) ≡ false → not (is_int_type s.ty) ≡ false → IsFineSequence s
-sequence_fine s real placed free typed =
+computation_fine : (s : Sequence) → list_any is_virtual (sequence_registers s) ≡ false → list_any is_other_class (sequence_registers s) ≡ false → list_any is_reserved (sequence_registers s) ≡ false → not (is_int_type s.ty) ≡ false → IsFineSequence s
+computation_fine s real placed free typed =
     let all = are_usable (sequence_registers s) real placed free in
     let rest = third_fine s s.tmp3 all in
     record { rs = all.0.0; tmp1 = all.1.0.0; tmp2 = all.1.1.0.0; tmp3 = rest.0; rd = rest.1; typed = not_false (is_int_type s.ty) typed }
 
-pub fine : (context : Context) (inst : Inst) → inst_rule context inst ≡ None → IsFine context.constants inst
-fine context inst e = kept inst (keeps context inst e) (breaks_none context inst e rule.Constant)
-  where
-    kept : (inst : Inst) → Keeps inst → lacks_constant context.constants inst ≡ false → IsFine context.constants inst
-    kept (RawData bytes) k there = data_kept bytes k
-    kept (LoadInlineConst rd type imm) k there = (constant_kept rd type imm k).usable.0
-    kept (AluRRR op rd rs1 rs2) k there = let all = are_usable (rd.reg ∷ rs1 ∷ rs2 ∷ []) k.real k.placed k.free in (all.0.0, all.1.0.0, all.1.1.0.0)
-    kept (Mov rd rm type) k there = move_kept rd rm type k
-    kept (MovFromPReg rd rm) k there = let both = preg_usable rd rm k in (both.0.0, both.1.0)
-    kept (Extend rd rn signed from_bits to_bits) k there = let h = extend_kept rd rn signed from_bits to_bits k in (h.0.0, h.1.0, h.2, h.3)
-    kept (Select info) k there = select_fine info.dst info.condition info.x info.y k
-    kept (Load rd op flags from) k there =
-        let a = access (load_class op) rd.reg from k.real k.placed k.free in
-        ((is_real rd.reg a.real, λ integer. (usable_int (load_class op) rd.reg from (loads_int op integer) a).0), fine_address context.constants (load_size op) from a.address k.ranged k.listed there)
-    kept (Store src op flags to) k there = let a = access (store_class op) src to k.real k.placed k.free in (is_real src a.real, fine_address context.constants 0 to a.address k.ranged k.listed there)
-    kept (LoadAddr rd mem) k there =
-        let all = are_usable (rd.reg ∷ registers_of mem) k.real k.placed k.free in
-        (all.0.0, fine_address context.constants 0 mem all.1 k.ranged k.listed there, apart rd.reg mem all.0 all.1 k.apart)
-    kept (LabelAddress dst label) k there = ((label_address_kept dst label k).0.0, listed label false k.listed)
-    kept (Jal label) k there = listed label _ k.listed
-    kept (CondBr taken not_taken kind) k there = let all = two_ints kind.rs1 kind.rs2 k.real k.placed k.free in let both = listed_targets taken not_taken k.listed in (all.0, all.1, both.0, both.1)
-    kept (BrTable index tmp1 tmp2 targets) k there = table_fine index tmp1 tmp2 targets k
-    kept (Call info) k there = (listed_try info.try_call_info k.listed_try, (call_kept info k).results)
-    kept (CallInd info) k there = ((call_usable info k).0, listed_try info.try_call_info k.listed_try, (call_ind_kept info k).results)
-    kept (ReturnCallInd info) k there = target_fine info k
-    kept inst k there = search (rules, k, one_int, two_ints, unit_fine, sequence_fine)
+-- what the sequence of a computation asks
+pub sequence_fine : (inst : Inst) → Keeps inst → IfSome (sequence_of inst) (λ (s : Sequence). IsFineSequence s)
+sequence_fine Nop0 k = tt
+sequence_fine inst k = search (rules, k, computation_fine)

@@ -1,13 +1,16 @@
 -- What lines of loads, stores, addresses, numbers and symbols add to a buffer, and that their parts are self-contained.
 use Rattle.{mach_records.specs.declared.records.Event.Event, mach_uses.specs.declared.uses.Use.Use, rv_base.specs.declared.unwind.UnwindInst.UnwindInst, rv_code.proofs.OperationActs.{jump_len, least_even, least_few, load_sized, lui_sized, rri_sized, rrr_sized, store_sized}}
-use Rattle.{rv_code.proofs.Words.{Constant, Do, Piece, Rri, Word64, Writable, immediate_pieces, number_pieces, offset_pieces, slots_of}, rv_code.specs.Pieces.Lui, rv_inst.specs.Halves.{boxing_size, high_bits, is_moved_first, load_line_own_size, store_line_own_size}, rv_inst.specs.Records.access_records}
+use Rattle.rv_code.proofs.Words.{Constant, Do, Piece, Rri, Word64, Writable, immediate_pieces, number_pieces, offset_pieces, slots_of, access_slots, Add, Addi, address_slots, address_targets, Fixup, Allocate, AMode, AreClosed, AreSelfContained, AtConstant, AtLabel, Base}
+use Rattle.rv_code.proofs.Words.{Based, boxing_slots, cast_signed, Const, constant_label, constant_named, Context, Data, Decoded, decoded, decoded_load, decoded_store, FrameLayout, half_load_slots, has_load, has_store, Here, Inst, inst_constant, inst_records, inst_size}
+use Rattle.rv_code.proofs.Words.{ints, is_near, is_splittable, IsaFlags, IsOfSize, IsReal, Jal20, jump_size, label_of, LabelUse, Lh, Load, load_line_slots, load_over, load_own_size, load_size, load_slots, LoadAddr, LoadOP, Location, location_of, low64, low_word, lower_of}
+use Rattle.rv_code.proofs.Words.{MachRecord, marks_of, MemFlagsData, moved_to_float, moved_to_integer, name_more, named_by, Names, names_of, Records, number_of, number_slots, offset_slots, Op, Or, PCRelHi20, PCRelLo12I, Real, records_of, Reg, RegClass, Sh, short_jump}
+use Rattle.rv_code.proofs.Words.{short_load, short_lui, short_rri, short_rrr, short_store, size_of, Slot, slot_size, Store, store_line_slots, store_own_size, store_slots, StoreOP, target_uses, to_le_bytes, TrapCode, Unwind, upper_of, use_at, uses_in, uses_of, uses_start}
+use Rattle.rv_code.{proofs.Words.{VCodeConstant, Virtual, w64, Action, chosen, Rrr, op_of, slots_for, zca_load, zca_store}, specs.Accesses.{Access, access_pieces, address_pieces, based_pieces, boxing_pieces, far_pieces, half_load_pieces, half_store_pieces, load_pieces, store_access, store_pieces}}
+use Rattle.{rv_code.specs.Pieces.Lui, rv_inst.{specs.Halves.{boxing_size, high_bits, is_moved_first, load_line_own_size, store_line_own_size}, specs.Records.access_records}}
 use Rattle.std.proofs.Common.{◌≡◌, ℕ, ◌+◌, List, [], ◌∷◌, ◌%◌, eqb-true, length, Option, refl, arith, ◌-◌, ◌≤◌, Bool, true, false, ◌++◌, Some, None, ℤ, pos, ap, sym, ◌∙◌, subst, append_assoc, lit≤, append-nil, ◌==◌, ◌^◌, ◌<◌, not, if◌then◌else◌, ◌&&◌, rules}
-use Rattle.rv_code.proofs.Words.{access_slots, Add, Addi, address_slots, address_targets, Fixup, Allocate, AMode, AreClosed, AreSelfContained, AtConstant, AtLabel, Base, Based, boxing_slots, cast_signed, Const, constant_label, constant_named, Context, Data, Decoded, decoded}
-use Rattle.rv_code.proofs.Words.{decoded_load, decoded_store, FrameLayout, half_load_slots, half_store_slots, has_load, has_store, Here, Inst, inst_constant, inst_records, inst_size, ints, is_near, is_splittable}
-use Rattle.rv_code.proofs.Words.{IsaFlags, IsOfSize, IsReal, Jal20, jump_size, label_of, LabelUse, Lh, Load, load_line_slots, load_over, load_own_size, load_size, load_slots, LoadAddr, LoadOP, Location, location_of, low64, low_word}
-use Rattle.rv_code.proofs.Words.{lower_of, MachRecord, marks_of, MemFlagsData, moved_to_float, moved_to_integer, name_more, named_by, Names, names_of, Records, number_of, number_slots, offset_slots, Op, Or, PCRelHi20, PCRelLo12I, Real, records_of, Reg, RegClass, Sh, short_jump}
-use Rattle.rv_code.proofs.Words.{short_load, short_lui, short_rri, short_rrr, short_store, size_of, Slot, slot_size, Store, store_line_slots, store_own_size, store_slots, StoreOP, target_uses, to_le_bytes, TrapCode, Unwind, upper_of, use_at, uses_in, uses_of, uses_start, VCodeConstant, Virtual, w64}
 use Rattle.rv_ops.specs.declared.memory.LoadOP.TheVariants as loads
+use Rattle.rv_ops.specs.declared.memory.StoreOP.TheVariants as stores
+use Rattle.rv_code.specs.Pieces as piece
 use Rattle.rv_machine.specs.declared.ops.BaseOp.TheVariants as base
 use Rattle.mach_records.specs.declared.records.Event.TheVariants as event
 
@@ -134,6 +137,24 @@ followed {l} {own} {records_at} {constant} {slots} {more} same f c =
       closed = λ here start. closed_append here start _ slots more refl (f.closed here start) (c.closed here (start + size_of slots));
     }
 
+-- ---- pieces one after the other
+
+pub slots_append : (flags : IsaFlags) (ps qs : List Piece) → slots_of flags (ps ++ qs) ≡ slots_of flags ps ++ slots_of flags qs
+slots_append flags [] qs = refl
+slots_append flags (p ∷ ps) qs = ap (λ slots. slots_for flags p ++ slots) (slots_append flags ps qs) ∙ sym (append_assoc (slots_for flags p) (slots_of flags ps) (slots_of flags qs))
+
+pub size_both : (flags : IsaFlags) (ps qs : List Piece) → size_of (slots_of flags (ps ++ qs)) ≡ size_of (slots_of flags ps) + size_of (slots_of flags qs)
+size_both flags ps qs = ap size_of (slots_append flags ps qs) ∙ size_append (slots_of flags ps) (slots_of flags qs)
+
+pub both_pieces : {l last : ℕ} {own : ℕ → ℕ → List (Use LabelUse)} {records_at : ℕ → List MachRecord} {constant : Option VCodeConstant} (flags : IsaFlags) (ps qs : List Piece) → HaveContents l none (λ at. []) None (slots_of flags ps) → HaveContents last own records_at constant (slots_of flags qs) →
+    HaveContents last (λ start end. own (start + size_of (slots_of flags ps)) end) records_at constant (slots_of flags (ps ++ qs))
+both_pieces {last = last} {own} {records_at} {constant} flags ps qs f c = subst (HaveContents last (λ start end. own (start + size_of (slots_of flags ps)) end) records_at constant) (sym (slots_append flags ps qs)) (both f c)
+
+-- after the record of an access's trap, where it may trap
+pub access_is : (flags : IsaFlags) (trap : Option TrapCode) (ps : List Piece) → slots_of flags (access_pieces trap ++ ps) ≡ access_slots trap ++ slots_of flags ps
+access_is flags None ps = refl
+access_is flags (Some code) ps = refl
+
 pub op_then : {last : ℕ} {rest : ℕ → List (Use LabelUse)} {records_at : ℕ → List MachRecord} {slots : List Slot} (d : Decoded) → d.len % 2 ≡ 0 → HaveContents last (at_end rest) records_at None slots → HaveContents last (at_end rest) records_at None (Op d ∷ slots)
 op_then d even c = both (one d even) c
 
@@ -158,6 +179,9 @@ accessed trap d even =
     let same : d.len + 0 ≡ d.len = omega arith in
     let own = from_start (one d even) in
     subst (λ n. HaveAccess n none trap None (access_slots trap ++ Op d ∷ [])) same (elim trap as (λ t. HaveAccess (size_of (Op d ∷ [])) none t None (access_slots t ++ Op d ∷ [])) [ None ↦ own | Some code ↦ note_then (event.Trap code) refl own ])
+
+accessed_by : (flags : IsaFlags) (trap : Option TrapCode) (a : Action) → (op_of flags a).len % 2 ≡ 0 → HaveAccess (op_of flags a).len none trap None (slots_of flags (access_pieces trap ++ Do a ∷ []))
+accessed_by flags trap a even = subst (HaveAccess (op_of flags a).len none trap None) (sym (access_is flags trap (Do a ∷ []))) (accessed trap (op_of flags a) even)
 
 -- by which pieces an offset is put into a register
 pub offset_by : (P : List Piece → Type 0) (rd : ℕ) (o : ℤ) → (is_splittable o ≡ true → low64 (lower_of o) ≡ 0 → P (Do (Lui rd (upper_of o)) ∷ [])) → (is_splittable o ≡ true → P (Do (Lui rd (upper_of o)) ∷ Do (Rri Addi rd rd (lower_of o)) ∷ [])) → (is_splittable o ≡ false → P (Constant rd (Word64 (low64 o)) ∷ [])) → P (offset_pieces rd o)
@@ -199,36 +223,54 @@ constant_at (AtConstant k) = Some k
 constant_at _ = None
 
 -- the sum of an offset and a register
-sums : (flags : IsaFlags) (rd r : ℕ) (o : ℤ) → HaveWords (offset_slots flags rd o ++ Op (short_rrr flags Add rd rd r) ∷ [])
-sums flags rd r o = both (offsets flags rd o) (one (short_rrr flags Add rd rd r) (rrr_sized flags Add rd rd r).even)
+sums : (flags : IsaFlags) (rd r : ℕ) (o : ℤ) → HaveWords (slots_of flags (offset_pieces rd o ++ Do (Rrr Add rd rd r) ∷ []))
+sums flags rd r o = both_pieces flags (offset_pieces rd o) (Do (Rrr Add rd rd r) ∷ []) (offsets flags rd o) (one (short_rrr flags Add rd rd r) (rrr_sized flags Add rd rd r).even)
 
 -- an access to a register plus an offset, which may trap: at once where it is near, else after the address in x31
-based : (flags : IsaFlags) (near far : Decoded) (trap : Option TrapCode) (r : ℕ) (o : ℤ) → near.len % 2 ≡ 0 → far.len ≡ 4 → HaveAccess (if is_near o then near.len else 4) none trap None (if is_near o then access_slots trap ++ Op near ∷ [] else address_slots flags 31 (Based r o) ++ access_slots trap ++ Op far ∷ [])
-based flags near far trap r o near_even four =
-    let d = subst (λ n. HaveAccess n none trap None (access_slots trap ++ Op far ∷ [])) four (accessed trap far (ap (λ n. n % 2) four)) in
-    elim (is_near o) as (λ t. HaveAccess (if t then near.len else 4) none trap None
-    (if t then access_slots trap ++ Op near ∷ [] else (if t then Op (short_rri flags Addi 31 r o) ∷ [] else offset_slots flags 31 o ++ Op (short_rrr flags Add 31 31 r) ∷ []) ++ access_slots trap ++ Op far ∷ []))
-    [ true ↦ accessed trap near near_even | false ↦ subst (HaveAccess 4 none trap None) (sym (append_assoc (offset_slots flags 31 o ++ Op (short_rrr flags Add 31 31 r) ∷ []) (access_slots trap) (Op far ∷ []))) (both (sums flags 31 r o) d) ]
+based : (flags : IsaFlags) (access : Access) (trap : Option TrapCode) (r : ℕ) (o : ℤ) → (op_of flags (access r o)).len % 2 ≡ 0 → (op_of flags (access 31 (pos 0))).len ≡ 4 → HaveAccess (if is_near o then (op_of flags (access r o)).len else 4) none trap None (slots_of flags (based_pieces access trap r o))
+based flags access trap r o even four =
+    let far = access 31 (pos 0) in
+    let last = access_pieces trap ++ Do far ∷ [] in
+    let d = subst (λ n. HaveAccess n none trap None (slots_of flags last)) four (accessed_by flags trap far (ap (λ n. n % 2) four)) in
+    elim (is_near o) as (λ t. HaveAccess (if t then (op_of flags (access r o)).len else 4) none trap None (slots_of flags (if t then access_pieces trap ++ Do (access r o) ∷ [] else (if t then Do (Rri Addi 31 r o) ∷ [] else offset_pieces 31 o ++ Do (Rrr Add 31 31 r) ∷ []) ++ last)))
+    [ true ↦ accessed_by flags trap (access r o) even | false ↦ both_pieces flags (offset_pieces 31 o ++ Do (Rrr Add 31 31 r) ∷ []) last (sums flags 31 r o) d ]
+
+-- an access to the address in x31 has no form of sixteen bits
+wide_load : (flags : IsaFlags) (op : LoadOP) (rd : ℕ) (o : ℤ) → zca_load flags op rd 31 o ≡ None
+wide_load flags loads.Flh rd o = search rules
+wide_load flags _ rd o = search rules
+
+wide_store : (flags : IsaFlags) (op : StoreOP) (src : ℕ) (o : ℤ) → zca_store flags op 31 src o ≡ None
+wide_store flags stores.Fsh src o = search rules
+wide_store flags _ src o = search rules
+
+pub far_load : (flags : IsaFlags) (op : LoadOP) (rd : ℕ) (o : ℤ) → short_load flags op rd 31 o ≡ decoded_load op rd 31 o
+far_load flags op rd o = elim flags.has_zca as (λ c. chosen (if c then zca_load flags op rd 31 o else None) (decoded_load op rd 31 o) ≡ decoded_load op rd 31 o) [ true ↦ ap (λ f. chosen f (decoded_load op rd 31 o)) (wide_load flags op rd o) | false ↦ refl ]
+
+pub far_store : (flags : IsaFlags) (op : StoreOP) (src : ℕ) (o : ℤ) → short_store flags op 31 src o ≡ decoded_store op 31 src o
+far_store flags op src o = elim flags.has_zca as (λ c. chosen (if c then zca_store flags op 31 src o else None) (decoded_store op 31 src o) ≡ decoded_store op 31 src o) [ true ↦ ap (λ f. chosen f (decoded_store op 31 src o)) (wide_store flags op src o) | false ↦ refl ]
 
 pub addresses : (flags : IsaFlags) (rd : ℕ) (at : Location) → HaveAccess 0 (uses_at at) None (constant_at at) (address_slots flags rd at)
 addresses flags rd (Based r o) =
-    elim (is_near o) as (λ t. HaveWords (if t then Op (short_rri flags Addi rd r o) ∷ [] else offset_slots flags rd o ++ Op (short_rrr flags Add rd rd r) ∷ []))
+    elim (is_near o) as (λ t. HaveWords (slots_of flags (if t then Do (Rri Addi rd r o) ∷ [] else offset_pieces rd o ++ Do (Rrr Add rd rd r) ∷ [])))
     [ true ↦ one (short_rri flags Addi rd r o) (rri_sized flags Addi rd r o).even | false ↦ sums flags rd r o ]
 addresses flags rd _ = record { plain = tt; within = lit≤ tt; uses = λ allocated start. refl; records = λ start. refl; names = λ named. refl; closed = λ here start. (tt, (tt, tt)) }
 
 pub loaded : (flags : IsaFlags) (rd : ℕ) (op : LoadOP) (trap : Option TrapCode) (at : Location) → HaveAccess (load_own_size flags op rd at) (uses_at at) trap (constant_at at) (load_slots flags rd op trap at)
-loaded flags rd op trap (Based r o) = based flags (short_load flags op rd r o) (decoded_load op rd 31 (pos 0)) trap r o (load_sized flags op rd r o).even refl
+loaded flags rd op trap (Based r o) = based flags (piece.Load op rd) trap r o (load_sized flags op rd r o).even (ap (λ (d : Decoded). d.len) (far_load flags op rd (pos 0)))
 loaded flags rd op None _ = record { plain = tt; within = lit≤ tt; uses = λ allocated start. refl; records = λ start. refl; names = λ named. refl; closed = λ here start. (tt, (tt, tt)) }
 loaded flags rd op (Some code) _ = record { plain = tt; within = lit≤ tt; uses = λ allocated start. refl; records = λ start. let e : start + 4 ≡ start + 8 - 4 = omega arith in ap (trap_at code) e; names = λ named. refl; closed = λ here start. (tt, (tt, tt)) }
 
 pub stored : (flags : IsaFlags) (op : StoreOP) (src : ℕ) (trap : Option TrapCode) (at : Location) → HaveAccess (store_own_size flags op src at) (uses_at at) trap (constant_at at) (store_slots flags op src trap at)
-stored flags op src trap (Based r o) = based flags (short_store flags op r src o) (decoded_store op 31 src (pos 0)) trap r o (store_sized flags op r src o).even refl
-stored flags op src None _ = record { plain = tt; within = lit≤ tt; uses = λ allocated start. refl; records = λ start. refl; names = λ named. refl; closed = λ here start. (tt, (tt, (refl, tt))) }
-stored flags op src (Some code) _ = record { plain = tt; within = lit≤ tt; uses = λ allocated start. refl; records = λ start. let e : start + 4 + 4 ≡ start + 12 - 4 = omega arith in ap (trap_at code) e; names = λ named. refl; closed = λ here start. (tt, (tt, (refl, tt))) }
+stored flags op src trap (Based r o) = based flags (store_access op src) trap r o (store_sized flags op r src o).even (ap (λ (d : Decoded). d.len) (far_store flags op src (pos 0)))
+stored flags op src None _ = let four = ap (λ (d : Decoded). d.len) (far_store flags op src (pos 0)) in record { plain = tt; within = omega (arith, four); uses = λ allocated start. refl; records = λ start. refl; names = λ named. refl; closed = λ here start. (tt, (tt, ((store_sized flags op 31 src (pos 0)).even, tt))) }
+stored flags op src (Some code) at =
+    let four = ap (λ (d : Decoded). d.len) (far_store flags op src (pos 0)) in
+    record { plain = tt; within = omega (arith, four); uses = λ allocated start. refl; records = λ start. let e : start + 4 + 4 ≡ start + size_of (store_slots flags op src (Some code) at) - 4 = omega (arith, four) in ap (trap_at code) e; names = λ named. refl; closed = λ here start. (tt, (tt, ((store_sized flags op 31 src (pos 0)).even, tt))) }
 
-pub either_most : (x y : List Slot) (c : Bool) (most : ℕ) → size_of x ≤ most → size_of y ≤ most → size_of (if c then x else y) ≤ most
-either_most x y true most h g = h
-either_most x y false most h g = g
+pub either_most : (flags : IsaFlags) (x y : List Piece) (c : Bool) (most : ℕ) → size_of (slots_of flags x) ≤ most → size_of (slots_of flags y) ≤ most → size_of (slots_of flags (if c then x else y)) ≤ most
+either_most flags x y true most h g = h
+either_most flags x y false most h g = g
 
 -- an offset that an upper and a lower immediate make
 pub split_short : (flags : IsaFlags) (rd : ℕ) (o : ℤ) → is_splittable o ≡ true → size_of (offset_slots flags rd o) ≤ 8
@@ -243,26 +285,32 @@ offset_most flags rd o =
 
 pub address_most : (flags : IsaFlags) (rd : ℕ) (at : Location) → size_of (address_slots flags rd at) ≤ 24
 address_most flags rd (Based r o) =
-    either_most _ _ (is_near o) 24 (omega (arith, (rri_sized flags Addi rd r o).few)) (omega (arith, size_append (offset_slots flags rd o) (Op (short_rrr flags Add rd rd r) ∷ []), offset_most flags rd o, (rrr_sized flags Add rd rd r).few))
+    either_most flags _ _ (is_near o) 24 (omega (arith, (rri_sized flags Addi rd r o).few)) (omega (arith, size_both flags (offset_pieces rd o) (Do (Rrr Add rd rd r) ∷ []), offset_most flags rd o, (rrr_sized flags Add rd rd r).few))
 address_most flags rd _ = lit≤ tt
 
 access_size : (trap : Option TrapCode) (slots : List Slot) → size_of (access_slots trap ++ slots) ≡ size_of slots
 access_size None slots = refl
 access_size (Some code) slots = omega arith
 
+access_long : (flags : IsaFlags) (trap : Option TrapCode) (ps : List Piece) → size_of (slots_of flags (access_pieces trap ++ ps)) ≡ size_of (slots_of flags ps)
+access_long flags trap ps = ap size_of (access_is flags trap ps) ∙ access_size trap (slots_of flags ps)
+
 -- an access after the code of its address
-pub far_most : (flags : IsaFlags) (far : Decoded) (trap : Option TrapCode) (at : Location) (most : ℕ) → far.len ≡ 4 → size_of (address_slots flags 31 at) ≤ most → size_of (address_slots flags 31 at ++ access_slots trap ++ Op far ∷ []) ≤ most + 4
-far_most flags far trap at most four le = omega (arith, ap size_of (append_assoc (address_slots flags 31 at) (access_slots trap) (Op far ∷ [])), size_append (address_slots flags 31 at) (access_slots trap ++ Op far ∷ []), access_size trap (Op far ∷ []))
+pub far_most : (flags : IsaFlags) (access : Access) (trap : Option TrapCode) (at : Location) (most : ℕ) → (op_of flags (access 31 (pos 0))).len ≤ 4 → size_of (address_slots flags 31 at) ≤ most → size_of (slots_of flags (far_pieces access trap at)) ≤ most + 4
+far_most flags access trap at most few le = omega (arith, size_both flags (address_pieces 31 at) (access_pieces trap ++ Do (access 31 (pos 0)) ∷ []), access_long flags trap (Do (access 31 (pos 0)) ∷ []))
+
+-- at once, or after it
+pub based_most : (flags : IsaFlags) (access : Access) (trap : Option TrapCode) (r : ℕ) (o : ℤ) (most : ℕ) → ((base : ℕ) (offset : ℤ) → (op_of flags (access base offset)).len ≤ 4) → size_of (address_slots flags 31 (Based r o)) ≤ most → size_of (slots_of flags (based_pieces access trap r o)) ≤ most + 4
+based_most flags access trap r o most few le = either_most flags _ _ (is_near o) (most + 4) (omega (arith, access_long flags trap (Do (access r o) ∷ []), few r o)) (far_most flags access trap (Based r o) most (few 31 (pos 0)) le)
 
 pub load_most : (flags : IsaFlags) (op : LoadOP) (rd : ℕ) (trap : Option TrapCode) (at : Location) → size_of (load_slots flags rd op trap at) ≤ 28
-load_most flags op rd trap (Based r o) =
-    either_most _ _ (is_near o) 28 (omega (arith, access_size trap (Op (short_load flags op rd r o) ∷ []), (load_sized flags op rd r o).few)) (far_most flags (decoded_load op rd 31 (pos 0)) trap (Based r o) 24 refl (address_most flags 31 (Based r o)))
-load_most flags op rd trap _ = omega (arith, access_size trap)
+load_most flags op rd trap (Based r o) = based_most flags (piece.Load op rd) trap r o 24 (λ base offset. (load_sized flags op rd base offset).few) (address_most flags 31 (Based r o))
+load_most flags op rd None _ = lit≤ tt
+load_most flags op rd (Some code) _ = lit≤ tt
 
 pub store_most : (flags : IsaFlags) (op : StoreOP) (src : ℕ) (trap : Option TrapCode) (at : Location) → size_of (store_slots flags op src trap at) ≤ 28
-store_most flags op src trap (Based r o) =
-    either_most _ _ (is_near o) 28 (omega (arith, access_size trap (Op (short_store flags op r src o) ∷ []), (store_sized flags op r src o).few)) (far_most flags (decoded_store op 31 src (pos 0)) trap (Based r o) 24 refl (address_most flags 31 (Based r o)))
-store_most flags op src trap at = far_most flags (decoded_store op 31 src (pos 0)) trap at 24 refl (address_most flags 31 at)
+store_most flags op src trap (Based r o) = based_most flags (store_access op src) trap r o 24 (λ base offset. (store_sized flags op base src offset).few) (address_most flags 31 (Based r o))
+store_most flags op src trap at = far_most flags (store_access op src) trap at 24 (store_sized flags op 31 src (pos 0)).few (address_most flags 31 at)
 
 pub summed_by : {context : Context} {inst : Inst} {slots : List Slot} {last : ℕ} {own : ℕ → ℕ → List (Use LabelUse)} {records_at : ℕ → List MachRecord} {constant : Option VCodeConstant} → HaveContents last own records_at constant slots → IsOfSize (inst_size context inst) (size_of slots) → ((start end : ℕ) → own start end ≡ uses_in context start end inst) → ((start end : ℕ) → records_at (end - last) ≡ inst_records context start end inst) → constant ≡ inst_constant inst → IsSummed context inst slots
 summed_by {slots = slots} c fits uses records constant =
@@ -337,30 +385,33 @@ line_loaded flags rd op trap at =
     let boxed = op_then (short_lui flags 30 high_bits) (lui_sized flags 30 high_bits).even (op_then (short_rrr flags Or 31 31 30) (rrr_sized flags Or 31 31 30).even (one (moved_to_float rd 31) refl)) in
     let long : size_of (boxing_slots flags rd) ≡ boxing_size flags = omega arith in
     let same_start : (start end other : ℕ) → uses_at at start end ≡ uses_at at start other = elim at as (λ at. (start end other : ℕ) → uses_at at start end ≡ uses_at at start other) [ Based r o ↦ λ start end other. refl | _ ↦ λ start end other. refl ] in
-    elim (has_load flags op) as (λ has. HaveAccess (if has then load_own_size flags op rd at else load_own_size flags Lh 31 at + boxing_size flags) (uses_at at) trap (constant_at at) (if has then load_slots flags rd op trap at else half_load_slots flags rd trap at))
-    [ true ↦ loaded flags rd op trap at | false ↦ (subst (λ n. HaveAccess (load_own_size flags Lh 31 at + n) (uses_at at) trap (constant_at at) (half_load_slots flags rd trap at)) long (followed same_start (loaded flags 31 Lh trap at) boxed)) ]
+    let last = load_own_size flags Lh 31 at + boxing_size flags in
+    let half = subst (HaveAccess last (uses_at at) trap (constant_at at)) (sym (slots_append flags (load_pieces Lh 31 trap at) (boxing_pieces rd)))
+    (subst (λ n. HaveAccess (load_own_size flags Lh 31 at + n) (uses_at at) trap (constant_at at) (load_slots flags 31 Lh trap at ++ boxing_slots flags rd)) long (followed same_start (loaded flags 31 Lh trap at) boxed)) in
+    elim (has_load flags op) as (λ has. HaveAccess (if has then load_own_size flags op rd at else last) (uses_at at) trap (constant_at at) (slots_of flags (if has then load_pieces op rd trap at else half_load_pieces rd trap at)))
+    [ true ↦ loaded flags rd op trap at | false ↦ half ]
 
 line_stored : (flags : IsaFlags) (op : StoreOP) (src : ℕ) (trap : Option TrapCode) (at : Location) → HaveAccess (store_line_own_size flags op src at) (λ start end. uses_at at (uses_start (is_moved_first flags op) start) end) trap (constant_at at) (store_line_slots flags op src trap at)
 line_stored flags op src trap at =
     elim (has_store flags op) as (λ has. HaveAccess (if has then store_own_size flags op src at else store_own_size flags Sh 30 at) (λ start end. uses_at at (uses_start (not has) start) end) trap (constant_at at)
-    (if has then store_slots flags op src trap at else half_store_slots flags src trap at))
+    (slots_of flags (if has then store_pieces op src trap at else half_store_pieces src trap at)))
     [ true ↦ stored flags op src trap at | false ↦ both (one (moved_to_integer 30 src) refl) (stored flags Sh 30 trap at) ]
 
 -- a half by integer registers has three words more
 pub half_most : {most : ℕ} (flags : IsaFlags) (rd : ℕ) (trap : Option TrapCode) (at : Location) → size_of (load_slots flags 31 Lh trap at) ≤ most → size_of (half_load_slots flags rd trap at) ≤ most + 12
-half_most flags rd trap at le = omega (arith, size_append (load_slots flags 31 Lh trap at) (boxing_slots flags rd), (lui_sized flags 30 high_bits).few, (rrr_sized flags Or 31 31 30).few)
+half_most flags rd trap at le = omega (arith, size_both flags (load_pieces Lh 31 trap at) (boxing_pieces rd), (lui_sized flags 30 high_bits).few, (rrr_sized flags Or 31 31 30).few)
 
 pub load_summed : (context : Context) (rd : Writable Reg) (op : LoadOP) (flags : MemFlagsData) (from : AMode) → IsSummed context (Load rd op flags from) (load_line_slots context.flags (number_of rd.reg) op flags.trap (location_of context.frame from))
 load_summed context rd op flags from =
     let machine = context.flags in let n = number_of rd.reg in let at = location_of context.frame from in
-    let few = elim (has_load machine op) as (λ has. size_of (if has then load_slots machine n op flags.trap at else half_load_slots machine n flags.trap at) ≤ (if has then 28 else 28 + 12))
+    let few = elim (has_load machine op) as (λ has. size_of (slots_of machine (if has then load_pieces op n flags.trap at else half_load_pieces n flags.trap at)) ≤ (if has then 28 else 28 + 12))
     [ true ↦ load_most machine op n flags.trap at | false ↦ half_most machine n flags.trap at (load_most machine Lh 31 flags.trap at) ] in
     summed_by (line_loaded machine n op flags.trap at) few (same_uses machine context.frame (load_size op) from) (λ start end. refl) (same_constant context.frame (load_size op) from)
 
 pub store_summed : (context : Context) (to : AMode) (op : StoreOP) (flags : MemFlagsData) (src : Reg) → IsSummed context (Store src op flags to) (store_line_slots context.flags op (number_of src) flags.trap (location_of context.frame to))
 store_summed context to op flags src =
     let machine = context.flags in let n = number_of src in let at = location_of context.frame to in
-    let few = elim (has_store machine op) as (λ has. size_of (if has then store_slots machine op n flags.trap at else half_store_slots machine n flags.trap at) ≤ (if has then 28 else 28 + 4))
+    let few = elim (has_store machine op) as (λ has. size_of (slots_of machine (if has then store_pieces op n flags.trap at else half_store_pieces n flags.trap at)) ≤ (if has then 28 else 28 + 4))
     [ true ↦ store_most machine op n flags.trap at | false ↦ (let few = store_most machine Sh 30 flags.trap at in omega arith) ] in
     summed_by (line_stored machine op n flags.trap at) few (λ start end. same_uses machine context.frame 0 to (uses_start (is_moved_first machine op) start) end) (λ start end. refl) (same_constant context.frame 0 to)
 

@@ -1,14 +1,14 @@
 -- Instructions that pieces make: how long they are, and that they are self-contained.
-use Rattle.{rv_base.specs.declared.ir_type.IrType.TheVariants.I32, rv_base.specs.declared.value_regs.ValueRegs.TheVariants.{One, Two}, rv_code.proofs.Courses.literal_long, rv_code.proofs.Evaluation.{action_sized, piece_even, slots_long, trap_long}}
-use Rattle.{rv_code.proofs.LineSlots.{closed_append, number_by, size_append}, rv_code.proofs.LongSlots.{AreEven, distant_even, even_closed, literal_even}, rv_code.proofs.OperationActs.{jump_len, least_few, window_long}}
-use Rattle.{rv_code.proofs.Words.{Constant, Slli, StackProbeLoop, Trap, TrapCode, TrapIf, Udf, VCodeConstant, Writable, and_parts, cast_signed, jump_size, low_word, number_pieces, slots_of, uses_in, w64, written_in}, rv_code.specs.Probes.{probe_pieces, probe_turn}}
-use Rattle.{rv_code.specs.Sequences.{pieces_by, sequence_pieces, zeros_pieces}, rv_code.specs.Traps.trap_if_pieces, rv_inst.specs.Descriptions.most_words, rv_inst.specs.declared.sequence.Computation.Computation, rv_inst.specs.declared.sequence.Computation.TheVariants.Zeros}
-use Rattle.{rv_inst.specs.declared.sequence.Sequence.Sequence}
-use Rattle.rv_code.proofs.Words.{AddressOf, Allocate, Data, ExternalName, Fixup, Here, Literal, LoadExtNameFar, LoadExtNameGot, LoadExtNameNear, LoadInlineConst, NameAddress, Names, OfLabel, OfSymbol, Op, Own, Records, Slot, SlotOf, Symbol, Take, Word32, Word64, address_event, distant_slots, is_word_type, literal_of, literal_size, literal_slots, slot_size, slots_for, symbol_slots}
-use Rattle.std.proofs.Common.{rules, ◌≡◌, ℕ, ℤ, ◌+◌, ◌≤◌, Bool, true, false, nat_eq, [], ◌∷◌, List, length, Option, Some, None, is_some, unwrap_or, zero, ◌&&◌, arith, refl, lit≤, sym, subst, ap, lit<, suc, ◌*◌, ◌<◌, ◌++◌, map, pos, ◌∙◌, ◌-◌, if◌then◌else◌}
-use Rattle.rv_code.proofs.Words.{Action, after, all_of, Andi, AreAmong, AreClosed, AreClosedPieces, AreSelfContained, AtMost, B12, backward_of, Bind, bits_of, Branch, canonical_type, choice_pieces, class_of, complement_of, Context, Do, Exactly, Extend, extend_pieces, forward_of}
-use Rattle.rv_code.proofs.Words.{GoNowhere, here_at, I64, Inst, inst_constant, inst_records, inst_size, Int, IntCC, IntegerCompare, IrType, is_byte, IsaFlags, IsBoundIn, IsBoundNear, IsOfSize, Jal20, Jump, jump_kind, LabelUse, Mov, move_action, move_op, move_pieces, move_size, moves_then}
-use Rattle.rv_code.proofs.Words.{MovFromPReg, named_by, names_of, New, number_of, op_of, own_labels, Piece, piece_most, piece_size, pieces_most, pieces_size, PReg, records_of, Reg, RegClass, request_of, right_shift, Rri, RVCJump, same_numbers, Select, select_pieces, SelectInfo, size_of}
+use Rattle.{rv_base.{specs.declared.ir_type.IrType.TheVariants.I32, specs.declared.value_regs.ValueRegs.TheVariants.{One, Two}}, rv_code.{proofs.Courses.read_low, proofs.Evaluation.{action_sized, piece_even, slots_long, trap_long}}}
+use Rattle.rv_code.{proofs.LineSlots.{IsPlain, is_low, offset_by, closed_append, number_by, size_append}, proofs.LongSlots.{even_plain, even_closed, literal_even}, proofs.OperationActs.{jalr_sized, jump_len, least_few, window_long}}
+use Rattle.rv_code.proofs.Words.{Constant, Slli, StackProbeLoop, Trap, TrapCode, TrapIf, Udf, VCodeConstant, Writable, and_parts, cast_signed, jump_size, low_word, number_pieces, slots_of, uses_in, w64, written_in, AddressOf, Allocate, ExternalName, Here, Literal}
+use Rattle.rv_code.proofs.Words.{LoadExtNameFar, LoadExtNameGot, LoadExtNameNear, LoadInlineConst, NameAddress, Names, OfLabel, OfSymbol, Records, Slot, SlotOf, Symbol, Take, Word32, Word64, address_event, is_word_type, literal_of, literal_size, literal_slots, slot_size}
+use Rattle.rv_code.proofs.Words.{slots_for, symbol_slots, IsInRange, low64, lower_of, offset_pieces, Addi, Action, after, all_of, Andi, AreAmong, AreClosed, AreClosedPieces, AreSelfContained, AtMost, B12, backward_of, Bind, bits_of, Branch, canonical_type, choice_pieces}
+use Rattle.rv_code.proofs.Words.{class_of, complement_of, Context, Do, Exactly, Extend, extend_pieces, forward_of, GoNowhere, here_at, I64, Inst, inst_constant, inst_records, inst_size, Int, IntCC, IntegerCompare, IrType, is_byte, IsaFlags, IsBoundIn, IsBoundNear}
+use Rattle.rv_code.proofs.Words.{IsOfSize, Jal20, Jump, jump_kind, LabelUse, Mov, move_action, move_op, move_pieces, move_size, moves_then, MovFromPReg, named_by, names_of, New, number_of, op_of, own_labels, Piece, piece_most, piece_size, pieces_most, pieces_size, PReg}
+use Rattle.rv_code.{proofs.Words.{records_of, Reg, RegClass, request_of, right_shift, Rri, RVCJump, same_numbers, Select, select_pieces, SelectInfo, size_of}, specs.Pieces.{Go, Jalr, LoadFrom, Name}, specs.Probes.{probe_pieces, probe_turn}, specs.Sequences.{pieces_by, sequence_pieces, zeros_pieces}}
+use Rattle.{rv_code.specs.Traps.trap_if_pieces, rv_inst.{specs.Descriptions.most_words, specs.declared.sequence.Computation.Computation, specs.declared.sequence.Computation.TheVariants.Zeros, specs.declared.sequence.Sequence.Sequence}}
+use Rattle.std.{proofs.Common.{rules, ◌≡◌, ℕ, ℤ, ◌+◌, ◌≤◌, Bool, true, false, nat_eq, [], ◌∷◌, List, length, Option, Some, None, is_some, unwrap_or, zero, ◌&&◌, arith, refl, lit≤, sym, subst, ap, lit<, suc, ◌*◌, ◌<◌, ◌++◌, map, pos, ◌∙◌, ◌-◌, if◌then◌else◌, ⊎_elim, ◌%◌}, proofs.Common.◌^◌}
 use borrow.Author.Count.{below_more, below_none}
 
 -- ---- how long pieces are, and that those which use no own label but what they allocate and bind are self-contained, in whatever forms.
@@ -16,6 +16,7 @@ use borrow.Author.Count.{below_more, below_none}
 piece_few : (flags : IsaFlags) (p : Piece) → piece_size flags p ≤ piece_most p
 piece_few flags (Do a) = (action_sized flags a).few
 piece_few flags (Constant rd l) = omega (arith, least_few flags)
+piece_few flags (Jalr link rs offset) = (jalr_sized flags link rs offset).few
 piece_few flags _ = omega (arith, window_long flags, least_few flags, trap_long flags)
 
 pub pieces_long : (flags : IsaFlags) (ps : List Piece) → size_of (slots_of flags ps) ≡ pieces_size flags ps
@@ -26,12 +27,24 @@ pub pieces_few : (flags : IsaFlags) (ps : List Piece) → pieces_size flags ps �
 pieces_few flags [] = lit≤ tt
 pieces_few flags (p ∷ ps) = let a = piece_few flags p in let b = pieces_few flags ps in omega arith
 
--- an own label is bound after slots that bind none
-here_past : (k at : ℕ) (slots more : List Slot) → AreEven slots → here_at k at (slots ++ more) ≡ here_at k (at + size_of slots) more
+-- a piece that neither allocates nor binds a label
+abbrev pub BindsNone : Piece → Type 0
+BindsNone New = ⊥
+BindsNone (Bind k) = ⊥
+BindsNone p = Unit {0}
+
+pub binds_none : (flags : IsaFlags) (p : Piece) → BindsNone p → IsPlain (slots_for flags p)
+binds_none flags (Constant rd l) h = even_plain (literal_slots flags rd l) (literal_even flags rd l)
+binds_none flags (Take rd (OfLabel l)) h = tt
+binds_none flags (LoadFrom op rd None l) h = tt
+binds_none flags (LoadFrom op rd (Some code) l) h = tt
+binds_none flags New h = absurd h
+binds_none flags (Bind k) h = absurd h
+binds_none flags p h = tt
+
+-- a label is bound after slots that bind none
+here_past : (k at : ℕ) (slots more : List Slot) → IsPlain slots → here_at k at (slots ++ more) ≡ here_at k (at + size_of slots) more
 here_past k at [] more h = ap (λ n. here_at k n more) (omega arith)
-here_past k at (Fixup kind (Own j) ops ∷ slots) more h = absurd h
-here_past k at (Op d ∷ slots) more h = here_past k (at + d.len) slots more h.1 ∙ ap (λ n. here_at k n more) (omega arith)
-here_past k at (Data bytes ∷ slots) more h = here_past k (at + length bytes) slots more h.1 ∙ ap (λ n. here_at k n more) (omega arith)
 here_past k at (Records event ∷ slots) more h = here_past k at slots more h ∙ ap (λ n. here_at k n more) (omega arith)
 here_past k at (Names name ∷ slots) more h = here_past k at slots more h ∙ ap (λ n. here_at k n more) (omega arith)
 here_past k at (Allocate ∷ slots) more h = absurd h
@@ -45,30 +58,46 @@ bound_near flags kind from end k f b le small at (New ∷ ps) qs e room = bound_
 bound_near flags kind from end k f b le small at (Bind j ∷ ps) qs e room =
     (elim (nat_eq j k) as (λ c. (if c then Some ps else after k ps) ≡ Some qs → IsBoundNear (if c then Some at else here_at k at (slots_of flags ps)) kind from)
     [ true ↦ λ g. record { to = at; there = refl; forward = omega arith; backward = omega arith } | false ↦ λ g. bound_near flags kind from end k f b le small at ps qs g (omega arith) ]) e
-bound_near flags kind from end k f b le small at (Constant rd l ∷ ps) qs e room =
-    let slots = literal_slots flags rd l in
-    subst (λ o. IsBoundNear o kind from) (sym (here_past k at slots (slots_of flags ps) (literal_even flags rd l))) (bound_near flags kind from end k f b le small (at + size_of slots) ps qs e (omega (arith, literal_long flags rd l)))
-bound_near flags kind from end k f b le small at (Take rd to ∷ ps) qs e room =
-    let slots = distant_slots rd to in
-    subst (λ o. IsBoundNear o kind from) (sym (here_past k at slots (slots_of flags ps) (distant_even rd to))) (bound_near flags kind from end k f b le small (at + size_of slots) ps qs e (omega (arith, slots_long flags (Take rd to))))
-bound_near flags kind from end k f b le small at (p ∷ ps) qs e room = bound_near flags kind from end k f b le small (at + piece_size flags p) ps qs e (omega arith)
+bound_near flags kind from end k f b le small at (p ∷ ps) qs e room =
+    let slots = slots_for flags p in
+    subst (λ o. IsBoundNear o kind from) (sym (here_past k at slots (slots_of flags ps) (binds_none flags p tt))) (bound_near flags kind from end k f b le small (at + size_of slots) ps qs e (omega (arith, slots_long flags p)))
 
 pub jump_reach : (flags : IsaFlags) → (2046 ≤ forward_of (jump_kind flags)) × (2046 ≤ backward_of (jump_kind flags))
 jump_reach flags = elim flags.has_zca as (λ c. (2046 ≤ forward_of (if c then RVCJump else Jal20)) × (2046 ≤ backward_of (if c then RVCJump else Jal20))) [ true ↦ (lit≤ tt, lit≤ tt) | false ↦ (lit≤ tt, lit≤ tt) ]
+
+-- a piece that uses no own label
+abbrev UsesNone : Piece → Type 0
+UsesNone (Branch how a b k) = ⊥
+UsesNone (Jump k) = ⊥
+UsesNone p = Unit {0}
+
+uses_none : (flags : IsaFlags) (here : ℕ → Option ℕ) (at : ℕ) (p : Piece) → UsesNone p → AreClosed here at (slots_for flags p)
+uses_none flags here at (Do a) h = ((action_sized flags a).even, tt)
+uses_none flags here at (Constant rd l) h = even_closed here at (literal_slots flags rd l) (literal_even flags rd l)
+uses_none flags here at (Take rd (OfLabel l)) h = (tt, (tt, tt))
+uses_none flags here at (LoadFrom op rd None l) h = (tt, (tt, tt))
+uses_none flags here at (LoadFrom op rd (Some code) l) h = (tt, (tt, tt))
+uses_none flags here at (Go l) h = (tt, tt)
+uses_none flags here at (Jalr link rs offset) h = ((jalr_sized flags link rs offset).even, tt)
+uses_none flags here at (Trap code) h = (piece_even flags (Trap code), tt)
+uses_none flags here at (Branch how a b k) h = absurd h
+uses_none flags here at (Jump k) h = absurd h
+uses_none flags here at p h = tt
 
 closed : (flags : IsaFlags) (whole : List Piece) (at end : ℕ) (ps : List Piece) → pieces_size flags whole ≤ end → end ≤ 2046 → at + pieces_size flags ps ≤ end → AreClosedPieces whole → AreAmong (own_labels whole) ps → AreClosed (λ k. here_at k 0 (slots_of flags whole)) at (slots_of flags ps)
 closed flags whole at end [] all small le c among = tt
 closed flags whole at end (Branch how x y k ∷ ps) all small le c among = let b = c.bound k among.0 in (bound_near flags B12 at end k (lit≤ tt) (lit≤ tt) (omega arith) small 0 whole b.0 b.1 (omega arith), closed flags whole (at + 4) end ps all small (omega arith) c among.1)
 closed flags whole at end (Jump k ∷ ps) all small le c among = let b = c.bound k among.0 in let r = jump_reach flags in (bound_near flags (jump_kind flags) at end k r.0 r.1 (omega arith) small 0 whole b.0 b.1 (omega arith), closed flags whole (at + piece_size flags (Jump k)) end ps all small (omega arith) c among.1)
-closed flags whole at end (Constant rd l ∷ ps) all small le c among =
-    let slots = literal_slots flags rd l in
+closed flags whole at end (p ∷ ps) all small le c among =
+    let slots = slots_for flags p in
     let here = λ (k : ℕ). here_at k 0 (slots_of flags whole) in
-    closed_append here at (at + size_of slots) slots (slots_of flags ps) refl (even_closed here at slots (literal_even flags rd l)) (closed flags whole (at + size_of slots) end ps all small (omega (arith, literal_long flags rd l)) c among)
-closed flags whole at end (Take rd to ∷ ps) all small le c among =
-    let slots = distant_slots rd to in
-    let here = λ (k : ℕ). here_at k 0 (slots_of flags whole) in
-    closed_append here at (at + size_of slots) slots (slots_of flags ps) refl (even_closed here at slots (distant_even rd to)) (closed flags whole (at + size_of slots) end ps all small (omega (arith, slots_long flags (Take rd to))) c among)
-closed flags whole at end (p ∷ ps) all small le c among = search (rules, arith, piece_even flags p, λ (at : ℕ). closed flags whole at end ps all small)
+    closed_append here at (at + size_of slots) slots (slots_of flags ps) refl (uses_none flags here at p tt) (closed flags whole (at + size_of slots) end ps all small (omega (arith, slots_long flags p)) c (rest p among))
+  where
+    rest : (p : Piece) → AreAmong (own_labels whole) (p ∷ ps) → AreAmong (own_labels whole) ps
+    rest (Branch how x y k) h = h.1
+    rest (Jump k) h = h.1
+    rest (Bind k) h = h.1
+    rest p h = h
 
 -- ---- an instruction that pieces make: how many bytes it has, and what it records and names.
 
@@ -97,14 +126,17 @@ made_by context inst pieces closed fits within nowhere owns asks uses records no
 pub made_contained : {context : Context} {inst : Inst} {pieces : List Piece} → IsMadeOf context inst pieces → AreSelfContained (slots_of context.flags pieces)
 made_contained {context} {pieces = pieces} m = let within = m.within in let few = pieces_few context.flags pieces in closed context.flags pieces 0 (pieces_size context.flags pieces) pieces (omega arith) (omega arith) (omega arith) m.closed m.closed.among
 
--- pieces name no constant
-pub pieces_name : (flags : IsaFlags) (ps : List Piece) (named : List VCodeConstant) → names_of (slots_of flags ps) named ≡ named
-pieces_name flags [] named = refl
-pieces_name flags (Constant rd (Word32 n) ∷ ps) named = pieces_name flags ps named
-pieces_name flags (Constant rd l ∷ ps) named = pieces_name flags ps named
-pieces_name flags (Take rd (OfLabel l) ∷ ps) named = pieces_name flags ps named
-pieces_name flags (Take rd to ∷ ps) named = pieces_name flags ps named
-pieces_name flags (p ∷ ps) named = pieces_name flags ps named
+-- and so they name no constant
+pub pieces_name : (flags : IsaFlags) (ps : List Piece) (named : List VCodeConstant) → GoNowhere ps → names_of (slots_of flags ps) named ≡ named
+pieces_name flags [] named h = refl
+pieces_name flags (Constant rd (Word32 n) ∷ ps) named h = pieces_name flags ps named h
+pieces_name flags (Constant rd l ∷ ps) named h = pieces_name flags ps named h
+pieces_name flags (Take rd (OfLabel l) ∷ ps) named h = absurd h.0
+pieces_name flags (Take rd to ∷ ps) named h = pieces_name flags ps named h.1
+pieces_name flags (LoadFrom op rd trap l ∷ ps) named h = absurd h
+pieces_name flags (Name constant ∷ ps) named h = absurd h
+pieces_name flags (Go l ∷ ps) named h = absurd h
+pieces_name flags (p ∷ ps) named h = pieces_name flags ps named h
 
 -- ---- the sequences that compute one register of another: they are closed, and of at most so many words.
 
@@ -245,16 +277,22 @@ trap_if_made context cmp code =
 
 -- ---- a number in a register, and the probes of the stack, which are two and a loop: the pieces that make them, and how long they are.
 
--- what an operation and a constant leave true of the pieces after it is true after it
-number_keeps : (P : List Piece → Type 0) (rd : ℕ) (z : ℤ) (more : List Piece) → ((a : Action) (ps : List Piece) → P ps → P (Do a ∷ ps)) → ((rd n : ℕ) (ps : List Piece) → P ps → P (Constant rd (Word64 n) ∷ ps)) → P more → P (number_pieces rd z ++ more)
-number_keeps P rd z more step constant h = number_by (λ ps. P (ps ++ more)) rd z (λ low. step _ more h) (λ fits none. step _ more h) (λ fits. step _ _ (step _ more h)) (λ far. constant rd _ more h)
+-- what an operation in range and a constant leave true of the pieces after it is true after it: of an offset's pieces, and of a number's
+lower_fits : (z : ℤ) → low64 (lower_of z) < 2 ^ 64
+lower_fits z = ⊎_elim (λ a. omega (arith, a.0, a.1)) (λ a. omega (arith, a.0, a.1)) (read_low (2 ^ 11) (low64 z % 2 ^ 12) (omega arith) (omega arith))
+
+pub offset_keeps : (P : List Piece → Type 0) (rd : ℕ) (o : ℤ) (more : List Piece) → ((a : Action) (ps : List Piece) → (rd < 32 → IsInRange a) → P ps → P (Do a ∷ ps)) → ((n : ℕ) (ps : List Piece) → P ps → P (Constant rd (Word64 n) ∷ ps)) → P more → P (offset_pieces rd o ++ more)
+offset_keeps P rd o more step constant h = offset_by (λ ps. P (ps ++ more)) rd o (λ fits none. step _ more (λ lt. lt) h) (λ fits. step _ _ (λ lt. lt) (step _ more (λ lt. (lt, refl, lower_fits o)) h)) (λ far. constant _ more h)
+
+pub number_keeps : (P : List Piece → Type 0) (rd : ℕ) (z : ℤ) (more : List Piece) → ((a : Action) (ps : List Piece) → (rd < 32 → IsInRange a) → P ps → P (Do a ∷ ps)) → ((n : ℕ) (ps : List Piece) → P ps → P (Constant rd (Word64 n) ∷ ps)) → P more → P (number_pieces rd z ++ more)
+number_keeps P rd z more step constant h = elim (is_low z) as (λ low. P ((if low then Do (Rri Addi rd 0 (lower_of z)) ∷ [] else offset_pieces rd z) ++ more)) [ true ↦ step _ more (λ lt. (lt, refl, lower_fits z)) h | false ↦ offset_keeps P rd z more step constant h ]
 
 number_most : (rd : ℕ) (z : ℤ) (more : List Piece) → pieces_most (number_pieces rd z ++ more) ≤ 20 + pieces_most more
 number_most rd z more = number_by (λ ps. pieces_most (ps ++ more) ≤ 20 + pieces_most more) rd z (λ low. omega arith) (λ fits none. omega arith) (λ fits. omega arith) (λ far. omega arith)
 
 -- both numbers leave true of the loop what each piece of them does
 probe_keeps : (P : List Piece → Type 0) (tmp guard count : ℕ) → ((a : Action) (ps : List Piece) → P ps → P (Do a ∷ ps)) → ((rd n : ℕ) (ps : List Piece) → P ps → P (Constant rd (Word64 n) ∷ ps)) → P (Bind 0 ∷ probe_turn tmp) → P (number_pieces 31 (cast_signed w64 (guard * count)) ++ (number_pieces tmp (pos guard) ++ Bind 0 ∷ probe_turn tmp))
-probe_keeps P tmp guard count step constant h = number_keeps P 31 (cast_signed w64 (guard * count)) _ step constant (number_keeps P tmp (pos guard) _ step constant h)
+probe_keeps P tmp guard count step constant h = number_keeps P 31 (cast_signed w64 (guard * count)) _ (λ a ps ranged. step a ps) (constant 31) (number_keeps P tmp (pos guard) _ (λ a ps ranged. step a ps) (constant tmp) h)
 
 -- where the loop's label and the end's stand
 pub probe_places : (tmp guard count : ℕ) → (after 0 (probe_pieces tmp guard count) ≡ Some (probe_turn tmp)) × (after 1 (probe_pieces tmp guard count) ≡ Some [])

@@ -1,28 +1,13 @@
 -- What an instruction that breaks no rule gives: of its registers, numbers and targets.
-use Rattle.std.proofs.Common.{⊎_elim, ◌≡◌, ◌⊎◌, inl, inr, ℕ, ◌<◌, Bool, true, false, List, [], ◌∷◌, ◌++◌, length, Option, Some, None, arith, refl, sym, subst, eqb-true, ◌∙◌, ◌≢◌, ◌==◌, not, ◌≤◌, rules, ◌%◌, ap, nat_le, ◌||◌, ◌&&◌, IfSome}
+use Rattle.{mach_labels.specs.Table.first_inner, rv_base.{specs.ValueRegs.{count_of as value_count}, specs.declared.value_regs.ValueRegs.ValueRegs}, rv_code.{proofs.Registers.{IsCount, count_of}, proofs.ReversedBytes.{Reversal, IsReversal}}}
 use Rattle.rv_code.proofs.Words.{all_of, AllByRecursion, and_parts, AreListed, AreMoves, AVirtual, bits_of, breaks_none, BrTable, CallInd, CallInfo, canonical_type, clash, class_of, Context, differ_at_places, differ_in_class, eqb-false, Extend, Float, has_bad_rounding}
-use Rattle.rv_code.proofs.Words.{has_bad_size, has_bad_type, has_bad_width, has_clash, has_empty_table, has_zero, I8, Inst, inst_registers, inst_rule, Int, IntegerCompare, IrType, is_buffer_label, is_float, is_float_class, is_int_class, is_int_type, is_misplaced, is_movable, is_not_of, is_one_of}
-use Rattle.rv_code.proofs.Words.{is_other_class, is_out_of_place, is_out_of_range, is_real_x, is_reserved, is_stack_or_frame, is_uneven, is_vector, is_vector_class, is_virtual, is_word_type, is_zero, IsFineChoice, IsFineTarget, IsFineTry, IsIntRegister, IsListed, IsMove, IsRealRegister, IsUsable}
-use Rattle.rv_code.proofs.Words.{labels_of, lacks_target, leb-false, leb-true, list_any, LoadInlineConst, MachLabel, Mov, MovFromPReg, number_of, or_cases, or_parts, PReg, RawData, Real, Reg, RegClass, registers_in, same_class, same_register, Select, SelectInfo, StackProbeLoop, table_of}
-use Rattle.rv_code.proofs.Words.{IsFine, IsFineUnit, target_labels, targets_of, TrapCode, TrapIf, try_call_of, try_labels, TryCallInfo, unit_word, UnitWord, values_differ, Vector, Writable, written_in}
-use Rattle.std.proofs.lemmas.List.Folds.{list_any-append}
-use Rattle.rv_base.specs.ValueRegs.{count_of as value_count}
-use Rattle.rv_base.specs.declared.value_regs.ValueRegs.{ValueRegs}
-use Rattle.mach_labels.specs.Table.{first_inner}
-use Rattle.rv_inst.specs.declared.inst.CondBrTarget.{CondBrTarget}
-use Rattle.rv_inst.specs.declared.inst.CondBrTarget.TheVariants.{Label as ToLabel}
-use Rattle.rv_inst.specs.Core.{is_integer}
-use Rattle.rv_inst.specs.Descriptions.{counts, reverses, sequence_registers}
-use Rattle.rv_inst.specs.Rules.{sequence_faults}
-use Rattle.rv_inst.specs.declared.inst.Brev8Info.{Brev8Info}
-use Rattle.rv_inst.specs.declared.inst.CountInfo.{CountInfo}
-use Rattle.rv_inst.specs.declared.inst.Inst.TheVariants.{Brev8}
-use Rattle.rv_inst.specs.declared.sequence.Computation.{Computation}
-use Rattle.rv_inst.specs.declared.units.PlacedReg.{PlacedReg}
-use Rattle.rv_code.proofs.Registers.{IsCount, count_of}
-use Rattle.rv_code.proofs.ReversedBytes.{Reversal, IsReversal}
-use Rattle.rv_code.specs.UnitRuns.{IsUsableIn, AreUsableIn}
-use Rattle.rv_code.proofs.OperationActs.{not_true}
+use Rattle.rv_code.proofs.Words.{has_bad_size, has_bad_type, has_bad_width, has_clash, has_empty_table, has_zero, I8, Inst, inst_registers, inst_rule, Int, IntegerCompare, IrType, is_buffer_label, is_float, is_float_class, is_int_class, is_int_type, is_misplaced}
+use Rattle.rv_code.proofs.Words.{is_movable, is_not_of, is_one_of, is_other_class, is_out_of_place, is_out_of_range, is_real_x, is_reserved, is_stack_or_frame, is_uneven, is_vector, is_vector_class, is_virtual, is_word_type, is_zero, IsFineChoice, IsFineTarget, IsFineTry}
+use Rattle.rv_code.proofs.Words.{IsIntRegister, IsListed, IsMove, IsRealRegister, IsUsable, labels_of, lacks_target, leb-false, leb-true, list_any, LoadInlineConst, MachLabel, Mov, MovFromPReg, number_of, or_cases, or_parts, PReg, RawData, Real, Reg, RegClass}
+use Rattle.rv_code.{proofs.Words.{registers_in, same_class, same_register, Select, SelectInfo, StackProbeLoop, table_of, target_labels, targets_of, TrapCode, TrapIf, try_call_of, try_labels, TryCallInfo, values_differ, Vector, Writable, written_in}, specs.UnitRuns.{IsUsableIn, AreUsableIn}}
+use Rattle.rv_inst.{proofs.PlainInsts.not_true, specs.Core.is_integer, specs.Descriptions.{counts, reverses, sequence_registers}, specs.Rules.sequence_faults, specs.declared.inst.Brev8Info.Brev8Info, specs.declared.inst.CondBrTarget.CondBrTarget}
+use Rattle.rv_inst.{specs.declared.inst.CondBrTarget.TheVariants.{Label as ToLabel}, specs.declared.inst.CountInfo.CountInfo, specs.declared.inst.Inst.TheVariants.Brev8, specs.declared.sequence.Computation.Computation, specs.declared.units.PlacedReg.PlacedReg}
+use Rattle.std.{proofs.Common.{⊎_elim, ◌≡◌, ◌⊎◌, inl, inr, ℕ, ◌<◌, Bool, true, false, List, [], ◌∷◌, ◌++◌, length, Option, Some, None, arith, refl, sym, subst, eqb-true, ◌∙◌, ◌≢◌, ◌==◌, not, ◌≤◌, rules, ◌%◌, ap, nat_le, ◌||◌, ◌&&◌}, proofs.lemmas.List.Folds.list_any-append}
 use Rattle.rv_inst.specs.declared.error.Rule.TheVariants as rule
 
 -- ---- what an instruction that breaks no rule gives: integer registers below x30, numbers in range, and branches with a target.
@@ -285,11 +270,6 @@ are_usable_in (p ∷ places) real placed free = (
   is_usable_in p.class p.reg (or_left (is_virtual p.reg) _ real) (or_left (is_out_of_place p) _ placed) (or_left (is_reserved p.reg) _ free),
   are_usable_in places (or_right (is_virtual p.reg) _ real) (or_right (is_out_of_place p) _ placed) (or_right (is_reserved p.reg) _ free),
 )
-
--- what the word of a unit asks
-pub word_fine : (constants : List _) (inst : Inst) → IsFine constants inst → IfSome (unit_word inst) (λ (w : UnitWord). IsFineUnit w)
-word_fine constants (RawData bytes) f = tt
-word_fine constants inst f = search (f)
 
 -- ---- what an extension and a choice that break no rule give.
 

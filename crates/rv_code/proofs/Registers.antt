@@ -1,11 +1,8 @@
 -- What a write to a register leaves, and the registers of a count of bits.
-use Rattle.std.proofs.Common.{◌≡◌, ℕ, ◌/◌, ◌^◌, ◌<◌, ◌≤◌, pos, Bool, true, false, arith, refl, ap, ◌∙◌, suc, nat_eq, zero, ◌≢◌, List, length, sym, ⊎_elim, eqb-true, ◌∷◌, subst, ◌*◌, [], rules, nat_le, nat_lt, int_lt, ◌||◌}
+pub use Rattle.{rv_inst.proofs.Sequences.reads_set, rv_machine.proofs.States.are_values_set}
 use Rattle.rv_code.proofs.Words.{AreValues, bits_of, cases_eq, eqb-false, ints, IrType, is_among, lt-ltb, nat_tests, number_of, pow-suc, reg, Reg, reg_of, Same, SameBut, set_reg, set_reg_of, signed64, signed_below, Values, Writable}
-use Rattle.std.proofs.Math.Seq.{get_or-set_other}
-use Rattle.std.proofs.Math.ListN.{length-set}
+use Rattle.std.{proofs.Common.{◌≡◌, ℕ, ◌/◌, ◌^◌, ◌<◌, ◌≤◌, pos, Bool, true, false, arith, refl, ap, ◌∙◌, suc, nat_eq, zero, ◌≢◌, List, length, sym, ⊎_elim, eqb-true, ◌∷◌, subst, ◌*◌, [], rules, nat_le, nat_lt, int_lt, ◌||◌}, proofs.Math.ListN.length-set, proofs.Math.Seq.get_or-set_other}
 use Rattle.std.proofs.lemmas.Grind.{get_or-set_at}
-pub use Rattle.rv_machine.proofs.States.{are_values_set}
-pub use Rattle.rv_inst.proofs.Sequences.{reads_set}
 
 -- ---- tests of numbers, and halves of powers of two, as the proofs of several sequences have them.
 
@@ -136,9 +133,6 @@ pub source_kept : {c : Count} {left next count : ℕ} {v w : Values} → IsCount
 source_kept {c} h k =
     let other : is_among (written c) c.rs ≡ false = (let a = h.sum_rs in let b = h.tmp_rs in let d = h.step_rs in grind (arith, nat_tests)) in
     sym (k.others.regs c.rs h.rs_usable other)
-
-pub sum_set : {c : Count} {left next count : ℕ} {v w : Values} (x : ℕ) → IsCount c → length w.regs ≡ 31 → CountHolds c left next count v w → CountHolds c left next x v (set_reg w c.sum x)
-sum_set {c} {v = v} {w = w} x h hw k = search (rules, reads_other, reads_set, k, h, temporary_set)
 
 pub spare_kept : {c : Count} {left next count : ℕ} {v w : Values} (x : ℕ) → IsCount c → CountHolds c left next count v w → CountHolds c left next count v (set_reg w 30 x)
 spare_kept {c} {v = v} {w = w} x h k = search (rules, arith, reads_other, k, h, spare_set)

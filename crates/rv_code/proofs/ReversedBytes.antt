@@ -1,8 +1,6 @@
 -- Bits in reverse order: the registers of a reversal, and the bits of bytes as a sum of single bits.
-use Rattle.std.proofs.Common.{◌≡◌, ◌≢◌, ℕ, ◌%◌, ◌<◌, ◌≤◌, false, [], ◌∷◌, List, length, arith, sym, rules, zero, suc, ◌+◌, ◌-◌, ◌*◌, ◌/◌, ◌^◌, refl, ap, subst, ◌∙◌, lit<, bit_or, bit_and, max}
-use Rattle.rv_code.proofs.Words.{AreValues, bit_at, is_among, nat_tests, or_add_and, pow-add, pow-suc, pow_below, reg, reversed_bits, reversed_bytes, SameBut, set_reg, shr-shr, Values}
-use Rattle.std.proofs.lemmas.Nat.Bits.{and_pow, bit_at_or, bit_at-pow_other, bit_at-zero}
-use Rattle.rv_code.proofs.Registers.{count_set, reads_set, reads_other, temporary_set, spare_set, own_set}
+use Rattle.rv_code.{proofs.Registers.{count_set, reads_set, reads_other, temporary_set, spare_set, own_set}, proofs.Words.{AreValues, bit_at, is_among, nat_tests, or_add_and, pow-add, pow-suc, pow_below, reg, reversed_bits, reversed_bytes, SameBut, set_reg, shr-shr, Values}}
+use Rattle.std.{proofs.Common.{◌≡◌, ◌≢◌, ℕ, ◌%◌, ◌<◌, ◌≤◌, false, [], ◌∷◌, List, length, arith, sym, rules, zero, suc, ◌+◌, ◌-◌, ◌*◌, ◌/◌, ◌^◌, refl, ap, subst, ◌∙◌, lit<, bit_or, bit_and, max}, proofs.lemmas.Nat.Bits.{and_pow, bit_at_or, bit_at-pow_other, bit_at-zero}}
 
 -- ---- the registers of a reversal of bits, and what they hold in its course.
 
@@ -67,14 +65,8 @@ source_kept {c} h k =
     let other : is_among (written c) c.rs ≡ false = (let a = h.rd_rs in let b = h.tmp_rs in let d = h.tmp2_rs in let e = h.step_rs in grind (arith, nat_tests)) in
     sym (k.others.regs c.rs h.rs_usable other)
 
-pub rd_set : {c : Reversal} {left next place got : ℕ} {v w : Values} (x : ℕ) → IsReversal c → length w.regs ≡ 31 → Holds c left next place got v w → Holds c left next place x v (set_reg w c.rd x)
-rd_set {c} {v = v} {w = w} x h hw k = search (rules, reads_other, reads_set, k, h, temporary_set)
-
 pub tmp_set : {c : Reversal} {left next place got : ℕ} {v w : Values} (x : ℕ) → IsReversal c → length w.regs ≡ 31 → Holds c left next place got v w → Holds c left x place got v (set_reg w c.tmp x)
 tmp_set {c} {v = v} {w = w} x h hw k = search (rules, reads_other, reads_set, k, h, temporary_set)
-
-pub tmp2_set : {c : Reversal} {left next place got : ℕ} {v w : Values} (x : ℕ) → IsReversal c → length w.regs ≡ 31 → Holds c left next place got v w → Holds c left next x got v (set_reg w c.tmp2 x)
-tmp2_set {c} {v = v} {w = w} x h hw k = search (rules, reads_other, reads_set, k, h, temporary_set)
 
 pub step_set : {c : Reversal} {left next place got : ℕ} {v w : Values} (x : ℕ) → IsReversal c → length w.regs ≡ 31 → Holds c left next place got v w → Holds c x next place got v (set_reg w c.step x)
 step_set {c} {v = v} {w = w} x h hw k = search (rules, reads_other, reads_set, k, h, temporary_set)

@@ -1,7 +1,6 @@
 -- The numbers of a count of zeros: which bit is the next, and how many zeros are left.
+use Rattle.rv_code.{proofs.Registers.half_power, proofs.Words.{alu_rri, bit_at, bit_shift, div-div-eq-div-mul, leading_zeros, pow-suc, pow_below, trailing_zeros, wrap, zeros}}
 use Rattle.std.proofs.Common.{◌≡◌, ℕ, zero, suc, ◌+◌, ◌-◌, ◌*◌, ◌/◌, ◌%◌, ◌^◌, ◌<◌, ◌≤◌, pos, Bool, true, false, arith, refl, ap, subst, ◌∙◌, lit≤, ◌==◌, if◌then◌else◌}
-use Rattle.rv_code.proofs.Words.{alu_rri, bit_at, bit_shift, div-div-eq-div-mul, leading_zeros, pow-suc, pow_below, trailing_zeros, wrap, zeros}
-use Rattle.rv_code.proofs.Registers.{half_power}
 
 -- which bit is the next, where so many are left and one more: the highest of them or the lowest
 abbrev pub index_of : Bool → ℕ → ℕ → ℕ

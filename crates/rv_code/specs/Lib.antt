@@ -9,6 +9,8 @@ pub mod Sites
 pub mod Pieces
 pub mod Traps
 pub mod Evaluation
+pub mod Accesses
+pub mod Calls
 pub mod InstParts
 pub mod InstRuns
 pub mod Chains

@@ -1,25 +1,14 @@
 -- An instruction keeps its bounds: how many bytes it puts, how many uses more are pending, and how far they reach.
 use Rattle.rv_emit.proofs.{OwnPieces.Each, OwnPieces.each_more, OwnPieces.each_none, ReachAfterInst.few_deadlines, ReachAfterInst.first_use, ReachAfterInst.fits_most, ReachAfterInst.pending_adds, ReachAfterInst.pending_at, ReachAfterInst.still_pending, ReachAfterInst.uses_late}
-use Rattle.rv_emit.proofs.Terms.{◌≡◌, ℕ, ◌+◌, ◌≤◌, Bool, true, false, cond, List, [], ◌∷◌, length, length-append, Option, Some, None, suc, refl, ap, ◌∙◌, arith, ◌-◌, if◌then◌else◌, TryCallInfo, Context, jump_kind, jump_size, label_kinds, forward_of, targets_of, ways_of, ways_by, inst_ways}
+use Rattle.rv_emit.proofs.Terms.{◌≡◌, ℕ, ◌+◌, ◌≤◌, Bool, true, false, cond, List, [], ◌∷◌, length, length-append, Option, Some, None, suc, refl, ap, ◌∙◌, arith, ◌-◌, if◌then◌else◌, TryCallInfo, Context, jump_kind, jump_size, label_kinds, forward_of, targets_of, ways_of, ways_by, inst_ways, lit≤}
 use Rattle.rv_emit.proofs.Terms.{try_call_of, inst_size, use_at, target_uses, target_reach, jump_reach, inst_reach, uses_by, uses_in, least_reach, Fallthrough, Inst, LabelUse, Jal20, B12, PCRelLo12I, RVCJump, Targets, Nowhere, Jumps, Branches, Refers, RefersConstant, Use, bytes_of, place_of, AllOf}
 use Rattle.{rv_emit.proofs.Terms.{deadline, deadlines, constant_label, Buffer, Appends, IsBounded}, rv_inst.specs.{declared.inst.CondBrTarget.TheVariants.Label, declared.inst.Line.TheVariants.Inst as Put}}
 
 -- ---- how far uses reach
 
--- a jump, or a branch, reaches as far as the shortest of its line, and so does a jump after a branch
-jump_least : (short : Bool) (start : ℕ) → start + (if short then 2046 else 1048574) ≤ start + forward_of (if short then RVCJump else Jal20)
-jump_least short start = elim short as (λ short. start + (if short then 2046 else 1048574) ≤ start + forward_of (if short then RVCJump else Jal20)) [ true ↦ omega arith | false ↦ omega arith ]
-
-branch_least : (short : Bool) (start : ℕ) → start + (if short then 2046 else 4094) ≤ start + 4094
-branch_least short start = elim short as (λ short. start + (if short then 2046 else 4094) ≤ start + 4094) [ true ↦ omega arith | false ↦ omega arith ]
-
-after_least : (short : Bool) (start : ℕ) → start + (if short then 2046 else 4094) ≤ start + 4 + forward_of (if short then RVCJump else Jal20)
-after_least short start = elim short as (λ short. start + (if short then 2046 else 4094) ≤ start + 4 + forward_of (if short then RVCJump else Jal20)) [ true ↦ omega arith | false ↦ omega arith ]
-
--- a jump at the end of what begins before it, too
-last_least : (short : Bool) (start end : ℕ) → start + (if short then 2 else 4) ≤ end → start + (if short then 2046 else 1048574) ≤ end - (if short then 2 else 4) + forward_of (if short then RVCJump else Jal20)
-last_least true start end le = omega arith
-last_least false start end le = omega arith
+-- a jump reaches as far as the shortest of its line that may be a jump or a branch, and a branch as the shortest that is one
+reaches_least : (short : Bool) → ((if short then 2046 else 1048574) ≤ forward_of (if short then RVCJump else Jal20)) × ((if short then 2046 else 4094) ≤ forward_of (if short then RVCJump else Jal20)) × ((if short then 2046 else 4094) ≤ 4094)
+reaches_least short = elim short as (λ short. ((if short then 2046 else 1048574) ≤ forward_of (if short then RVCJump else Jal20)) × ((if short then 2046 else 4094) ≤ forward_of (if short then RVCJump else Jal20)) × ((if short then 2046 else 4094) ≤ 4094)) [ true ↦ (lit≤ tt, lit≤ tt, lit≤ tt) | false ↦ (lit≤ tt, lit≤ tt, lit≤ tt) ]
 
 -- each reaches as far as the shortest of its line
 pub uses_least : (context : Context) (start end : ℕ) (inst : Inst) → ((t : TryCallInfo) → try_call_of inst ≡ Some t → start + jump_size context.flags ≤ end) → Each (λ u. start + least_reach context (Put inst) ≤ deadline label_kinds u) (uses_in context start end inst)
@@ -30,12 +19,12 @@ uses_least context start end inst room = by (try_call_of inst) refl
 
     on : (targets : Targets) → Each (λ u. begin + target_reach context.flags targets ≤ deadline label_kinds u) (target_uses context.flags begin targets)
     on Nowhere = each_none _
-    on (Jumps label) = each_more (λ u. begin + target_reach context.flags (Jumps label) ≤ deadline label_kinds u) _ [] (jump_least context.flags.has_zca begin) (each_none _)
+    on (Jumps label) = each_more (λ u. begin + target_reach context.flags (Jumps label) ≤ deadline label_kinds u) _ [] (omega (arith, (reaches_least context.flags.has_zca).0)) (each_none _)
     on (Branches Fallthrough not_taken) = each_none _
-    on (Branches (Label t) Fallthrough) = each_more (λ u. begin + target_reach context.flags (Branches (Label t) Fallthrough) ≤ deadline label_kinds u) _ [] (branch_least context.flags.has_zca begin) (each_none _)
+    on (Branches (Label t) Fallthrough) = each_more (λ u. begin + target_reach context.flags (Branches (Label t) Fallthrough) ≤ deadline label_kinds u) _ [] (omega (arith, (reaches_least context.flags.has_zca).2)) (each_none _)
     on (Branches (Label t) (Label f)) =
-        each_more (λ u. begin + target_reach context.flags (Branches (Label t) (Label f)) ≤ deadline label_kinds u) _ (use_at (begin + 4) f (jump_kind context.flags) ∷ []) (branch_least context.flags.has_zca begin)
-        (each_more (λ u. begin + target_reach context.flags (Branches (Label t) (Label f)) ≤ deadline label_kinds u) _ [] (after_least context.flags.has_zca begin) (each_none _))
+        each_more (λ u. begin + target_reach context.flags (Branches (Label t) (Label f)) ≤ deadline label_kinds u) _ (use_at (begin + 4) f (jump_kind context.flags) ∷ []) (omega (arith, (reaches_least context.flags.has_zca).2))
+        (each_more (λ u. begin + target_reach context.flags (Branches (Label t) (Label f)) ≤ deadline label_kinds u) _ [] (omega (arith, (reaches_least context.flags.has_zca).1)) (each_none _))
     on (Refers label) =
         each_more (λ u. begin + 1048574 ≤ deadline label_kinds u) _ (use_at (begin + 4) label PCRelLo12I ∷ []) (omega arith) (each_more (λ u. begin + 1048574 ≤ deadline label_kinds u) _ [] (omega arith) (each_none _))
     on (RefersConstant k read) =
@@ -46,7 +35,7 @@ uses_least context start end inst room = by (try_call_of inst) refl
 
     by : (t : Option TryCallInfo) → try_call_of inst ≡ t → Each (λ u. start + inst_reach context.flags t (targets_of inst) ≤ deadline label_kinds u) (uses_by context.flags begin end t (targets_of inst))
     by None goes = sooner (target_reach context.flags (targets_of inst)) (target_uses context.flags begin (targets_of inst)) (on (targets_of inst))
-    by (Some t) goes = each_more (λ u. start + jump_reach context.flags ≤ deadline label_kinds u) _ [] (last_least context.flags.has_zca start end (room t goes)) (each_none _)
+    by (Some t) goes = each_more (λ u. start + jump_reach context.flags ≤ deadline label_kinds u) _ [] (omega (arith, (reaches_least context.flags.has_zca).0, room t goes)) (each_none _)
 
 -- what holds of the deadline of each use holds of those that pass a test
 all_deadlines : (P : ℕ → Type 0) (test : Use LabelUse → Bool) (uses : List (Use LabelUse)) → Each (λ u. P (deadline label_kinds u)) uses → AllOf P (deadlines test label_kinds uses)

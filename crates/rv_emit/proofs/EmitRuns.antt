@@ -1,9 +1,8 @@
 -- What was put runs wherever it stands in finished code, and leaves a buffer into which more can be put.
-use Rattle.rv_emit.proofs.{OwnPieces.each_none, InstSlots.appends, InstSlots.emitted_keeps, InstSlots.parts_are_self_contained, PartsInBuffer.gap_last, PartsInBuffer.GapPut, PartsInBuffer.gap_put, PartsInBuffer.parts_last, PartsInBuffer.PartsPut, PartsInBuffer.parts_put, StackMaps.can_given}
-use Rattle.rv_emit.proofs.{Standing.gap_stands, Standing.parts_stand}
-use Rattle.rv_emit.proofs.Terms.{◌≡◌, ℕ, ◌%◌, ◌<◌, ◌≤◌, Bool, false, List, [], length, Option, Some, None, refl, ap, sym, ◌∙◌, subst, arith, slice_get, no_flags, IsaFlags, code_limit, UserStackMap, Context, is_bad_frame_for, label_kinds, inst_constant, named_by, tail_call_of, inst_rule, Inst, Call}
-use Rattle.rv_emit.proofs.Terms.{CallInd, LabelUse, Use, shape_of, bytes_of, uses_of, records_of, named_of, constants_of, AreWindows, Lasts, Shape, even_length, windows_none, parts_of, Site, PartsStand, EmitVState, inst_resumes, resumes_fully, runs_fully, inst_runs, reads_operation, EmitsIn}
-use Rattle.rv_emit.proofs.Terms.{IsBuilt, HasCode, RunsBetween, EmitsRun, GapLeads, Buffer, IsSoundBuffer, CanEmit, IslandIfNeeded, with_map, PartsIn}
+use Rattle.rv_emit.{proofs.InstSlots.{appends, emitted_keeps, parts_are_self_contained}, proofs.OwnPieces.each_none, proofs.PartsInBuffer.{gap_last, GapPut, gap_put, parts_last, PartsPut, parts_put}, proofs.StackMaps.can_given, proofs.Standing.{gap_stands, parts_stand}}
+use Rattle.rv_emit.proofs.Terms.{◌≡◌, ℕ, ◌%◌, ◌<◌, ◌≤◌, Bool, false, List, [], length, Option, Some, None, refl, ap, sym, ◌∙◌, subst, arith, slice_get, no_flags, IsaFlags, code_limit, UserStackMap, Context, is_bad_frame_for, label_kinds, inst_constant, named_by}
+use Rattle.rv_emit.proofs.Terms.{tail_call_of, inst_rule, Inst, Call, CallInd, LabelUse, Use, shape_of, bytes_of, uses_of, records_of, named_of, constants_of, AreWindows, Lasts, Shape, even_length, windows_none, parts_of, Site, PartsStand, EmitVState, inst_resumes}
+use Rattle.rv_emit.proofs.Terms.{resumes_fully, runs_fully, inst_runs, reads_operation, EmitsIn, IsBuilt, HasCode, RunsBetween, EmitsRun, GapLeads, Buffer, IsSoundBuffer, CanEmit, IslandIfNeeded, with_map, PartsIn}
 
 -- ---- in finished code
 
@@ -13,9 +12,7 @@ module _ (setting : EmitVState) (inst : Inst) (start end : ℕ) (f : Shape Label
 
   stand : PartsStand site start end (parts_of site.context setting inst) × (end % 2 ≡ 0) × (start ≤ end) × (end ≤ length site.bytes)
   stand =
-      let longer = code.finished.finishes.grows.longer in
-      let whole = long in
-      parts_stand site f code.bytes code.finished code.keeps code.place code.records code.fields code.filled (parts_of site.context setting inst) start end (parts_are_self_contained site.context setting inst rule) even (omega (arith, inside, longer, whole)) there
+      parts_stand site f code.bytes code.finished code.keeps code.place code.records code.fields code.filled (parts_of site.context setting inst) start end (parts_are_self_contained site.context setting inst rule) even (omega (arith, inside, code.finished.finishes.grows.longer, long)) there
 
   short : length site.bytes < code_limit
   short = omega (arith, long, code.finished.finishes.long, code.finished.can.short)
@@ -55,8 +52,6 @@ module _ (context : Context) (setting : EmitVState) (map : Option UserStackMap) 
   runs : (f : Shape LabelUse) (site : Site) → Lasts label_kinds (shape_of new) f → HasCode context f site → RunsBetween site inst (length (bytes_of old)) (length (bytes_of new))
   runs f site lasts code =
       let there = parts_last context.flags (parts_of context setting (with_map map inst)) (length (bytes_of old)) (length (bytes_of new)) parts.stand lasts in
-      let first = parts.lasts.grows.longer in
-      let second = lasts.grows.longer in
       let is = sym code.read_in in
       let i = with_map map inst in
       runs_given map site inst (length (bytes_of old)) (length (bytes_of new))
@@ -64,7 +59,7 @@ module _ (context : Context) (setting : EmitVState) (map : Option UserStackMap) 
       (ap (λ x. inst_rule x i) code.read_in ∙ given.rule)
       (ap (λ (x : Context). is_bad_frame_for x.frame (tail_call_of i)) code.read_in ∙ given.restores)
       (even_length label_kinds old built.sound)
-      (omega (arith, first, second))
+      (omega (arith, parts.lasts.grows.longer, lasts.grows.longer))
       (subst (λ (x : Context). PartsIn x.flags (parts_of x setting i) f (length (bytes_of old)) (length (bytes_of new))) is there)
       (subst (λ x. HasCode x f site) is code))
 

@@ -1,18 +1,16 @@
 -- How the code of an instruction is made: what it adds to a buffer, and that its parts are self-contained.
-use Rattle.{rv_code.proofs.MadeOfPieces.constant_made, rv_code.proofs.MadeOfPieces.far_made, rv_code.proofs.MadeOfPieces.got_made, rv_code.proofs.MadeOfPieces.near_made, rv_code.specs.{Operations.jump_size, Slots.uses_of, Slots.records_of}}
-use Rattle.rv_emit.proofs.{CallSlots.IsCall, CallSlots.call_adds, CallSlots.call_blocks, CallSlots.call_is, CallSlots.call_ind_is, Islands.KeepsLow, Islands.asked_keeps, Islands.room_named, Islands.room_records, Islands.room_sound, OwnPieces.Each, OwnPieces.each_none, OwnPieces.made_appends}
-use Rattle.rv_emit.proofs.{TableSlots.table_adds}
-use Rattle.rv_emit.proofs.Terms.{none_put, ◌≡◌, ◌⊎◌, inl, ℕ, ◌+◌, ◌*◌, ◌^◌, ◌≤◌, List, [], ◌∷◌, ◌++◌, length, Option, Some, None, pos, refl, ap, sym, ◌∙◌, arith, lit≤, subst, same_Some, number_of, TrapCode, code_limit}
-use Rattle.rv_emit.proofs.Terms.{IntegerCompare, Context, inst_rule, UnitWord, Inst, Nop0, Nop4, EBreak, SequencePoint, Args, Rets, DummyUse, EmitIsland, RawData, Lui, Auipc, LoadInlineConst, AluRRR, AluRRImm12, Mov, MovFromPReg, Extend, Select, Load, Store}
-use Rattle.rv_emit.proofs.Terms.{LoadAddr, LabelAddress, Ret, TrapIf, Jal, CondBr, BrTable, Udf, Jalr, StackProbeLoop, LoadExtNameGot, LoadExtNameNear, LoadExtNameFar, Call, CallInd, ReturnCall, ReturnCallInd, Unwind, CondBrTarget, Fallthrough, TryCallInfo, StackLoad, Exactly}
-use Rattle.rv_emit.proofs.Terms.{AtMost, IsOfSize, Request, first_in, space_in, request_of, inst_size, inst_sum, inst_records, uses_in, return_of, filled_last, is_some, VCodeConstant, inst_constant, named_by, table_of, EmitVState, Decoded, short_jalr, Buffer, IsSoundBuffer, Appends, AppendsCode}
-use Rattle.rv_emit.proofs.Terms.{HasReturn, IsFarUse, IslandAsked, bytes_of, allocated_of, named_of, PutsParts, EmitsIn, Part, Ask, Slots, Slot, Op, Records, size_of, names_of, AreSelfContained, PartsAreSelfContained, access_records, access_slots, branch_slots}
-use Rattle.rv_emit.proofs.Terms.{call_parts, call_to, tail_slots, t0_slots, return_slots, table_slots, parts_of, slots_of, Piece, HasSize, rrr_sized, rri_sized, lui_sized, jalr_sized, ebreak_sized, window_long, size_append, IsPlain, IsSummed, summed, plain_put, put_long}
-use Rattle.rv_emit.proofs.Terms.{code_none, no_own, low_kept, IsMadeOf, made_contained, mov_made, mov_from_preg_made, extend_made, select_made, trap_if_made, udf_made, sequence_made, load_summed, store_summed, load_contained, store_contained, load_addr_summed}
-use Rattle.rv_emit.proofs.Terms.{address_contained, location_of, probe_made, unwind_summed, table_contained, table_short, tail_contained, tail_contents, t0_contained, t0_contents, return_short}
-use Rattle.{rv_emit.proofs.Terms.{AreShortLoads, unless_short, results_short, fine, constant_kept, data_kept, keeps}, rv_inst.specs.declared.inst.CondBrTarget.TheVariants.Label as ToLabel}
-use Rattle.rv_inst.specs.Descriptions.{Description, Word, Computes, description_of, most_words}
-use Rattle.rv_code.specs.InstParts.{described_parts}
+use Rattle.{rv_code.{proofs.LineSlots.size_both, proofs.MadeOfPieces.{constant_made, far_made, got_made, near_made}, specs.Accesses.return_pieces, specs.InstParts.described_parts, specs.Slots.{uses_of, records_of}}, rv_emit.proofs.CallSlots.{IsCall, call_adds, call_blocks, call_is, call_ind_is}}
+use Rattle.rv_emit.{proofs.Islands.{KeepsLow, asked_keeps, room_named, room_records, room_sound}, proofs.OwnPieces.{Each, each_none, made_appends}, proofs.TableSlots.table_adds}
+use Rattle.rv_emit.proofs.Terms.{none_put, ◌≡◌, ◌⊎◌, inl, ℕ, ◌+◌, ◌*◌, ◌^◌, ◌≤◌, List, [], ◌∷◌, ◌++◌, length, Option, Some, None, pos, refl, ap, sym, ◌∙◌, arith, lit≤, subst, same_Some, number_of, TrapCode, code_limit, IntegerCompare, Context, inst_rule, UnitWord, Inst}
+use Rattle.rv_emit.proofs.Terms.{Nop0, Nop4, EBreak, SequencePoint, Args, Rets, DummyUse, EmitIsland, RawData, Lui, Auipc, LoadInlineConst, AluRRR, AluRRImm12, Mov, MovFromPReg, Extend, Select, Load, Store, LoadAddr, LabelAddress, Ret, TrapIf, Jal, CondBr, BrTable, Udf}
+use Rattle.rv_emit.proofs.Terms.{Jalr, StackProbeLoop, LoadExtNameGot, LoadExtNameNear, LoadExtNameFar, Call, CallInd, ReturnCall, ReturnCallInd, Unwind, CondBrTarget, Fallthrough, TryCallInfo, StackLoad, Exactly, AtMost, IsOfSize, Request, first_in, space_in, request_of}
+use Rattle.rv_emit.proofs.Terms.{inst_size, inst_sum, inst_records, uses_in, return_of, filled_last, is_some, VCodeConstant, inst_constant, named_by, table_of, EmitVState, Decoded, Buffer, IsSoundBuffer, Appends, AppendsCode, HasReturn, IsFarUse, IslandAsked, bytes_of}
+use Rattle.rv_emit.proofs.Terms.{allocated_of, named_of, PutsParts, EmitsIn, Part, Ask, Slots, Slot, Op, size_of, names_of, AreSelfContained, PartsAreSelfContained, access_records, access_slots, branch_slots, call_parts, parts_of}
+use Rattle.rv_emit.proofs.Terms.{slots_of, Piece, HasSize, rrr_sized, rri_sized, lui_sized, jalr_sized, ebreak_sized, window_long, IsPlain, IsSummed, summed, plain_put, put_long, code_none, no_own, low_kept, IsMadeOf, made_contained, mov_made, mov_from_preg_made}
+use Rattle.rv_emit.proofs.Terms.{extend_made, select_made, trap_if_made, udf_made, sequence_made, load_summed, store_summed, load_contained, store_contained, load_addr_summed, address_contained, location_of, probe_made, unwind_summed, table_contained, table_short}
+use Rattle.rv_emit.proofs.Terms.{tail_contained, tail_contents, t0_contained, t0_contents, return_short, AreShortLoads, unless_short, results_short, table_fine, call_kept, call_ind_kept, constant_kept, data_kept, keeps}
+use Rattle.rv_inst.{specs.Descriptions.{Description, Word, Computes, description_of, most_words}, specs.declared.inst.CondBrTarget.TheVariants.{Label as ToLabel}}
+use Rattle.rv_code.specs.Pieces as piece
 use Rattle.mach_records.specs.declared.records.Event.TheVariants as event
 use Rattle.rv_ops.specs.declared.memory.LoadOP.TheVariants as loads
 
@@ -90,7 +88,7 @@ island context space = record {
 }
 
 -- a call
-calling : {context : Context} {inst : Inst} {own : ℕ} {call : List Slot → List Slot} {loads : List StackLoad} {t : Option TryCallInfo} → IsCall context inst own call loads t → AreShortLoads context.flags loads → IsCode context inst (call_parts context.flags call loads t)
+calling : {context : Context} {inst : Inst} {own : ℕ} {call : List Piece → List Piece} {loads : List StackLoad} {t : Option TryCallInfo} → IsCall context inst own call loads t → AreShortLoads context.flags loads → IsCode context inst (call_parts context.flags call loads t)
 calling {loads = loads} is short = record { contained = call_blocks loads is; appends = λ old new s back small p. call_adds loads old new is short s p }
 
 -- an operation
@@ -163,10 +161,9 @@ inst_is_code context setting (TrapIf cmp code) rule = made (trap_if_made context
 inst_is_code context setting (Jal label) rule = plain (record { plain = tt; fits = omega (arith, window_long context.flags); uses = λ allocated start. refl; records = λ start. refl; names = λ named. refl }) refl (tt, tt)
 inst_is_code context setting (CondBr taken not_taken kind) rule = branches context kind taken not_taken
 inst_is_code context setting (BrTable index tmp1 tmp2 targets) rule =
-    let slots = table_slots context.flags (number_of index) (number_of tmp1.reg) (number_of tmp2.reg) targets in
     let far = table_adds context.flags (number_of index) (number_of tmp1.reg) (number_of tmp2.reg) targets in
     let most = λ (few : length targets ≤ 2 ^ 30). table_short context.flags (number_of index) (number_of tmp1.reg) (number_of tmp2.reg) targets few in
-    let some = (fine context (BrTable index tmp1 tmp2 targets) rule).4 in
+    let some = (table_fine index tmp1 tmp2 targets (keeps context _ rule)).4 in
     after refl (omega arith) refl refl refl (λ small. let few = most (omega arith) in omega (arith, some, few)) far.plain (table_contained context.flags (number_of index) (number_of tmp1.reg) (number_of tmp2.reg) targets)
     (λ small. let few = most (omega arith) in omega (arith, some, few)) far.uses (λ start end. refl) (λ first at. far.records at) far.names
 inst_is_code context setting (Udf code) rule = made (udf_made context code)
@@ -175,19 +172,17 @@ inst_is_code context setting (StackProbeLoop guard_size probe_count tmp) rule = 
 inst_is_code context setting (LoadExtNameGot rd name) rule = made (got_made context rd name)
 inst_is_code context setting (LoadExtNameNear rd name offset) rule = made (near_made context rd name offset)
 inst_is_code context setting (LoadExtNameFar rd name offset) rule = made (far_made context rd name offset)
-inst_is_code context setting (Call info) rule = calling (call_is context info) (unless_short context.flags info.patchable info.defs (fine context (Call info) rule).1)
-inst_is_code context setting (CallInd info) rule = calling (call_ind_is context info) (results_short context.flags info.defs (fine context (CallInd info) rule).2)
+inst_is_code context setting (Call info) rule = calling (call_is context info) (unless_short context.flags info.patchable info.defs (call_kept info (keeps context _ rule)).results)
+inst_is_code context setting (CallInd info) rule = calling (call_ind_is context info) (results_short context.flags info.defs (call_ind_kept info (keeps context _ rule)).results)
 inst_is_code context setting (ReturnCall info) rule =
-    let slots = tail_slots context.flags context.frame info.new_stack_arg_size info.dest in
     let c = tail_contents context.flags context.frame info.new_stack_arg_size info.dest in
-    let long = size_append (return_slots context.flags context.frame info.new_stack_arg_size) (Records event.CallSite ∷ call_to 0 31 info.dest ∷ []) in
+    let long = size_both context.flags (return_pieces context.flags context.frame info.new_stack_arg_size) (piece.Note event.CallSite ∷ piece.Call 0 31 info.dest ∷ []) in
     after refl (omega (arith, long)) refl refl (omega (arith, long)) (λ small. omega (arith, long)) c.plain (tail_contained context.flags context.frame info.new_stack_arg_size info.dest)
     (λ small. omega (arith, long, return_short context.flags context.frame info.new_stack_arg_size)) (λ allocated at. subst (Each (IsFarUse _)) (sym (c.uses allocated at)) (each_none _)) (λ start end. refl) (λ first at. c.records at) c.names
 inst_is_code context setting (ReturnCallInd info) rule =
-    let slots = t0_slots context.flags context.frame info.new_stack_arg_size in
     let c = t0_contents context.flags context.frame info.new_stack_arg_size in
     let jump = (jalr_sized context.flags 0 5 (pos 0)).few in
-    let long = size_append (return_slots context.flags context.frame info.new_stack_arg_size) (Op (short_jalr context.flags 0 5 (pos 0)) ∷ []) in
+    let long = size_both context.flags (return_pieces context.flags context.frame info.new_stack_arg_size) (piece.Jalr 0 5 (pos 0) ∷ []) in
     after refl (omega (arith, long)) refl refl (omega (arith, long)) (λ small. omega (arith, long)) c.plain (t0_contained context.flags context.frame info.new_stack_arg_size)
     (λ small. omega (arith, long, return_short context.flags context.frame info.new_stack_arg_size)) (λ allocated at. subst (Each (IsFarUse _)) (sym (c.uses allocated at)) (each_none _)) (λ start end. refl) (λ first at. c.records at) c.names
 inst_is_code context setting (Unwind inst) rule = plain (unwind_summed context inst) refl tt
@@ -199,8 +194,8 @@ parts_are_self_contained context setting inst rule = (inst_is_code context setti
 
 -- where a call returns is among its bytes
 has_return : (context : Context) (setting : EmitVState) (inst : Inst) (old new : Buffer) → inst_rule context inst ≡ None → IsSoundBuffer old → EmitsIn context setting inst old new → HasReturn context inst (length (bytes_of old)) (length (bytes_of new))
-has_return context setting (Call info) old new rule s p = (call_adds _ old new (call_is context info) (unless_short context.flags info.patchable info.defs (fine context (Call info) rule).1) s p).back
-has_return context setting (CallInd info) old new rule s p = (call_adds _ old new (call_ind_is context info) (results_short context.flags info.defs (fine context (CallInd info) rule).2) s p).back
+has_return context setting (Call info) old new rule s p = (call_adds _ old new (call_is context info) (unless_short context.flags info.patchable info.defs (call_kept info (keeps context _ rule)).results) s p).back
+has_return context setting (CallInd info) old new rule s p = (call_adds _ old new (call_ind_is context info) (results_short context.flags info.defs (call_ind_kept info (keeps context _ rule)).results) s p).back
 has_return context setting inst old new rule s p = record { returns = λ r e. absurd (cc); goes_on = λ t e. absurd (cc) }
 
 -- what an instruction adds

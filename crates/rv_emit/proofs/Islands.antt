@@ -87,8 +87,7 @@ can_island old new after_island p reach room =
     let less : length (bytes_of old) ≡ length (bytes_of new) - 4 = omega arith in
     let near : aligned (length (bytes_of new)) ≤ length (bytes_of new) + 2 = aligned_near (length (bytes_of new)) (even_length label_kinds new p.sound) in
     let last = length (bytes_of old) + 1048574 in
-    let reserve : reserve_of (shape_of new) ≡ reserve_of (shape_of old) = same_reserve p in
-    let end : island_end (end_after (shape_of new)) (aligned (length (bytes_of new))) (length (pending old)) last < code_limit = let e = end_near new (aligned (length (bytes_of new))) (length (pending old)) last p.sound in omega (arith, e, near, long, room, reserve) in
+    let end : island_end (end_after (shape_of new)) (aligned (length (bytes_of new))) (length (pending old)) last < code_limit = let e = end_near new (aligned (length (bytes_of new))) (length (pending old)) last p.sound in omega (arith, e, near, long, room, same_reserve p) in
     record {
       inner = omega arith;
       known = omega arith;
@@ -137,8 +136,7 @@ jump_is : (old mid new : Buffer) (after_island : MachLabel) → JumpPut old mid 
 jump_is old mid new after_island p i =
     let us = uses_of old in
     let u = use_at (length (bytes_of old)) after_island Jal20 in
-    let long = length-append us (u ∷ []) in
-    let last : length us ≡ length (us ++ u ∷ []) - 1 = omega (arith, long) in
+    let last : length us ≡ length (us ++ u ∷ []) - 1 = omega (arith, length-append us (u ∷ [])) in
     same_Some u i.jump (sym (slice_get-append_last us u) ∙ ap (slice_get (us ++ u ∷ [])) last ∙ ap (λ (vs : List (Use LabelUse)). slice_get vs (length vs - 1)) (sym p.uses) ∙ i.last)
 
 -- a jump was put, and the island after it
@@ -152,11 +150,7 @@ puts_island old allocated mid new after_island p labels sound same_bytes windows
     let counted : count ≡ length (pending old) = ap (length {A = ℕ}) (others_pending old mid after_island p) in
     let last = deadline label_kinds i.jump in
     let end : length (bytes_of new) ≡ island_end (end_after (shape_of mid)) (aligned (length (bytes_of mid))) count last = i.end in
-    let allocated_fresh = p.fresh in
-    let few = few_allocated label_kinds mid p.sound in
-    let near = island_reserve label_kinds mid p.sound (omega arith) i in
-    let reserve = same_reserve p in
-    let ahead = grows.longer in
+    let near = island_reserve label_kinds mid p.sound (omega (arith, p.fresh, few_allocated label_kinds mid p.sound)) i in
     -- what the jump leaves as it was
     let jump = wide_jump_to (Label after_island) ∷ [] in
     let before = lasts_more (lasts_allocated label_kinds (shape_of old)) (lasts_after_slots no_flags (allocated_of old + 1) jump (with_allocated (shape_of old)) (shape_of mid) (puts no_flags)) in
@@ -170,11 +164,11 @@ puts_island old allocated mid new after_island p labels sound same_bytes windows
       lasts = lasts_island label_kinds mid p.sound can i;
       allocated = rest.allocated ∙ p.allocated;
       jump = ap (λ n. take n (bytes_of new)) (sym long) ∙ grows.before ∙ p.bytes;
-      longer = omega (arith, long, ahead);
+      longer = omega (arith, long, grows.longer);
       own = subst (λ (n : ℕ). AddsOwn label_kinds n (uses_of old ++ use_at (length (bytes_of old)) after_island Jal20 ∷ []) (uses_of new)) long (subst (λ (us : List (Use LabelUse)). AddsOwn label_kinds (length (bytes_of mid)) us (uses_of new)) p.uses own);
       bound = rest.bound;
       places = λ label low ne. rest.places label low ne ∙ ap (λ (place : ℕ → Option ℕ). place label) p.places;
-      labels = rest.labels (omega (arith, allocated_fresh)) ∙ a.labels ∙ labels;
+      labels = rest.labels (omega (arith, p.fresh)) ∙ a.labels ∙ labels;
       records = rest.records ∙ records;
       registered = rest.registered ∙ p.registered;
       named = rest.named ∙ named;
@@ -182,7 +176,7 @@ puts_island old allocated mid new after_island p labels sound same_bytes windows
       end = end ∙ (λ j. island_end (λ n. constants_end (p.registered j) (drop (length (constants j)) (named j)) n) (aligned (long j)) (counted j) (deadline label_kinds (sym (jump_is old mid new after_island p i) j)));
       taken = island_takes label_kinds mid p.sound i;
       whole = ap (λ n. n % 4) end ∙ end_whole _;
-      short = omega (arith, long, near, counted, reserve);
+      short = omega (arith, long, near, counted, same_reserve p);
       adds = adds_both (adds_none (omega (arith, long)) constants p.registered) (adds_island label_kinds after_island (shape_of mid) (shape_of new) i);
       windows = λ w. kept (jump_windows allocated mid after_island sound a (windows w));
       constants = λ w all. stand (jump_windows allocated mid after_island sound a (windows w)) (stands_last before constants all);

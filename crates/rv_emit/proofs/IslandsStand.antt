@@ -1,7 +1,7 @@
 -- Islands in the finished code, and where jumps and branches aim.
-use Rattle.rv_emit.proofs.{VeneerRuns.window_length, VeneerRuns.window_there, VeneerRuns.via_decodes, VeneerRuns.pair_there, VeneerRuns.rest_there, Standing.aim_finished, Standing.aim_has, Standing.within}
+use Rattle.rv_emit.proofs.{VeneerRuns.window_length, VeneerRuns.window_there, VeneerRuns.via_decodes, VeneerRuns.veneer_there, VeneerRuns.rest_there, Standing.aim_finished, Standing.aim_has, Standing.within}
 use Rattle.rv_emit.proofs.Terms.{◌≡◌, ◌⊎◌, ℕ, ◌+◌, ◌^◌, ◌≤◌, inl, inr, ⊎_elim, [], ◌∷◌, List, length, Some, pos, ◌-ℤ◌, arith, refl, ap, sym, subst, ◌∙◌, true, ℤ, same_Some, IsaFlags, Decoded, int_decode, decode, is_integer, integer_decodes, Memory, store, fetch, byte_stored, Context, word_in}
-use Rattle.rv_emit.proofs.Terms.{GoesOn, IsIsland, LabelUse, Jal20, label_kinds, veneer_of, use_at, Use, Shape, IsVia, Lasts, window, ByVeneer, UseFinished, lasts_more, wide_jump_to, decoded_jump, Label, between, Fixup, Site, BytesAt, CodeHas, KeepsOutside, FieldsEnd, AllBytes, PutsSlot, IslandIn}
+use Rattle.rv_emit.proofs.Terms.{GoesOn, IsIsland, LabelUse, Jal20, label_kinds, veneer_of, use_at, Use, Shape, IsVia, Lasts, window, ByVeneer, lasts_more, wide_jump_to, decoded_jump, Label, between, Fixup, Site, BytesAt, CodeHas, KeepsOutside, FieldsEnd, AllBytes, PutsSlot, IslandIn}
 use Rattle.rv_emit.proofs.Terms.{GapStandsIn, IsFinishedTo, slot_bytes, lasts_after_slots, slice_get, MachLabel, is_reached, get_or, drop, get_or-drop, length-drop, slice_index, word_there}
 use Rattle.std.specs.FinMap as map
 
@@ -32,7 +32,7 @@ via_goes_on flags bytes kind u to g fits small =
     let le = g.inside in
     let p = via_decodes flags bytes kind u to g fits in
     let placed = stored bytes small in
-    let has = pair_there flags (memory_of bytes) (0 + g.at) (window bytes g.at 8) (pos to -ℤ pos g.at) (window_length bytes g.at 8 le) (window_there (memory_of bytes) 0 bytes g.at 8 le placed) p in
+    let has = veneer_there flags (memory_of bytes) (0 + g.at) (window bytes g.at 8) (pos to -ℤ pos g.at) (window_length bytes g.at 8 le) (window_there (memory_of bytes) 0 bytes g.at 8 le placed) p in
     record {
       upper = p.upper;
       lower = p.lower;
@@ -41,38 +41,11 @@ via_goes_on flags bytes kind u to g fits small =
       sum = p.sum;
     }
 
--- ---- an island
-
-module _ (context : Context) (f : Shape LabelUse) (bytes : List ℕ) (fin : IsFinishedTo f bytes) (small : length bytes ≤ 2 ^ 64) where
-  -- what a use that goes by a veneer of the buffer finds there
-  pub veneer_goes_on : (u : Use LabelUse) (at to : ℕ) → fin.finishes.put.place u.label.number ≡ Some to → ByVeneer label_kinds fin.finishes.put bytes u at → GoesOn context.flags bytes at to
-  veneer_goes_on u at to bound g =
-      subst (λ n. GoesOn context.flags bytes n to) g.here
-      (subst (GoesOn context.flags bytes g.via.at) (same_Some g.to to (sym g.bound ∙ bound)) (via_goes_on context.flags bytes u.kind u g.to g.via fin.all_bytes small))
-
-  pub island_is : (from to : ℕ) → IslandIn context.flags f from to → IsIsland context.flags bytes from to
-  island_is from to i =
-      let site : Site = record { context = context; base = 0; bytes = bytes; place = fin.finishes.put.place; records = f.records; symbol = λ name. 0; slot = λ name. 0 } in
-      let unfilled : KeepsOutside site bytes = record { long = refl; bytes = fin.all_bytes; same = λ from size le clear. refl } in
-      let bound : fin.finishes.put.place i.after_island.number ≡ Some to = fin.finishes.grows.places i.after_island.number to i.bound in
-      let placed : BytesAt (memory_of bytes) 0 bytes = stored bytes small in
-      let old : Shape LabelUse = i.jump.old in
-      let mid : Shape LabelUse = i.jump.puts.0 in
-      let lasts : Lasts label_kinds mid f = lasts_more (lasts_after_slots context.flags old.allocated [] mid i.jump.new i.jump.puts.2) i.jump.lasts in
-      let room : length old.bytes + 4 ≤ length bytes = let l = slot_bytes context.flags old.allocated (wide_jump_to (Label i.after_island)) old mid i.jump.puts.1 in let w = within site f bytes fin unfilled refl refl mid lasts in omega arith in
-      let u = use_at (length old.bytes) i.after_island Jal20 in
-      let x : UseFinished label_kinds old f fin.finishes.put bytes i.jump.puts.1.0 u = aim_finished site f bytes fin unfilled refl refl old.allocated Jal20 (Label i.after_island) (λ d. decoded_jump d ∷ []) old mid i.jump.puts.1 lasts in
-      let has : CodeHas site (length old.bytes) (decoded_jump (between (length old.bytes) x.target) ∷ []) = aim_has site f bytes fin unfilled refl refl old.allocated Jal20 (Label i.after_island) (λ d. decoded_jump d ∷ []) old mid i.jump.puts.1 i.jump.fields lasts room x in
-      subst (λ n. IsIsland context.flags bytes n to) (sym i.jump.starts) (record {
-        longer = let l = i.longer in let e = i.jump.starts in omega arith;
-        target = x.target;
-        jump = op_in context.flags (memory_of bytes) bytes (length old.bytes) (0 + length old.bytes) (decoded_jump (between (length old.bytes) x.target)) refl room placed refl (has (memory_of bytes) (record { aligned = refl; bytes = placed })).0;
-        leads = ⊎_elim (λ here. inl (same_Some x.target to (sym here ∙ bound))) (λ g. inr (veneer_goes_on u x.target to bound g)) x.goes;
-      })
-
-  -- nothing, or an island
-  pub gap_is : (from to : ℕ) → GapStandsIn context.flags f from to → (from ≡ to) ⊎ IsIsland context.flags bytes from to
-  gap_is from to gap = ⊎_elim (λ here. inl here) (λ i. inr (island_is from to i)) gap
+-- what a use that goes by a veneer of the buffer finds there
+pub veneer_goes_on : (context : Context) (f : Shape LabelUse) (bytes : List ℕ) (fin : IsFinishedTo f bytes) → length bytes ≤ 2 ^ 64 → (u : Use LabelUse) (at to : ℕ) → fin.finishes.put.place u.label.number ≡ Some to → ByVeneer label_kinds fin.finishes.put bytes u at → GoesOn context.flags bytes at to
+veneer_goes_on context f bytes fin small u at to bound g =
+    subst (λ n. GoesOn context.flags bytes n to) g.here
+    (subst (GoesOn context.flags bytes g.via.at) (same_Some g.to to (sym g.bound ∙ bound)) (via_goes_on context.flags bytes u.kind u g.to g.via fin.all_bytes small))
 
 -- ---- labels
 
@@ -93,3 +66,28 @@ label_reached site f final fin keeps same same_records small allocated kind labe
       leads = ⊎_elim (λ here. inl (same_Some x.target to (sym here ∙ bound))) (λ g. inr (veneer_goes_on site.context f final fin small (use_at (length s.bytes) label kind) x.target to bound g)) x.goes;
       straight = λ there reached. same_Some x.target to (sym (x.straight there reached) ∙ bound);
     }
+
+-- ---- an island
+
+module _ (context : Context) (f : Shape LabelUse) (bytes : List ℕ) (fin : IsFinishedTo f bytes) (small : length bytes ≤ 2 ^ 64) where
+  pub island_is : (from to : ℕ) → IslandIn context.flags f from to → IsIsland context.flags bytes from to
+  island_is from to i =
+      let site : Site = record { context = context; base = 0; bytes = bytes; place = fin.finishes.put.place; records = f.records; symbol = λ name. 0; slot = λ name. 0 } in
+      let unfilled : KeepsOutside site bytes = record { long = refl; bytes = fin.all_bytes; same = λ from size le clear. refl } in
+      let bound : fin.finishes.put.place i.after_island.number ≡ Some to = fin.finishes.grows.places i.after_island.number to i.bound in
+      let placed : BytesAt (memory_of bytes) 0 bytes = stored bytes small in
+      let old : Shape LabelUse = i.jump.old in
+      let mid : Shape LabelUse = i.jump.puts.0 in
+      let lasts : Lasts label_kinds mid f = lasts_more (lasts_after_slots context.flags old.allocated [] mid i.jump.new i.jump.puts.2) i.jump.lasts in
+      let room : length old.bytes + 4 ≤ length bytes = let l = slot_bytes context.flags old.allocated (wide_jump_to (Label i.after_island)) old mid i.jump.puts.1 in let w = within site f bytes fin unfilled refl refl mid lasts in omega arith in
+      let reached = label_reached site f bytes fin unfilled refl refl small old.allocated Jal20 i.after_island (λ d. decoded_jump d ∷ []) old mid i.jump.puts.1 i.jump.fields lasts to bound in
+      subst (λ n. IsIsland context.flags bytes n to) (sym i.jump.starts) (record {
+        longer = let l = i.longer in let e = i.jump.starts in omega arith;
+        target = reached.target;
+        jump = op_in context.flags (memory_of bytes) bytes (length old.bytes) (0 + length old.bytes) (decoded_jump (between (length old.bytes) reached.target)) refl room placed refl (reached.has (memory_of bytes) (record { aligned = refl; bytes = placed })).0;
+        leads = reached.leads;
+      })
+
+  -- nothing, or an island
+  pub gap_is : (from to : ℕ) → GapStandsIn context.flags f from to → (from ≡ to) ⊎ IsIsland context.flags bytes from to
+  gap_is from to gap = ⊎_elim (λ here. inl here) (λ i. inr (island_is from to i)) gap

@@ -1,29 +1,24 @@
 -- How many bytes the sequences of each kind have at most, and what counts for them.
 use Rattle.rv_base.specs.declared.call.RetLocation.TheVariants.{Reg as InReg, Stack as OnStack}
-use Rattle.rv_emit.proofs.Terms.{◌≡◌, ◌⊎◌, inl, inr, ℕ, zero, suc, ◌+◌, ◌*◌, ◌/◌, ◌≤◌, Bool, true, false, List, [], ◌∷◌, length, take, Option, Some, None, refl, subst, arith, lit≤, pos, ◌-ℤ◌, cond, nat_eq, count_by, if◌then◌else◌, length-append, take_all, is_count_by, sp_to_fp_of, AMode, RegOffset}
-use Rattle.rv_emit.proofs.Terms.{CallRetPair, RetLocation, TryCallInfo, Reg, IrType, I32, I64, bits_of, is_word_type, load_size, ways_of, ways_by, inst_ways, address_targets, Nowhere, Branches, IsaFlags, FrameLayout, number_of, LoadOP, StoreOP, has_load, has_store, Context, inst_rule, Exactly}
-use Rattle.rv_emit.proofs.Terms.{AtMost, most_of, move_size, branch_size, trap_size, inline_size, most_bytes, load_limit, store_limit, call_limit, sequence_limit, call_request, request_of, inst_sum, no_extra, StackLoad, saves_from, setup_loads, restores, typed_loads, location_loads, result_loads}
-use Rattle.rv_emit.proofs.Terms.{loads_unless, result_load, is_on_stack, is_stacked, CondBrTarget, Fallthrough, Inst, EmitIsland, RawData, LoadInlineConst, Mov, MovFromPReg, Load, Store, LoadAddr, TrapIf, Jal, CondBr, BrTable, Udf, LoadExtNameFar, Call, CallInd, ReturnCall, ReturnCallInd, least_few}
-use Rattle.{rv_emit.proofs.Terms.{saves_long, setup_few, fine, keeps, data_kept, constant_kept}, rv_inst.specs.declared.inst.CondBrTarget.TheVariants.Label}
+use Rattle.rv_emit.proofs.Terms.{◌≡◌, ◌⊎◌, ℕ, ◌+◌, ◌*◌, ◌/◌, ◌≤◌, Bool, true, false, List, [], ◌∷◌, length, Option, Some, None, refl, arith, lit≤, pos, ◌-ℤ◌, cond, nat_eq, count_by, if◌then◌else◌, length-append, sp_to_fp_of, AMode, RegOffset, sym, ◌∙◌, IsSome}
+use Rattle.rv_emit.proofs.Terms.{IsFineResult, AreFineResults, call_kept, call_ind_kept, CallRetPair, RetLocation, TryCallInfo, Reg, IrType, I32, I64, bits_of, is_word_type, load_size, ways_of, ways_by, inst_ways, address_targets, Nowhere, Branches, IsaFlags, FrameLayout}
+use Rattle.rv_emit.proofs.Terms.{number_of, LoadOP, has_load, has_store, Context, inst_rule, Exactly, AtMost, most_of, move_size, branch_size, inline_size, most_bytes, call_limit, sequence_limit, call_request, request_of, inst_sum, no_extra, StackLoad, saves_from}
+use Rattle.rv_emit.proofs.Terms.{setup_loads, restores, typed_loads, location_loads, result_loads, loads_unless, result_load, is_on_stack, is_stacked, CondBrTarget, Fallthrough, Inst, EmitIsland, RawData, LoadInlineConst, Mov, MovFromPReg, Load, Store, LoadAddr, TrapIf}
+use Rattle.{rv_emit.proofs.Terms.{Jal, CondBr, BrTable, Udf, LoadExtNameFar, Call, CallInd, ReturnCall, ReturnCallInd, least_few, saves_long, setup_few, table_fine, keeps, data_kept, constant_kept}, rv_inst.specs.declared.inst.CondBrTarget.TheVariants.Label, std.proofs.lemmas.List.Sums.sum_by-cons}
 
 -- ---- pieces
 
--- at most ten words
-load_most_bytes : (flags : IsaFlags) (op : LoadOP) → load_limit flags op ≤ 40
-load_most_bytes flags op = elim (has_load flags op) as (λ has. (if has then 28 else 28 + 12) ≤ 40) [ true ↦ lit≤ tt | false ↦ lit≤ tt ]
-
-store_most_bytes : (flags : IsaFlags) (op : StoreOP) → store_limit flags op ≤ 40
-store_most_bytes flags op = elim (has_store flags op) as (λ has. (if has then 28 else 28 + 4) ≤ 40) [ true ↦ lit≤ tt | false ↦ lit≤ tt ]
+-- at most ten words, with so many bytes more where the set has no such access
+access_most : (has : Bool) (more : ℕ) → more ≤ 12 → (if has then 28 else 28 + more) ≤ 40
+access_most true more few = lit≤ tt
+access_most false more few = omega arith
 
 -- a call that asks for no island loads nothing
 call_alone : (own : ℕ) (loads : List StackLoad) → own ≤ 8 → call_request own loads ≡ None → call_limit own loads ≤ sequence_limit
 call_alone own [] few asks = omega (arith, few)
 call_alone own (l ∷ loads) few asks = absurd (cc)
 
--- a trap, a branch with a jump after it, and a constant among the code
-trap_few : (flags : IsaFlags) → trap_size flags ≤ 4
-trap_few flags = elim flags.has_zca as (λ c. (if c then 2 else 4) ≤ 4) [ true ↦ lit≤ tt | false ↦ lit≤ tt ]
-
+-- a branch with a jump after it, and a constant among the code
 branch_few : (flags : IsaFlags) (t f : CondBrTarget) → branch_size flags t f ≤ 8
 branch_few flags Fallthrough f = lit≤ tt
 branch_few flags (Label t) Fallthrough = lit≤ tt
@@ -37,43 +32,23 @@ constant_few flags I32 word = omega (arith, least_few flags)
 constant_few flags I64 word = omega (arith, least_few flags)
 constant_few flags _ word = absurd (cc)
 
-data_few : (bytes : List ℕ) → (length bytes ≡ 4) ⊎ (length bytes ≡ 8) → length bytes ≤ 8
-data_few bytes (inl e) = omega arith
-data_few bytes (inr e) = omega arith
+-- a load for each result on the stack
+typed_one : (register offset : ℕ) (op : Option LoadOP) → IsSome op → length (typed_loads register offset op) ≡ 1
+typed_one register offset None some = absurd (cc)
+typed_one register offset (Some op) some = refl
 
--- how many results are on the stack, one after the other
-abbrev pub stacked_in : List CallRetPair → ℕ
-stacked_in [] = 0
-stacked_in (d ∷ defs) = cond (is_stacked d) (1 + stacked_in defs) (stacked_in defs)
+each_loads : (r : Reg) (location : RetLocation) → IsFineResult r location → length (location_loads r location) ≡ cond (is_on_stack location) 1 0
+each_loads r (InReg s) fine = refl
+each_loads r (OnStack offset type) fine = typed_one (number_of r) offset (result_load type) fine.1
 
-pub stacked_counted : (defs : List CallRetPair) → stacked_in defs ≡ count_by is_stacked defs
-stacked_counted = is_count_by stacked_in is_stacked refl (λ d defs. refl)
+pub all_load : (defs : List CallRetPair) → AreFineResults defs → length (result_loads defs) ≡ count_by is_stacked defs
+all_load [] h = refl
+all_load (d ∷ defs) h = length-append (location_loads d.vreg.reg d.location) (result_loads defs) ∙ (λ i. each_loads d.vreg.reg d.location h.0 i + all_load defs h.1 i) ∙ sym (sum_by-cons (λ (x : CallRetPair). cond (is_stacked x) 1 0) d defs)
 
--- no more is loaded than counts for the call, of some of the results
-typed_few : (register offset : ℕ) (op : Option LoadOP) → length (typed_loads register offset op) ≤ 1
-typed_few register offset None = lit≤ tt
-typed_few register offset (Some op) = lit≤ tt
-
-one_few : (r : Reg) (location : RetLocation) (m n : ℕ) → m ≤ n → length (location_loads r location) + m ≤ cond (is_on_stack location) (1 + n) n
-one_few r (InReg s) m n le = omega arith
-one_few r (OnStack offset type) m n le = let few = typed_few (number_of r) offset (result_load type) in omega arith
-
-front_few : (defs : List CallRetPair) (k : ℕ) → length (result_loads (take k defs)) ≤ stacked_in defs
-front_few [] zero = lit≤ tt
-front_few [] (suc k) = lit≤ tt
-front_few (d ∷ defs) zero = omega arith
-front_few (d ∷ defs) (suc k) = omega (arith, length-append (location_loads d.vreg.reg d.location) (result_loads (take k defs)), one_few d.vreg.reg d.location (length (result_loads (take k defs))) (stacked_in defs) (front_few defs k))
-
-pub some_few : (defs : List CallRetPair) (k : ℕ) → length (result_loads (take k defs)) ≤ count_by is_stacked defs
-some_few defs k = let few = front_few defs k in let same = stacked_counted defs in omega arith
-
--- nor of all
-loads_counted : (defs : List CallRetPair) → length (result_loads defs) ≤ count_by is_stacked defs
-loads_counted defs = subst (λ ds. length (result_loads ds) ≤ count_by is_stacked defs) (take_all (length defs) defs (omega arith)) (some_few defs (length defs))
-
-unless_counted : (patchable : Bool) (defs : List CallRetPair) → length (loads_unless patchable defs) ≤ count_by is_stacked defs
-unless_counted true defs = omega arith
-unless_counted false defs = loads_counted defs
+-- none where a call may be patched
+unless_counted : (patchable : Bool) (defs : List CallRetPair) → AreFineResults defs → length (loads_unless patchable defs) ≤ count_by is_stacked defs
+unless_counted true defs h = omega arith
+unless_counted false defs h = omega (arith, all_load defs h)
 
 -- how many labels some kinds go to, and how many registers a frame restores
 try_ways : (t : Option TryCallInfo) → length (ways_by t Nowhere) ≤ 1
@@ -103,16 +78,16 @@ most_in_sequence context (Call info) rule asks = omega (arith, call_alone 8 (loa
 most_in_sequence context (CallInd info) rule asks = omega (arith, call_alone 4 (result_loads info.defs) (lit≤ tt) asks, try_ways info.try_call_info)
 most_in_sequence context (ReturnCall info) rule asks = absurd (cc)
 most_in_sequence context (ReturnCallInd info) rule asks = absurd (cc)
-most_in_sequence context (Load rd op flags from) rule asks = omega (arith, address_ways (load_size op) from, load_most_bytes context.flags op)
-most_in_sequence context (Store src op flags to) rule asks = omega (arith, address_ways 0 to, store_most_bytes context.flags op)
+most_in_sequence context (Load rd op flags from) rule asks = omega (arith, address_ways (load_size op) from, access_most (has_load context.flags op) 12 (lit≤ tt))
+most_in_sequence context (Store src op flags to) rule asks = omega (arith, address_ways 0 to, access_most (has_store context.flags op) 4 (lit≤ tt))
 most_in_sequence context (LoadAddr rd mem) rule asks = omega (arith, address_ways 0 mem)
 most_in_sequence context (CondBr t f kind) rule asks = omega (arith, branch_ways t f, branch_few context.flags t f)
-most_in_sequence context (RawData bytes) rule asks = omega (arith, data_few bytes (data_kept bytes (keeps context _ rule)))
+most_in_sequence context (RawData bytes) rule asks = let size : (length bytes ≡ 4) ⊎ (length bytes ≡ 8) = data_kept bytes (keeps context _ rule) in omega arith
 most_in_sequence context (LoadInlineConst rd type imm) rule asks = omega (arith, constant_few context.flags type (constant_kept rd type imm (keeps context _ rule)).typed)
 most_in_sequence context (Mov rd rm type) rule asks = omega (arith, move_few (number_of rd.reg) (number_of rm))
 most_in_sequence context (MovFromPReg rd rm) rule asks = omega (arith, move_few (number_of rd.reg) rm.number)
-most_in_sequence context (TrapIf cmp code) rule asks = omega (arith, trap_few context.flags)
-most_in_sequence context (Udf code) rule asks = omega (arith, trap_few context.flags)
+most_in_sequence context (TrapIf cmp code) rule asks = omega (arith, least_few context.flags)
+most_in_sequence context (Udf code) rule asks = omega (arith, least_few context.flags)
 most_in_sequence context (Jal label) rule asks = omega (arith, least_few context.flags)
 most_in_sequence context (LoadExtNameFar rd name offset) rule asks = omega (arith, least_few context.flags)
 most_in_sequence context inst rule asks = omega arith
@@ -120,9 +95,9 @@ most_in_sequence context inst rule asks = omega arith
 -- and with two islands, it counts for as many
 pub most_counts : (context : Context) (inst : Inst) → inst_rule context inst ≡ None → most_bytes context inst + 8 * length (inst_ways inst) + 34 ≤ inst_sum context inst
 most_counts context (EmitIsland needed_space) rule = omega arith
-most_counts context (BrTable index tmp1 tmp2 targets) rule = omega (arith, (fine context (BrTable index tmp1 tmp2 targets) rule).4)
-most_counts context (Call info) rule = omega (arith, unless_counted info.patchable info.defs, no_extra 8 (loads_unless info.patchable info.defs), try_ways info.try_call_info)
-most_counts context (CallInd info) rule = omega (arith, loads_counted info.defs, no_extra 4 (result_loads info.defs), try_ways info.try_call_info)
+most_counts context (BrTable index tmp1 tmp2 targets) rule = omega (arith, (table_fine index tmp1 tmp2 targets (keeps context _ rule)).4)
+most_counts context (Call info) rule = omega (arith, unless_counted info.patchable info.defs (call_kept info (keeps context _ rule)).results, no_extra 8 (loads_unless info.patchable info.defs), try_ways info.try_call_info)
+most_counts context (CallInd info) rule = omega (arith, all_load info.defs (call_ind_kept info (keeps context _ rule)).results, no_extra 4 (result_loads info.defs), try_ways info.try_call_info)
 most_counts context (ReturnCall info) rule = omega (arith, restores_few context.frame)
 most_counts context (ReturnCallInd info) rule = omega (arith, restores_few context.frame)
 most_counts context inst rule = omega (arith, most_in_sequence context inst rule refl)

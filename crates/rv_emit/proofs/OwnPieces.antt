@@ -1,11 +1,10 @@
 -- Labels that an instruction allocates and binds itself, and the pieces that name them.
-use Rattle.{rv_code.proofs.MadeOfPieces.jump_reach, rv_code.specs.Slots.uses_of}
-use Rattle.{rv_code.proofs.LongSlots.{distant_even, even_plain, literal_even}, rv_code.specs.Pieces.{Constant, NameAddress, OfLabel, Take, distant_slots, literal_size, literal_slots}, rv_emit.proofs.Terms.{jump_len, jump_size, plain_keeps, pos}}
-use Rattle.rv_emit.proofs.Terms.{◌≡◌, ℕ, ◌+◌, Bool, true, false, List, [], ◌∷◌, length, Some, refl, ap, sym, ◌∙◌, arith, ◌≢◌, inl, inr, ◌<◌, ◌≤◌, ◌++◌, Option, None, subst, nat_eq, if◌then◌else◌, nat_lt, is_some, ◌&&◌, eqb-true, le-leb, same_Some, IsaFlags, LabelUse, Shape, IsUsable, placed_same}
-use Rattle.rv_emit.proofs.Terms.{few_allocated, use_usable, placed_other, Slot, Op, Data, Records, Allocate, Here, own_label, here_at, PutsSlot, Puts, slot_bytes, lasts_after_slots, puts_bytes, puts_uses, puts_named, puts_constants, puts_records, nat_tests, append-nil, MachLabel, first_inner}
-use Rattle.rv_emit.proofs.Terms.{inner_count, is_reached, shape_of, bytes_of, place_of, allocated_of, named_of, Context, jump_kind, label_kinds, forward_of, backward_of, has_veneer_of, inst_records, inst_size, IsOfSize, HasReturn, Appends, adds_alone, use_at, Inst, B12, Jal20, RVCJump, slots_alone}
-use Rattle.rv_emit.proofs.Terms.{Piece, Do, Branch, Jump, New, Bind, Go, Trap, op_of, slots_for, slots_of, piece_size, pieces_size, after, own_labels, AreAmong, trap_bytes, GoNowhere, pieces_long, pieces_few, IsMadeOf, pieces_name, PutsParts, Buffer, IsSoundBuffer, IsOwnUse, zero, suc, slice_get}
-use Rattle.{rv_emit.proofs.Terms.{drop, length-drop}, std.proofs.lemmas.List.take-append-drop}
+use Rattle.rv_code.{proofs.MadeOfPieces.{binds_none, jump_reach}, specs.Pieces.{LoadFrom, Note, Name, Constant, NameAddress, OfLabel, Take, literal_size}, specs.Slots.uses_of}
+use Rattle.rv_emit.proofs.Terms.{jump_len, jump_size, plain_keeps, pos, ◌≡◌, ℕ, ◌+◌, Bool, true, false, List, [], ◌∷◌, length, Some, refl, ap, sym, ◌∙◌, arith, ◌≢◌, inl, inr, ◌<◌, ◌≤◌, ◌++◌, Option, None, subst, nat_eq, if◌then◌else◌, nat_lt, is_some, ◌&&◌, eqb-true}
+use Rattle.rv_emit.proofs.Terms.{le-leb, same_Some, IsaFlags, LabelUse, Shape, IsUsable, placed_same, few_allocated, use_usable, placed_other, Slot, Allocate, Here, own_label, here_at, PutsSlot, Puts, slot_bytes, lasts_after_slots, puts_bytes, puts_uses, puts_named}
+use Rattle.rv_emit.proofs.Terms.{puts_constants, puts_records, nat_tests, append-nil, MachLabel, first_inner, inner_count, is_reached, shape_of, bytes_of, place_of, allocated_of, named_of, Context, jump_kind, label_kinds, forward_of, backward_of, has_veneer_of}
+use Rattle.rv_emit.proofs.Terms.{inst_records, inst_size, IsOfSize, HasReturn, Appends, adds_alone, use_at, Inst, B12, Jal20, RVCJump, slots_alone, Piece, Do, Branch, Jump, New, Bind, Go, slots_for, slots_of, piece_size, pieces_size, after, own_labels, AreAmong}
+use Rattle.{rv_emit.proofs.Terms.{GoNowhere, pieces_long, pieces_few, IsMadeOf, pieces_name, PutsParts, Buffer, IsSoundBuffer, IsOwnUse, zero, suc, slice_get, drop, length-drop}, std.proofs.lemmas.List.take-append-drop}
 use Rattle.mach_records.specs.declared.records.Event.TheVariants as event
 
 -- what holds of each element
@@ -60,10 +59,6 @@ adds_both x y = record { labels = y.labels ∙ x.labels; allocated = let e = x.a
 
 -- one piece does
 adds_piece : (flags : IsaFlags) (a total : ℕ) (p : Piece) (s t : Shape LabelUse) → AreAmong total (p ∷ []) → Puts flags a (slots_for flags p) s t → AddsOwn a total (own_labels (p ∷ [])) s t
-adds_piece flags a total (Do d) s t among put = adds_none s _ t (put.2 ∙ put.1.3) refl refl refl
-adds_piece flags a total (Constant rd l) s t among put = let kept = plain_keeps flags a (literal_slots flags rd l) s t (even_plain (literal_slots flags rd l) (literal_even flags rd l)) put in adds_none s t t refl kept.1 kept.2 kept.0
-adds_piece flags a total (Take rd to) s t among put = let kept = plain_keeps flags a (distant_slots rd to) s t (even_plain (distant_slots rd to) (distant_even rd to)) put in adds_none s t t refl kept.1 kept.2 kept.0
-adds_piece flags a total (Trap code) s t among put = adds_none s _ t (put.2.2 ∙ put.2.1) (ap (λ x. x.labels) put.1.1) (ap (λ x. x.allocated) put.1.1) (ap (λ x. x.place) put.1.1)
 adds_piece flags a total New s t among put = let e = put.2 ∙ put.1 in record { labels = ap (λ x. x.labels) e; allocated = ap (λ x. x.allocated) e; places = λ label other. ap (λ x. x.place label) e }
 adds_piece flags a total (Bind k) s t among put =
     let e = put.2 ∙ put.1.1 in
@@ -74,16 +69,12 @@ adds_piece flags a total (Bind k) s t among put =
       allocated = ap (λ x. x.allocated) e ∙ omega arith;
       places = λ label other. ap (λ x. x.place label) e ∙ placed_other s.place own.number (length s.bytes) label (other k among.0);
     }
-adds_piece flags a total p s t among put = adds_none s _ t (put.2 ∙ put.1.2) refl refl refl
+adds_piece flags a total p s t among put = let kept = plain_keeps flags a (slots_for flags p) s t (binds_none flags p tt) put in adds_none s t t refl kept.1 kept.2 kept.0
 
 -- slots, and others after them
 puts_split : (flags : IsaFlags) (a : ℕ) (slots more : List Slot) (s t : Shape LabelUse) → Puts flags a (slots ++ more) s t → (m : Shape LabelUse) × Puts flags a slots s m × Puts flags a more m t
 puts_split flags a [] more s t p = (s, refl, p)
 puts_split flags a (slot ∷ slots) more s t (m, put, q) = let r = puts_split flags a slots more m t q in (r.0, (m, put, r.1), r.2)
-
--- the first of pieces, and the others
-pieces_split : (flags : IsaFlags) (a : ℕ) (p : Piece) (ps : List Piece) (s t : Shape LabelUse) → Puts flags a (slots_of flags (p ∷ ps)) s t → (m : Shape LabelUse) × Puts flags a (slots_for flags p) s m × Puts flags a (slots_of flags ps) m t
-pieces_split flags a p ps s t put = puts_split flags a (slots_for flags p) (slots_of flags ps) s t put
 
 own_split : (p : Piece) (ps : List Piece) → own_labels (p ∷ ps) ≡ own_labels (p ∷ []) + own_labels ps
 own_split (Do d) ps = omega arith
@@ -99,7 +90,7 @@ adds : (flags : IsaFlags) (a total : ℕ) (ps : List Piece) (s t : Shape LabelUs
 adds flags a total [] s t among p = adds_none s s t p refl refl refl
 adds flags a total (p ∷ ps) s t among puts =
     let b = among_split total p ps among in
-    let r = pieces_split flags a p ps s t puts in
+    let r = puts_split flags a (slots_for flags p) (slots_of flags ps) s t puts in
     subst (λ n. AddsOwn a total n s t) (sym (own_split p ps)) (adds_both (adds_piece flags a total p s r.0 b.0 r.1) (adds flags a total ps r.0 t b.1 r.2))
 
 -- ---- an own label that is bound among them
@@ -117,16 +108,6 @@ later n long same b = record { before = sym same ∙ b.before; to = b.to; there 
 
 bound : (flags : IsaFlags) (a k : ℕ) (ps qs : List Piece) (s t : Shape LabelUse) → after k ps ≡ Some qs → Puts flags a (slots_of flags ps) s t → IsBoundAmong a k s t
 bound flags a k [] qs s t e p = absurd (cc)
-bound flags a k (Do d ∷ ps) qs s t e (m, put, q) = later _ (slot_bytes flags a (Op (op_of flags d)) s m put) (ap (λ x. x.place (own_label a k).number) put.3) (bound flags a k ps qs m t e q)
-bound flags a k (Trap code ∷ ps) qs s t e (m, put, (n, bytes, q)) = later {s = s} {m = m} {t = t} _ (slot_bytes flags a (Records (event.Trap code)) s m put) (ap (λ x. x.place (own_label a k).number) put.1) (later {s = m} {m = n} {t = t} _ (slot_bytes flags a (Data (trap_bytes flags)) m n bytes) (ap (λ x. x.place (own_label a k).number) bytes) (bound flags a k ps qs n t e q))
-bound flags a k (Constant rd l ∷ ps) qs s t e p =
-    let slots = literal_slots flags rd l in
-    let r = pieces_split flags a (Constant rd l) ps s t p in
-    later _ (puts_bytes flags a slots s r.0 r.1) (ap (λ place. place (own_label a k).number) (plain_keeps flags a slots s r.0 (even_plain slots (literal_even flags rd l)) r.1).0) (bound flags a k ps qs r.0 t e r.2)
-bound flags a k (Take rd to ∷ ps) qs s t e p =
-    let slots = distant_slots rd to in
-    let r = pieces_split flags a (Take rd to) ps s t p in
-    later _ (puts_bytes flags a slots s r.0 r.1) (ap (λ place. place (own_label a k).number) (plain_keeps flags a slots s r.0 (even_plain slots (distant_even rd to)) r.1).0) (bound flags a k ps qs r.0 t e r.2)
 bound flags a k (New ∷ ps) qs s t e (m, put, q) = later _ (slot_bytes flags a Allocate s m put) (ap (λ x. x.place (own_label a k).number) put) (bound flags a k ps qs m t e q)
 bound flags a k (Bind j ∷ ps) qs s t e (m, put, q) = by (nat_eq j k) refl e (λ f. bound flags a k ps qs m t f q)
   where
@@ -137,11 +118,12 @@ bound flags a k (Bind j ∷ ps) qs s t e (m, put, q) = by (nat_eq j k) refl e (�
     by true test e rest =
         let same : j ≡ k = eqb-true j k test in
         let there : m.place (own_label a j).number ≡ Some (length s.bytes) = ap (λ x. x.place (own_label a j).number) put.1 ∙ placed_same s.place (own_label a j).number (length s.bytes) in
-        let one = slot_bytes flags a (Here j) s m put in
-        let more = puts_bytes flags a (slots_of flags ps) m t q in
-        subst (λ n. IsBoundAmong a n s t) same (record { before = put.0; to = length s.bytes; low = omega arith; high = omega arith; there = (lasts_after_slots flags a (slots_of flags ps) m t q).grows.places (own_label a j).number (length s.bytes) there })
+        subst (λ n. IsBoundAmong a n s t) same (record { before = put.0; to = length s.bytes; low = omega arith; high = omega (arith, slot_bytes flags a (Here j) s m put, puts_bytes flags a (slots_of flags ps) m t q); there = (lasts_after_slots flags a (slots_of flags ps) m t q).grows.places (own_label a j).number (length s.bytes) there })
     by false test e rest = later _ (slot_bytes flags a (Here j) s m put) (ap (λ x. x.place (own_label a k).number) put.1 ∙ placed_other s.place (own_label a j).number (length s.bytes) (own_label a k).number (apart test)) (rest e)
-bound flags a k (p ∷ ps) qs s t e (m, put, q) = later _ (puts_bytes flags a (slots_for flags p) s m (m, put, refl)) (ap (λ x. x.place (own_label a k).number) put.2) (bound flags a k ps qs m t e q)
+bound flags a k (p ∷ ps) qs s t e puts =
+    let slots = slots_for flags p in
+    let r = puts_split flags a slots (slots_of flags ps) s t puts in
+    later _ (puts_bytes flags a slots s r.0 r.1) (ap (λ place. place (own_label a k).number) (plain_keeps flags a slots s r.0 (binds_none flags p tt) r.1).0) (bound flags a k ps qs r.0 t e r.2)
 
 -- ---- the uses of own labels
 
@@ -169,6 +151,9 @@ each_own flags a total at s t (Bind k ∷ ps) le low small nowhere among all = e
 each_own flags a total at s t (Go l ∷ ps) le low small nowhere among all = absurd nowhere
 each_own flags a total at s t (Take rd (OfLabel l) ∷ ps) le low small nowhere among all = absurd nowhere.0
 each_own flags a total at s t (Take rd to ∷ ps) le low small nowhere among all = each_own flags a total _ s t ps (omega arith) (omega arith) small nowhere.1 among all
+each_own flags a total at s t (LoadFrom op rd trap l ∷ ps) le low small nowhere among all = absurd nowhere
+each_own flags a total at s t (Name constant ∷ ps) le low small nowhere among all = absurd nowhere
+each_own flags a total at s t (Note event ∷ ps) le low small nowhere among all = each_own flags a total at s t ps (omega arith) low small nowhere among all
 each_own flags a total at s t (Constant rd (NameAddress name addend) ∷ ps) le low small nowhere among all = let jump = jump_len flags (pos (8 + jump_size flags)) in each_own flags a total _ s t ps (omega arith) (omega arith) small nowhere among all
 each_own flags a total at s t (Constant rd l ∷ ps) le low small nowhere among all = let jump = jump_len flags (pos (literal_size l + jump_size flags)) in each_own flags a total _ s t ps (omega arith) (omega arith) small nowhere among all
 each_own flags a total at s t (p ∷ ps) le low small nowhere among all = each_own flags a total _ s t ps (omega arith) (omega arith) small nowhere among all
@@ -197,7 +182,7 @@ made_appends {context} {inst} {pieces = ps} {old} {new} made before back (mid, p
       sound = p.sound;
     }) made.owns (λ j u h. inr (own_uses j u h))
     (puts_records flags a (slots_of flags ps) (shape_of old) (shape_of mid) p.puts ∙ ap (λ more. (shape_of old).records ++ more) (made.records start ∙ ap (λ n. inst_records context start n inst) (sym end)))
-    (puts_named flags a (slots_of flags ps) (shape_of old) (shape_of mid) p.puts ∙ pieces_name flags ps (named_of old) ∙ made.names (named_of old))
+    (puts_named flags a (slots_of flags ps) (shape_of old) (shape_of mid) p.puts ∙ pieces_name flags ps (named_of old) made.nowhere ∙ made.names (named_of old))
     (subst (IsOfSize (inst_size context inst)) (omega (arith, end, length-drop start (bytes_of mid))) made.fits) (lasts_after_slots flags a (slots_of flags ps) (shape_of old) (shape_of mid) p.puts) (subst (λ (b : Buffer). HasReturn context inst start (length (bytes_of b))) same back))
   where
     flags : IsaFlags

@@ -1,6 +1,6 @@
 -- What was put part by part stands in the buffer, its windows and what relocations fill with it, and lasts.
 use Rattle.rv_emit.proofs.NewConstants.{adds_both, adds_none, adds_same}
-use Rattle.rv_emit.proofs.Terms.{◌≡◌, inl, inr, ⊎_elim, ℕ, ◌+◌, ◌≤◌, List, [], ◌∷◌, ◌++◌, length, Some, ap, sym, ◌∙◌, subst, arith, ◌⊎◌, ◌%◌, Bool, true, false, refl, slice_get, Option, length-append, IsaFlags, LabelUse, Jal20, label_kinds, marks_of, use_at, shape_of, bytes_of, uses_of}
+use Rattle.rv_emit.proofs.Terms.{◌≡◌, inl, inr, ⊎_elim, ℕ, ◌+◌, ◌≤◌, List, [], ◌∷◌, ◌++◌, length, Some, ap, sym, ◌∙◌, subst, arith, ◌⊎◌, ◌%◌, Bool, true, false, refl, slice_get, Option, length-append, IsaFlags, LabelUse, Jal20, label_kinds, marks_of, use_at, shape_of, bytes_of, uses_of, with_record}
 use Rattle.rv_emit.proofs.Terms.{allocated_of, RecordsLast, Lasts, Shape, with_bytes, with_allocated, AllEnd, AreWindows, Event, Reloc, MachRecord, Use, append_each, recorded_at, lasts_same, lasts_more, lasts_allocated, windows_with_bytes, windows_with_use, stands_last, even_length, Buffer}
 use Rattle.rv_emit.proofs.Terms.{AppendsIsland, IsSoundBuffer, HasWindows, IslandIfNeeded, EndsWithin, IsClear, AllClear, FieldsEnd, FieldsStand, AsksNothing, PutsSlot, Puts, eight_zeros, slot_ends, slot_bytes, lasts_after_slots, puts_bytes, puts_constants, Slot, Op, Fixup, Data, Records, Here, RelocPair}
 use Rattle.rv_emit.proofs.Terms.{Address, CallTo, label_of, upper_event, lower_event, address_event, call_event, AddressOf, SlotOf, Symbol, slot_size, Part, Ask, Slots, Label, AreClosed, PartsAreSelfContained, AllStand, wide_jump_to, PutsParts, SlotsIn, IslandIn, GapStandsIn, PartsIn, AddsConstants}
@@ -43,63 +43,55 @@ clear_there s mid f size ends same long last k r h = ⊎_elim
 pub clear_later : (s : Shape LabelUse) (from size : ℕ) → FieldsEnd s → length s.bytes ≤ from → AllClear s.records from size
 clear_later s from size ends le k r h = ends_clear from size r.offset r.event (ends_later (length s.bytes) from r.offset r.event le (ends k r h))
 
--- one record more
-one_clear : (records : List MachRecord) (r : MachRecord) (from size : ℕ) → IsClear from size r.offset r.event → AllClear records from size → AllClear (records ++ r ∷ []) from size
-one_clear records r from size h all = append_each (λ (x : MachRecord). IsClear from size x.offset x.event) records r h all
+-- bytes more
+bytes_end : (s : Shape LabelUse) (more : List ℕ) → FieldsEnd s → FieldsEnd (with_bytes more s)
+bytes_end s more ends k r h = ends_later (length s.bytes) (length (s.bytes ++ more)) r.offset r.event (omega (arith, length-append s.bytes more)) (ends k r h)
 
-one_ends : (records : List MachRecord) (r : MachRecord) (n m : ℕ) → n ≤ m → EndsWithin m r.offset r.event → ((k : ℕ) (x : MachRecord) → slice_get records k ≡ Some x → EndsWithin n x.offset x.event) → (k : ℕ) (x : MachRecord) → slice_get (records ++ r ∷ []) k ≡ Some x → EndsWithin m x.offset x.event
-one_ends records r n m le h all = append_each (λ (x : MachRecord). EndsWithin m x.offset x.event) records r h (λ k x e. ends_later n m x.offset x.event le (all k x e))
+-- the record of an event, and bytes after it within which it ends
+event_end : (s : Shape LabelUse) (e : Event) (more : List ℕ) → EndsWithin (length s.bytes + length more) (length s.bytes) e → FieldsEnd s → FieldsEnd (with_bytes more (with_record e s))
+event_end s e more h ends =
+    let within = subst (λ n. EndsWithin n (length s.bytes) e) (sym (length-append s.bytes more)) h in
+    append_each (λ (x : MachRecord). EndsWithin (length (s.bytes ++ more)) x.offset x.event) s.records (record { offset = length s.bytes; event = e }) within (bytes_end s more ends)
 
 -- ---- slots
 
 pub slot_fields_end : (flags : IsaFlags) (allocated : ℕ) (slot : Slot) (s t : Shape LabelUse) → PutsSlot flags allocated slot s t → FieldsEnd s → FieldsEnd t
-slot_fields_end flags allocated (Op d) s t p ends = subst FieldsEnd (sym p.3) (λ k r h. ends_later (length s.bytes) (length (s.bytes ++ p.0)) r.offset r.event (omega (arith, length-append s.bytes p.0)) (ends k r h))
-slot_fields_end flags allocated (Fixup kind target ops) s t p ends = subst FieldsEnd (sym p.2) (λ k r h. ends_later (length s.bytes) (length (s.bytes ++ p.0)) r.offset r.event (omega (arith, length-append s.bytes p.0)) (ends k r h))
-slot_fields_end flags allocated (Data bytes) s t p ends = subst FieldsEnd (sym p) (λ k r h. ends_later (length s.bytes) (length (s.bytes ++ bytes)) r.offset r.event (omega (arith, length-append s.bytes bytes)) (ends k r h))
-slot_fields_end flags allocated (Records e) s t p ends = subst FieldsEnd (sym p.1) (one_ends s.records (record { offset = length s.bytes; event = e }) (length s.bytes) (length s.bytes) (omega arith) (nothing_ends (length s.bytes) (length s.bytes) e p.0) ends)
+slot_fields_end flags allocated (Op d) s t p ends = subst FieldsEnd (sym p.3) (bytes_end s p.0 ends)
+slot_fields_end flags allocated (Fixup kind target ops) s t p ends = subst FieldsEnd (sym p.2) (bytes_end s p.0 ends)
+slot_fields_end flags allocated (Data bytes) s t p ends = subst FieldsEnd (sym p) (bytes_end s bytes ends)
+slot_fields_end flags allocated (Records e) s t p ends = subst FieldsEnd (sym p.1) (append_each (λ (x : MachRecord). EndsWithin (length s.bytes) x.offset x.event) s.records (record { offset = length s.bytes; event = e }) (nothing_ends (length s.bytes) (length s.bytes) e p.0) ends)
 slot_fields_end flags allocated (Here k) s t p ends = subst FieldsEnd (sym p.1) ends
 slot_fields_end flags allocated (RelocPair symbol upper lower) s t (first, second, hi, lo, e) ends =
-    let here = length s.bytes in
-    let one = length-append s.bytes first in
-    let two = length-append (s.bytes ++ first) second in
-    let a : length first ≡ 4 = hi.long in
-    let next : length (s.bytes ++ first) ≡ here + 4 = omega arith in
-    subst FieldsEnd (sym e)
-    (one_ends (s.records ++ record { offset = here; event = upper_event symbol } ∷ []) (record { offset = length (s.bytes ++ first); event = lower_event here }) (here + 4) (length ((s.bytes ++ first) ++ second)) (omega arith) (omega arith)
-    (one_ends s.records (record { offset = here; event = upper_event symbol }) here (here + 4) (omega arith) (upper_ends (here + 4) here symbol (omega arith)) ends))
-slot_fields_end flags allocated (Address name addend) s t e ends =
-    let here = length s.bytes in
-    let one = length-append s.bytes (0 ∷ 0 ∷ 0 ∷ 0 ∷ 0 ∷ 0 ∷ 0 ∷ 0 ∷ []) in
-    subst FieldsEnd (sym e) (one_ends s.records (record { offset = here; event = address_event name addend }) here (length (s.bytes ++ (0 ∷ 0 ∷ 0 ∷ 0 ∷ 0 ∷ 0 ∷ 0 ∷ 0 ∷ []))) (omega arith) (omega arith) ends)
-slot_fields_end flags allocated (CallTo name ops) s t (code, is, e) ends =
-    let here = length s.bytes in
-    let one = length-append s.bytes code in
-    subst FieldsEnd (sym e) (one_ends s.records (record { offset = here; event = call_event name }) here (length (s.bytes ++ code)) (omega arith) (omega arith) ends)
+    let half : Shape LabelUse = with_bytes first (with_record (upper_event symbol) s) in
+    let ends_half : FieldsEnd half = event_end s (upper_event symbol) first (upper_ends _ (length s.bytes) symbol (omega (arith, hi.long))) ends in
+    subst FieldsEnd (sym e) (event_end half (lower_event (length s.bytes)) second (omega (arith, lo.long)) ends_half)
+slot_fields_end flags allocated (Address name addend) s t e ends = subst FieldsEnd (sym e) (event_end s (address_event name addend) eight_zeros (omega arith) ends)
+slot_fields_end flags allocated (CallTo name ops) s t (code, is, e) ends = subst FieldsEnd (sym e) (event_end s (call_event name) code (omega (arith, is.long)) ends)
 slot_fields_end flags allocated slot s t p ends = subst FieldsEnd (sym p) ends
 
--- an event more at the end of the bytes stays apart from the windows of uses
-event_clear : (s : Shape LabelUse) (e : Event) (j : ℕ) (u : Use LabelUse) → AllEnd label_kinds s → FieldsStand s → slice_get s.uses j ≡ Some u → AllClear (s.records ++ record { offset = length s.bytes; event = e } ∷ []) u.offset (length (marks_of u.kind))
-event_clear s e j u ends f there = one_clear s.records (record { offset = length s.bytes; event = e }) u.offset (length (marks_of u.kind)) (after_clear u.offset (length (marks_of u.kind)) (length s.bytes) e (ends j u there)) (f.clear j u there)
+-- what is filled is apart from the windows of uses
+abbrev AreApart : Shape LabelUse → Type 0
+AreApart s = (j : ℕ) (u : Use LabelUse) → slice_get s.uses j ≡ Some u → AllClear s.records u.offset (length (marks_of u.kind))
 
--- what is filled stays apart from the windows of uses
-slot_clear : (flags : IsaFlags) (allocated : ℕ) (slot : Slot) (s t : Shape LabelUse) → PutsSlot flags allocated slot s t → AllEnd label_kinds s → FieldsStand s → (j : ℕ) (u : Use LabelUse) → slice_get t.uses j ≡ Some u → AllClear t.records u.offset (length (marks_of u.kind))
-slot_clear flags allocated (Op d) s t p ends f j u h = subst (λ rs. AllClear rs u.offset (length (marks_of u.kind))) (λ i. (sym p.3 i).records) (f.clear j u ((λ i. slice_get (sym p.3 i).uses j) ∙ h))
-slot_clear flags allocated (Fixup kind target ops) s t p ends f j u h =
-    subst (λ rs. AllClear rs u.offset (length (marks_of u.kind))) (λ i. (sym p.2 i).records)
-    (append_each (λ (x : Use LabelUse). AllClear s.records x.offset (length (marks_of x.kind))) s.uses (use_at (length s.bytes) (label_of allocated target) kind) (clear_later s (length s.bytes) (length (marks_of kind)) f.ends (omega arith)) f.clear j u ((λ i. slice_get (sym p.2 i).uses j) ∙ h))
-slot_clear flags allocated (Records e) s t p ends f j u h = subst (λ rs. AllClear rs u.offset (length (marks_of u.kind))) (λ i. (sym p.1 i).records) (event_clear s e j u ends f ((λ i. slice_get (sym p.1 i).uses j) ∙ h))
-slot_clear flags allocated (Here k) s t p ends f j u h = subst (λ rs. AllClear rs u.offset (length (marks_of u.kind))) (λ i. (sym p.1 i).records) (f.clear j u ((λ i. slice_get (sym p.1 i).uses j) ∙ h))
-slot_clear flags allocated (RelocPair symbol upper lower) s t (first, second, hi, lo, e) ends f j u h =
-    let there : slice_get s.uses j ≡ Some u = (λ i. slice_get (sym e i).uses j) ∙ h in
-    let end : u.offset + length (marks_of u.kind) ≤ length s.bytes = ends j u there in
-    subst (λ rs. AllClear rs u.offset (length (marks_of u.kind))) (λ i. (sym e i).records)
-    (one_clear (s.records ++ record { offset = length s.bytes; event = upper_event symbol } ∷ []) (record { offset = length (s.bytes ++ first); event = lower_event (length s.bytes) }) u.offset (length (marks_of u.kind)) (after_clear u.offset (length (marks_of u.kind)) (length (s.bytes ++ first)) (lower_event (length s.bytes)) (omega (arith, length-append s.bytes first, end))) (event_clear s (upper_event symbol) j u ends f there))
-slot_clear flags allocated (Address name addend) s t e ends f j u h = subst (λ rs. AllClear rs u.offset (length (marks_of u.kind))) (λ i. (sym e i).records) (event_clear s (address_event name addend) j u ends f ((λ i. slice_get (sym e i).uses j) ∙ h))
-slot_clear flags allocated (CallTo name ops) s t (code, is, e) ends f j u h = subst (λ rs. AllClear rs u.offset (length (marks_of u.kind))) (λ i. (sym e i).records) (event_clear s (call_event name) j u ends f ((λ i. slice_get (sym e i).uses j) ∙ h))
-slot_clear flags allocated slot s t p ends f j u h = subst (λ rs. AllClear rs u.offset (length (marks_of u.kind))) (λ i. (sym p i).records) (f.clear j u ((λ i. slice_get (sym p i).uses j) ∙ h))
+-- an event more at the end of the bytes is apart from them, too
+event_apart : (s : Shape LabelUse) (e : Event) → AllEnd label_kinds s → AreApart s → AreApart (with_record e s)
+event_apart s e ends apart j u there = append_each (λ (x : MachRecord). IsClear u.offset (length (marks_of u.kind)) x.offset x.event) s.records (record { offset = length s.bytes; event = e }) (after_clear u.offset (length (marks_of u.kind)) (length s.bytes) e (ends j u there)) (apart j u there)
+
+slot_apart : (flags : IsaFlags) (allocated : ℕ) (slot : Slot) (s t : Shape LabelUse) → PutsSlot flags allocated slot s t → AllEnd label_kinds s → FieldsStand s → AreApart t
+slot_apart flags allocated (Op d) s t p ends f = subst AreApart (sym p.3) f.clear
+slot_apart flags allocated (Fixup kind target ops) s t p ends f =
+    subst AreApart (sym p.2) (append_each (λ (x : Use LabelUse). AllClear s.records x.offset (length (marks_of x.kind))) s.uses (use_at (length s.bytes) (label_of allocated target) kind) (clear_later s (length s.bytes) (length (marks_of kind)) f.ends (omega arith)) f.clear)
+slot_apart flags allocated (Records e) s t p ends f = subst AreApart (sym p.1) (event_apart s e ends f.clear)
+slot_apart flags allocated (Here k) s t p ends f = subst AreApart (sym p.1) f.clear
+slot_apart flags allocated (RelocPair symbol upper lower) s t (first, second, hi, lo, e) ends f =
+    let half = with_bytes first (with_record (upper_event symbol) s) in
+    subst AreApart (sym e) (event_apart half (lower_event (length s.bytes)) (λ j u h. omega (arith, length-append s.bytes first, ends j u h)) (event_apart s (upper_event symbol) ends f.clear))
+slot_apart flags allocated (Address name addend) s t e ends f = subst AreApart (sym e) (event_apart s (address_event name addend) ends f.clear)
+slot_apart flags allocated (CallTo name ops) s t (code, is, e) ends f = subst AreApart (sym e) (event_apart s (call_event name) ends f.clear)
+slot_apart flags allocated slot s t p ends f = subst AreApart (sym p) f.clear
 
 pub slot_fields : (flags : IsaFlags) (allocated : ℕ) (slot : Slot) (s t : Shape LabelUse) → PutsSlot flags allocated slot s t → AllEnd label_kinds s → FieldsStand s → FieldsStand t
-slot_fields flags allocated slot s t p ends f = record { ends = slot_fields_end flags allocated slot s t p f.ends; clear = slot_clear flags allocated slot s t p ends f }
+slot_fields flags allocated slot s t p ends f = record { ends = slot_fields_end flags allocated slot s t p f.ends; clear = slot_apart flags allocated slot s t p ends f }
 
 pub puts_fields : (flags : IsaFlags) (allocated : ℕ) (slots : List Slot) (s t : Shape LabelUse) → Puts flags allocated slots s t → AllEnd label_kinds s → FieldsStand s → FieldsStand t
 puts_fields flags allocated [] s t p ends f = subst FieldsStand (sym p) f
@@ -152,18 +144,18 @@ slot_well flags allocated (Records event) s t even (asks, e) w = subst StandWell
 slot_well flags allocated (Here k) s t even (unbound, e) w = subst StandWell (sym e) w
 slot_well flags allocated slot s t even e w = subst StandWell (sym e) w
 
--- a piece of self-contained slots has an even length
-even_after : (here : ℕ → Option ℕ) (at : ℕ) (slot : Slot) (slots : List Slot) → AreClosed here at (slot ∷ slots) → (slot_size slot % 2 ≡ 0) × ((n : ℕ) × AreClosed here n slots)
-even_after here at (Op d) slots c = (c.0, (at + d.len, c.1))
-even_after here at (Fixup kind target ops) slots c = (marks_even kind, (at + length (marks_of kind), c.1))
-even_after here at (Data bytes) slots c = (c.0, (at + length bytes, c.1))
-even_after here at slot slots c = (refl, (_, c))
+-- a piece of self-contained slots has an even length, and what comes after it is self-contained from there
+pub even_after : (here : ℕ → Option ℕ) (at : ℕ) (slot : Slot) (slots : List Slot) → AreClosed here at (slot ∷ slots) → (slot_size slot % 2 ≡ 0) × ((n : ℕ) × (n ≡ at + slot_size slot) × AreClosed here n slots)
+even_after here at (Op d) slots c = (c.0, (at + d.len, refl, c.1))
+even_after here at (Fixup kind target ops) slots c = (marks_even kind, (at + length (marks_of kind), refl, c.1))
+even_after here at (Data bytes) slots c = (c.0, (at + length bytes, refl, c.1))
+even_after here at slot slots c = (refl, (_, omega arith, c))
 
 puts_well : (flags : IsaFlags) (allocated : ℕ) (slots : List Slot) (here : ℕ → Option ℕ) (at : ℕ) (s t : Shape LabelUse) → AreClosed here at slots → length s.bytes % 2 ≡ 0 → Puts flags allocated slots s t → StandWell s → StandWell t
 puts_well flags allocated [] here at s t c even p w = subst StandWell (sym p) w
 puts_well flags allocated (slot ∷ slots) here at s t c even (m, first, rest) w =
     let e = even_after here at slot slots c in
-    puts_well flags allocated slots here e.1.0 m t e.1.1 (omega (arith, slot_bytes flags allocated slot s m first)) rest (slot_well flags allocated slot s m even first w)
+    puts_well flags allocated slots here e.1.0 m t e.1.2 (omega (arith, slot_bytes flags allocated slot s m first)) rest (slot_well flags allocated slot s m even first w)
 
 -- ---- an island where one is needed
 

@@ -51,13 +51,11 @@ each_use P context start end inst continued jump branch second upper lower =
 
 -- each reaches over 1900 bytes after the instruction
 pub uses_far : (context : Context) (start end : ℕ) (inst : Inst) → end ≤ start + sequence_limit → Each (λ u. end + 1900 ≤ deadline label_kinds u) (uses_in context start end inst)
-uses_far context start end inst le = from (first_use context inst start) (uses_late context inst start)
-  where
-    from : (begin : ℕ) → start ≤ begin → Each (λ u. end + 1900 ≤ deadline label_kinds u) (uses_by context.flags begin end (try_call_of inst) (targets_of inst))
-    from begin late =
-        let far = (jump_reach context.flags).0 in
-        let few = least_few context.flags in
-        each_use (λ u. end + 1900 ≤ deadline label_kinds u) context begin end inst (λ label. omega arith) (λ label. omega arith) (λ label. omega arith) (λ label. omega arith) (λ label. omega arith) (λ label. omega arith)
+uses_far context start end inst le =
+    let late = uses_late context inst start in
+    let far = (jump_reach context.flags).0 in
+    let few = least_few context.flags in
+    each_use (λ u. end + 1900 ≤ deadline label_kinds u) context (first_use context inst start) end inst (λ label. omega arith) (λ label. omega arith) (λ label. omega arith) (λ label. omega arith) (λ label. omega arith) (λ label. omega arith)
 
 -- a use may go by a veneer, or reaches all code
 abbrev pub IsServed : Use LabelUse → Type 0
@@ -139,16 +137,10 @@ fits_most (AtMost m) n le = le
 pub slack_uses : (test : Use LabelUse → Bool) (cur slack : ℕ) (uses own : List (Use LabelUse)) → Each (λ u. cur + slack + 8 * length own ≤ deadline label_kinds u) own → HasSlack cur (slack + 8 * length own) (deadlines test label_kinds uses) → HasSlack cur slack (deadlines test label_kinds (uses ++ own))
 slack_uses test cur slack uses [] far h = subst (λ us. HasSlack cur slack (deadlines test label_kinds us)) (sym (append-nil uses)) (slack_less cur (slack + 8 * 0) cur slack _ (omega arith) h)
 slack_uses test cur slack uses (u ∷ own) far h =
-    let least = far 0 u refl in
     let first : HasSlack cur (slack + 8 * length own) (deadlines test label_kinds (uses ++ u ∷ [])) =
-    slack_use test label_kinds cur (slack + 8 * length own) uses u (omega arith) (slack_less cur (slack + 8 * suc (length own)) cur (slack + 8 * length own + 8) _ (omega arith) h) in
+    slack_use test label_kinds cur (slack + 8 * length own) uses u (omega (arith, far 0 u refl)) (slack_less cur (slack + 8 * suc (length own)) cur (slack + 8 * length own + 8) _ (omega arith) h) in
     subst (λ us. HasSlack cur slack (deadlines test label_kinds us)) (append_assoc uses (u ∷ []) own)
     (slack_uses test cur slack (uses ++ u ∷ []) own (λ k v e. let f = far (suc k) v e in omega arith) first)
-
--- where no island is needed before a line, Reach holds
-pub reach_calm : (b : Buffer) → is_needed (length (bytes_of b)) line_space (pending b) ≡ false → CanReach (length (bytes_of b)) (pending b)
-reach_calm b calm =
-    reach_from_slack (length (bytes_of b)) (pending b) (slack_less (length (bytes_of b) + line_space) 30 (length (bytes_of b)) 14 (pending b) (omega arith) (slack_not_needed (length (bytes_of b)) line_space (pending b) calm))
 
 -- no island is needed where one was just put, or where none was needed
 pub calm_after : (distance : ℕ) (old new : Buffer) (made : Bool) → IslandIfNeeded distance old new made → is_needed (length (bytes_of new)) distance (pending new) ≡ false
@@ -162,6 +154,10 @@ pub reach_within : (distance : ℕ) (old new : Buffer) → is_needed (length (by
 reach_within distance old new calm le same =
     subst (CanReach (length (bytes_of new))) (sym same)
     (reach_from_slack (length (bytes_of new)) (pending old) (slack_less (length (bytes_of old) + distance) 30 (length (bytes_of new)) 14 (pending old) (omega arith) (slack_not_needed (length (bytes_of old)) distance (pending old) calm)))
+
+-- where none is needed before a line, Reach holds
+pub reach_calm : (b : Buffer) → is_needed (length (bytes_of b)) line_space (pending b) ≡ false → CanReach (length (bytes_of b)) (pending b)
+reach_calm b calm = reach_within line_space b b calm (omega arith) refl
 
 -- ---- and after an instruction
 

@@ -1,12 +1,12 @@
 -- What was put into a buffer, whatever followed, stands in the finished code.
-use Rattle.{mach_buffer.proofs.Laws.recorded_at as use_recorded_at, rv_code.specs.Slots.uses_of}
-use Rattle.rv_emit.proofs.{PartsInBuffer.clear_there, PartsInBuffer.clear_later, PartsInBuffer.slot_fields_end, OwnPieces.bound_here, OwnPieces.own_bound, OwnPieces.near, VeneerRuns.window_length, VeneerRuns.window_fits, VeneerRuns.window_there, VeneerRuns.veneer_leads}
-use Rattle.rv_emit.proofs.Terms.{◌≡◌, ◌⊎◌, ℕ, ◌+◌, ◌%◌, ◌≤◌, Bool, true, false, ⊎_elim, List, [], ◌∷◌, ◌++◌, length, Option, Some, None, ℤ, pos, ◌-ℤ◌, refl, ap, sym, ◌∙◌, subst, arith, slice_get, true≢false, same_Some, MachLabel, to_le_bytes, w64, length-append, SameOutside, ExternalName, Decoded}
-use Rattle.rv_emit.proofs.Terms.{LabelUse, PCRel32, PCRelHi20, PCRelLo12I, label_kinds, Aims, marks_of, has_veneer_of, veneer_of, use_at, Use, Shape, with_bytes, with_record, veneer_use, Event, MachRecord, AllEnd, window, is_reached, Lasts, RecordsLast, ByVeneer, UseFinished, lasts_more}
-use Rattle.rv_emit.proofs.Terms.{lasts_bytes, lasts_record, piece_finished, use_finished, slice_get-append, slice_get-append_last, wide_jump_to, access_slots, Symbol, AddressOf, Target, Label, Own, Slot, Op, Fixup, Data, Records, Here, RelocPair, Address, CallTo, upper_event, lower_event, address_event}
-use Rattle.rv_emit.proofs.Terms.{call_event, Part, Ask, Slots, slot_size, size_of, own_label, label_of, between, here_at, IsClosed, AreClosed, AreSelfContained, PartsAreSelfContained, Site, BytesAt, IsPlacedAt, CodeHas, LeadsOn, Leads, Reaches, AimsFrom, symbol_address, FillsFrom, LinksFrom}
-use Rattle.rv_emit.proofs.Terms.{StandsIn, GapIn, PartsStand, Memory, fetch, TrapCode, IsOwnForm, low_funct3, AllClear, FieldsEnd, FieldsStand, KeepsOutside, IsFilled, Encodes, eight_zeros, PutsSlot, Puts, SlotsIn, IslandIn, GapStandsIn, PartsIn, IsFinishedTo, slot_bytes, slot_ends}
-use Rattle.rv_emit.proofs.Terms.{lasts_after_slots, puts_bytes, puts_uses, leads_here, leads_both, jump_leads, closed_even}
+use Rattle.{mach_buffer.proofs.Laws.{recorded_at as use_recorded_at}, rv_code.specs.Slots.uses_of, rv_emit.{proofs.OwnPieces.{bound_here, own_bound, near}, proofs.PartsInBuffer.{even_after, clear_there, clear_later, slot_fields_end}}}
+use Rattle.rv_emit.proofs.Terms.{◌≡◌, ◌⊎◌, ℕ, ◌+◌, ◌%◌, ◌≤◌, Bool, true, false, ⊎_elim, List, [], ◌∷◌, ◌++◌, length, Option, Some, None, ℤ, pos, ◌-ℤ◌, refl, ap, sym, ◌∙◌, subst, arith, slice_get, true≢false, same_Some, MachLabel, to_le_bytes, w64, length-append}
+use Rattle.rv_emit.proofs.Terms.{SameOutside, ExternalName, Decoded, LabelUse, PCRel32, PCRelHi20, PCRelLo12I, label_kinds, Aims, marks_of, has_veneer_of, veneer_of, use_at, Use, Shape, with_bytes, with_record, veneer_use, Event, MachRecord, AllEnd, window, is_reached}
+use Rattle.rv_emit.proofs.Terms.{Lasts, RecordsLast, ByVeneer, UseFinished, lasts_more, lasts_bytes, lasts_record, piece_finished, use_finished, slice_get-append, slice_get-append_last, wide_jump_to, access_slots, Symbol, AddressOf, Target, Label, Own, Slot, Op, Fixup}
+use Rattle.rv_emit.proofs.Terms.{Data, Records, Here, RelocPair, Address, CallTo, upper_event, lower_event, address_event, call_event, Part, Ask, Slots, slot_size, size_of, own_label, label_of, between, here_at, IsClosed, AreClosed, AreSelfContained}
+use Rattle.rv_emit.proofs.Terms.{PartsAreSelfContained, Site, BytesAt, IsPlacedAt, CodeHas, LeadsOn, Leads, Reaches, AimsFrom, symbol_address, FillsFrom, LinksFrom, StandsIn, GapIn, PartsStand, Memory, fetch, TrapCode, IsOwnForm, low_funct3, AllClear, FieldsEnd}
+use Rattle.rv_emit.{proofs.Terms.{FieldsStand, KeepsOutside, IsFilled, Encodes, eight_zeros, PutsSlot, Puts, SlotsIn, IslandIn, GapStandsIn, PartsIn, IsFinishedTo, slot_bytes, slot_ends, lasts_after_slots, puts_bytes, puts_uses, leads_here, leads_both, jump_leads}, proofs.Terms.closed_even}
+use Rattle.rv_emit.proofs.VeneerRuns.{window_length, window_fits, window_there, veneer_leads}
 use Rattle.mach_records.specs.declared.records.Event.TheVariants as event
 
 -- ---- slots
@@ -181,45 +181,30 @@ module _ (site : Site) (f : Shape LabelUse) (final : List ℕ) (fin : IsFinished
         has = code_has at 8 (ops x.distance) room (is.patched (window site.bytes at 8) x.distance (window_length site.bytes at 8 room) (window_fits site.bytes at 8 room keeps.bytes) (subst (λ w. SameOutside (marks_of PCRel32) w (window site.bytes at 8)) there x.kept) x.aims);
       }
 
+  -- a slot stands, and what was put after it
+  slot_stands : FieldsStand f → IsFilled site final → (allocated from : ℕ) (here : ℕ → Option ℕ) (new : Shape LabelUse) → ArePut f allocated from here new → (at : ℕ) (slot : Slot) (slots : List Slot) (s mid : Shape LabelUse) → PutsSlot site.context.flags allocated slot s mid → Puts site.context.flags allocated slots mid new → IsAfter s mid (slot_size slot) → AreClosed here at (slot ∷ slots) → length s.bytes ≡ from + at → AllEnd label_kinds s → FieldsEnd s →
+      ((n : ℕ) → n ≡ length s.bytes + slot_size slot → StandsIn site allocated n slots) → StandsIn site allocated (length s.bytes) (slot ∷ slots)
+  slot_stands fields filled allocated from here new put at (Op d) slots s mid p q after closed e ends kept rest =
+      let has = subst (λ w. Encodes site.context.flags w (d ∷ [])) (sym (piece_there s mid p.0 p.3 ends kept after.lasts) ∙ ap (window site.bytes (length s.bytes)) p.1) p.2 in
+      (code_has (length s.bytes) d.len (d ∷ []) after.room has, rest _ refl)
+  slot_stands fields filled allocated from here new put at (Fixup kind target ops) slots s mid p q after closed e ends kept rest = (aim_stands fields allocated from here new put at kind target ops slots s mid p q after e closed.0 kept, rest _ refl)
+  slot_stands fields filled allocated from here new put at (Data bytes) slots s mid p q after closed e ends kept rest =
+      (λ mem placed. subst (BytesAt mem (site.base + length s.bytes)) (piece_there s mid bytes p ends kept after.lasts) (window_there mem site.base site.bytes (length s.bytes) (length bytes) after.room placed.bytes), rest _ refl)
+  slot_stands fields filled allocated from here new put at (Records noted) slots s mid p q after closed e ends kept rest = (record { index = length s.records; there = recorded_at s mid noted p.1 after.lasts.records }, rest _ (omega arith))
+  slot_stands fields filled allocated from here new put at (Here k) slots s mid p q after closed e ends kept rest =
+      (ap (λ (p : ℕ → Option ℕ). p (own_label allocated k).number) same ∙ fin.finishes.grows.places (own_label allocated k).number (length s.bytes) (put.lasts.grows.places (own_label allocated k).number (length s.bytes) (bound_here site.context.flags allocated k slots s mid new p q)), rest _ (omega arith))
+  slot_stands fields filled allocated from here new put at (RelocPair symbol upper lower) slots s mid p q after closed e ends kept rest = (fill_stands filled allocated symbol upper lower s mid p ends after.lasts after.room, rest _ refl)
+  slot_stands fields filled allocated from here new put at (Address name addend) slots s mid p q after closed e ends kept rest = (address_stands filled allocated name addend s mid p after.lasts after.room, rest _ refl)
+  slot_stands fields filled allocated from here new put at (CallTo name ops) slots s mid p q after closed e ends kept rest = (call_stands filled allocated name ops s mid p ends after.lasts after.room, rest _ refl)
+  slot_stands fields filled allocated from here new put at slot slots s mid p q after closed e ends kept rest = rest _ (omega arith)
+
   stands : FieldsStand f → IsFilled site final → (allocated from : ℕ) (here : ℕ → Option ℕ) (new : Shape LabelUse) → ArePut f allocated from here new → (at : ℕ) (slots : List Slot) (s : Shape LabelUse) → Puts site.context.flags allocated slots s new → AreClosed here at slots → length s.bytes ≡ from + at → AllEnd label_kinds s → FieldsEnd s → StandsIn site allocated (length s.bytes) slots
   stands fields filled allocated from here new put at [] s p closed e ends kept = tt
-  stands fields filled allocated from here new put at (Op d ∷ slots) s p closed e ends kept =
-      let a = after_slot allocated (Op d) slots s p.0 new put.lasts p.1 p.2 in (
-        code_has (length s.bytes) d.len (d ∷ []) a.room
-            (subst (λ w. Encodes site.context.flags w (d ∷ [])) (sym (piece_there s p.0 p.1.0 p.1.3 ends kept a.lasts) ∙ ap (window site.bytes (length s.bytes)) p.1.1) p.1.2),
-        subst (λ n. StandsIn site allocated n slots) a.long (stands fields filled allocated from here new put (at + d.len) slots p.0 p.2 closed.1 (omega arith) (a.ends ends) (a.fields kept)),
-      )
-  stands fields filled allocated from here new put at (Fixup kind target ops ∷ slots) s p closed e ends kept =
-      let a = after_slot allocated (Fixup kind target ops) slots s p.0 new put.lasts p.1 p.2 in
-      let rest = subst (λ n. StandsIn site allocated n slots) a.long (stands fields filled allocated from here new put (at + length (marks_of kind)) slots p.0 p.2 closed.1 (omega arith) (a.ends ends) (a.fields kept)) in
-      (aim_stands fields allocated from here new put at kind target ops slots s p.0 p.1 p.2 a e closed.0 kept, rest)
-  stands fields filled allocated from here new put at (Data bytes ∷ slots) s p closed e ends kept =
-      let a = after_slot allocated (Data bytes) slots s p.0 new put.lasts p.1 p.2 in
-      let rest = subst (λ n. StandsIn site allocated n slots) a.long (stands fields filled allocated from here new put (at + length bytes) slots p.0 p.2 closed.1 (omega arith) (a.ends ends) (a.fields kept)) in
-      (λ mem placed. subst (BytesAt mem (site.base + length s.bytes)) (piece_there s p.0 bytes p.1 ends kept a.lasts) (window_there mem site.base site.bytes (length s.bytes) (length bytes) a.room placed.bytes), rest)
-  stands fields filled allocated from here new put at (Records noted ∷ slots) s p closed e ends kept =
-      let a = after_slot allocated (Records noted) slots s p.0 new put.lasts p.1 p.2 in
-      let rest = subst (λ n. StandsIn site allocated n slots) (a.long ∙ omega arith) (stands fields filled allocated from here new put at slots p.0 p.2 closed (omega arith) (a.ends ends) (a.fields kept)) in
-      (record { index = length s.records; there = recorded_at s p.0 noted p.1.1 a.lasts.records }, rest)
-  stands fields filled allocated from here new put at (Here k ∷ slots) s p closed e ends kept =
-      let a = after_slot allocated (Here k) slots s p.0 new put.lasts p.1 p.2 in
-      let rest = subst (λ n. StandsIn site allocated n slots) (a.long ∙ omega arith) (stands fields filled allocated from here new put at slots p.0 p.2 closed (omega arith) (a.ends ends) (a.fields kept)) in
-      (ap (λ (p : ℕ → Option ℕ). p (own_label allocated k).number) same ∙ fin.finishes.grows.places (own_label allocated k).number (length s.bytes) (put.lasts.grows.places (own_label allocated k).number (length s.bytes) (bound_here site.context.flags allocated k slots s p.0 new p.1 p.2)), rest)
-  stands fields filled allocated from here new put at (RelocPair symbol upper lower ∷ slots) s p closed e ends kept =
-      let a = after_slot allocated (RelocPair symbol upper lower) slots s p.0 new put.lasts p.1 p.2 in
-      let rest = subst (λ n. StandsIn site allocated n slots) a.long (stands fields filled allocated from here new put (at + 8) slots p.0 p.2 closed (omega arith) (a.ends ends) (a.fields kept)) in
-      (fill_stands filled allocated symbol upper lower s p.0 p.1 ends a.lasts a.room, rest)
-  stands fields filled allocated from here new put at (Address name addend ∷ slots) s p closed e ends kept =
-      let a = after_slot allocated (Address name addend) slots s p.0 new put.lasts p.1 p.2 in
-      let rest = subst (λ n. StandsIn site allocated n slots) a.long (stands fields filled allocated from here new put (at + 8) slots p.0 p.2 closed (omega arith) (a.ends ends) (a.fields kept)) in
-      (address_stands filled allocated name addend s p.0 p.1 a.lasts a.room, rest)
-  stands fields filled allocated from here new put at (CallTo name ops ∷ slots) s p closed e ends kept =
-      let a = after_slot allocated (CallTo name ops) slots s p.0 new put.lasts p.1 p.2 in
-      let rest = subst (λ n. StandsIn site allocated n slots) a.long (stands fields filled allocated from here new put (at + 8) slots p.0 p.2 closed (omega arith) (a.ends ends) (a.fields kept)) in
-      (call_stands filled allocated name ops s p.0 p.1 ends a.lasts a.room, rest)
-  stands fields filled allocated from here new put at (slot ∷ slots) s p closed e ends kept =
-      let a = after_slot allocated slot slots s p.0 new put.lasts p.1 p.2 in
-      subst (λ n. StandsIn site allocated n slots) (a.long ∙ omega arith) (stands fields filled allocated from here new put at slots p.0 p.2 closed (omega arith) (a.ends ends) (a.fields kept))
+  stands fields filled allocated from here new put at (slot ∷ slots) s (mid, p, q) closed e ends kept =
+      let a = after_slot allocated slot slots s mid new put.lasts p q in
+      let c = even_after here at slot slots closed in
+      let rest = stands fields filled allocated from here new put c.1.0 slots mid q c.1.2 (omega (arith, a.long, e, c.1.1)) (a.ends ends) (a.fields kept) in
+      slot_stands fields filled allocated from here new put at slot slots s mid p q a closed e ends kept (λ n is. subst (λ n. StandsIn site allocated n slots) (a.long ∙ sym is) rest)
 
   -- slots that were put between two offsets
   pub slots_stand : FieldsStand f → IsFilled site final → (slots : List Slot) (start end : ℕ) → AreSelfContained slots → (q : SlotsIn site.context.flags slots f start end) → StandsIn site q.old.allocated start slots × (end ≡ start + size_of slots)

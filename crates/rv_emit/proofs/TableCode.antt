@@ -1,10 +1,10 @@
 -- What tables, symbols, call sites and steps in the making of a frame put.
-use Rattle.rv_emit.proofs.Terms.{◌≡◌, inl, ℕ, zero, suc, ◌+◌, ◌-◌, ◌*◌, ◌/◌, ◌%◌, ◌^◌, ◌<◌, ◌≤◌, Bool, true, false, List, [], ◌∷◌, ◌++◌, map, take, drop, length, Some, None, ℤ, pos, negsuc, ◌≤ℤ◌, ⊎_elim, refl, ap, sym, subst, ◌∙◌, append_assoc, arith, get_or, option_map, to_le_bytes, cast_signed}
-use Rattle.rv_emit.proofs.Terms.{w32, w64, ints, length-drop, length-take, map-append, take_all, take_more, SameOutside, IsaFlags, MachLabel, Base, decode, int_by_opcode, word_opcode, word_funct3, u_bits, i_bits, i_layout, AUIPC, JALR, signed, IsUType, IsIType, decoded, opcode_decodes, LabelUse}
-use Rattle.rv_emit.proofs.Terms.{PCRel32, PCRelHi20, PCRelLo12I, Aims, marks_of, with_immediate, PairDecodes, word_at, word_bytes, use_at, decode-patched_pair, shape_of, bytes_of, allocated_of, Shape, with_bytes, with_use, with_record, PutsAlone, Emits, Buffer, IsSoundBuffer, AppendsIsland}
-use Rattle.rv_emit.proofs.Terms.{IslandIfNeeded, upper_of, lower_of, decoded_jalr, AllBytes, IsPatchable, AsksNothing, eight_zeros, extend_pieces, slots_of, number_slots, table_slots, far_jump, jump_slots, AreListed, IsListed, word_fits, upper_fresh, lower_fresh, upper_is, lower_is, Context}
-use Rattle.rv_emit.proofs.Terms.{inst_rule, table_space, IsIntRegister, number_of, Inst, BrTable, Reg, Writable, keeps, table_fine, alone, both_alone, alone_long, even_plain, extend_even, extend_few, number_even, number_few, count_splits, far_jumps_even, far_jumps_long, ExternalName, Decoded, Event}
-use Rattle.{rv_emit.proofs.Terms.{Symbol, Records, RelocPair, Address, CallTo, upper_event, lower_event, address_event, call_event, word_there}, rv_emit.proofs.VeneerRuns.{rest_there, rest_fits, first_bytes}}
+use Rattle.rv_emit.proofs.Terms.{◌≡◌, ℕ, zero, suc, ◌+◌, ◌-◌, ◌*◌, ◌/◌, ◌%◌, ◌^◌, ◌<◌, ◌≤◌, Bool, true, false, List, [], ◌∷◌, ◌++◌, map, take, drop, length, Some, ℤ, pos, negsuc, ◌≤ℤ◌, ⊎_elim, refl, ap, sym, subst, ◌∙◌, append_assoc, arith, get_or, option_map, AreBytes}
+use Rattle.rv_emit.proofs.Terms.{to_le_bytes, cast_signed, w32, w64, ints, length-take, map-append, take_all, take_more, IsaFlags, MachLabel, Base, decode, int_by_opcode, word_opcode, word_funct3, u_bits, i_bits, i_layout, AUIPC, JALR, signed, IsUType, IsIType, decoded}
+use Rattle.rv_emit.proofs.Terms.{opcode_decodes, LabelUse, PCRel32, PCRelHi20, PCRelLo12I, with_immediate, PairDecodes, word_at, word_bytes, use_at, shape_of, bytes_of, allocated_of, Shape, with_bytes, with_use, with_record, PutsAlone, Emits, Buffer, IsSoundBuffer}
+use Rattle.rv_emit.proofs.Terms.{AppendsIsland, IslandIfNeeded, upper_of, lower_of, decoded_jalr, IsPatchable, AsksNothing, eight_zeros, extend_pieces, slots_of, number_slots, table_slots, far_jump, jump_slots, AreListed, IsListed, word_fits, upper_fresh, lower_fresh}
+use Rattle.rv_emit.proofs.Terms.{upper_is, lower_is, Context, table_space, number_of, Inst, BrTable, Reg, Writable, alone, both_alone, alone_long, even_plain, extend_even, extend_few, number_even, number_few, count_splits, far_jumps_even, far_jumps_long, ExternalName}
+use Rattle.rv_emit.{proofs.Terms.{Decoded, Event, Symbol, Records, RelocPair, Address, CallTo, upper_event, lower_event, address_event, call_event}, proofs.VeneerRuns.{pair_decodes, pair_there}}
 use Rattle.rv_machine.specs.declared.ops.BaseOp.TheVariants as base
 
 -- A branch by a table: jumps in eight bytes, and the words before them.
@@ -31,14 +31,6 @@ lower_within n lt = (grind (arith, ints), grind (arith, ints))
 jalr_decodes : (x : ℕ) → word_funct3 x ≡ 0 → int_by_opcode JALR x ≡ Some (i_layout x (Base base.Jalr))
 jalr_decodes x z = rw z
 
--- both words with a distance patched in
-pair_decodes : (flags : IsaFlags) (w x link tmp : ℕ) (new : List ℕ) (d : ℤ) → w < 2 ^ 32 → x < 2 ^ 32 → IsUType w AUIPC tmp 0 → IsIType x JALR link 0 tmp 0 → length new ≡ 8 → AllBytes new → SameOutside (marks_of PCRel32) (pair_bytes w x) new → Aims PCRel32 new d → PairDecodes flags (pair_bytes w x) new d
-pair_decodes flags w x link tmp new d fw fx h g long all same aims =
-    decode-patched_pair flags (pair_bytes w x) new d
-    (let b = word_fits w fw in record { first = b.first; second = b.second; third = b.third; fourth = b.fourth }) (first_bytes new (omega arith) all)
-    (let b = word_fits x fx in record { first = b.first; second = b.second; third = b.third; fourth = b.fourth }) (first_bytes (drop 4 new) (omega (arith, length-drop 4 new)) (rest_fits new 4 (omega arith) all))
-    same (ap word_opcode (first_back w x) ∙ h.opcode_is) (inl (ap word_opcode (second_back w x) ∙ g.opcode_is)) aims
-
 -- the upper and the lower immediate that they hold are those of the distance
 upper_held : {flags : IsaFlags} {old new : List ℕ} {d : ℤ} (p : PairDecodes flags old new d) → u_bits (word_at new) < 2 ^ 20 → i_bits (word_at (drop 4 new)) < 2 ^ 12 → (upper_of d ≡ p.upper) × (lower_of d ≡ p.lower)
 upper_held {d = d} p fu fl =
@@ -53,13 +45,12 @@ pair_patchable flags w x link tmp fw fx h g = record {
       let f = upper_fresh w (omega arith) in let e = lower_fresh x (omega arith) in
       (f.0, (f.1.0, (f.1.1.0, (f.1.1.1.0, (e.0, (e.1.0, (e.1.1.0, (e.1.1.1.0, tt))))))));
   patched = λ new d long all same aims mem a there.
-      let p = pair_decodes flags w x link tmp new d fw fx h g long all same aims in
+      let first : AreBytes (pair_bytes w x) = let b = word_fits w fw in record { first = b.first; second = b.second; third = b.third; fourth = b.fourth } in
+      let p = pair_decodes flags (pair_bytes w x) new d first (word_fits x fx) (ap word_opcode (first_back w x) ∙ h.opcode_is) (ap word_opcode (second_back w x) ∙ g.opcode_is) long all same aims in
       let held = upper_held p (omega arith) (omega arith) in
       let upper : decode flags (word_at new) ≡ Some (decoded (Base base.Auipc) tmp 0 0 (upper_of d)) = p.first ∙ ap (λ n. option_map (with_immediate p.upper) (decode flags n)) (first_back w x) ∙ ap (option_map (with_immediate p.upper)) (opcode_decodes flags w AUIPC h.opcode_is refl refl) ∙ (λ i. Some (decoded (Base base.Auipc) (h.rd_is i) 0 0 (sym held.0 i))) in
-      let lower : decode flags (word_at (drop 4 new)) ≡ Some (decoded_jalr link tmp (lower_of d)) = p.second ∙ ap (λ n. option_map (with_immediate p.lower) (decode flags n)) (second_back w x) ∙ ap (option_map (with_immediate p.lower)) (opcode_decodes flags x JALR g.opcode_is refl (jalr_decodes x g.funct3_is)) ∙ (λ i. Some (decoded_jalr (g.rd_is i) (g.rs1_is i) (sym held.1 i))) in (
-        ap (decode flags) (word_there mem a new (omega arith) there) ∙ upper,
-        (ap (decode flags) (word_there mem (a + 4) (drop 4 new) (omega (arith, length-drop 4 new)) (rest_there mem a new 4 (omega arith) there)) ∙ lower, tt),
-      );
+      let lower : decode flags (word_at (drop 4 new)) ≡ Some (decoded_jalr link tmp (lower_of d)) = p.second ∙ ap (λ n. option_map (with_immediate p.lower) (decode flags n)) (second_back w x) ∙ ap (option_map (with_immediate p.lower)) (opcode_decodes flags x JALR g.opcode_is refl (jalr_decodes x g.funct3_is)) ∙ (λ i. Some (decoded_jalr (g.rd_is i) (g.rs1_is i) (sym held.1 i))) in
+      pair_there flags mem a new tmp (upper_of d) (decoded_jalr link tmp (lower_of d)) long there upper lower;
 }
 
 -- a word's bytes
@@ -106,12 +97,9 @@ pub others_fewer : (targets : List MachLabel) → 1 ≤ length targets → lengt
 others_fewer [] some = absurd (omega arith)
 others_fewer (default ∷ labels) some = let e = length-take (length (default ∷ labels) - 1) labels in omega arith
 
--- a number of few bits, signed
-small_signed : (n : ℕ) → n < 2 ^ 32 → cast_signed w64 n ≡ pos n
-small_signed n lt = grind (arith, ints)
-
+-- a number of few bits, signed, is itself
 pub counted : {flags : IsaFlags} {old new : Buffer} (tmp2 n : ℕ) → n < 2 ^ 32 → PutsAlone flags (number_slots flags tmp2 (cast_signed w64 n)) old new → PutsAlone flags (number_slots flags tmp2 (pos n)) old new
-counted {flags} {old} {new} tmp2 n lt p = subst (λ z. PutsAlone flags (number_slots flags tmp2 z) old new) (small_signed n lt) p
+counted {flags} {old} {new} tmp2 n lt p = let same : cast_signed w64 n ≡ pos n = grind (arith, ints) in subst (λ z. PutsAlone flags (number_slots flags tmp2 z) old new) same p
 
 -- how long the pieces are before the jumps
 pub before_few : {flags : IsaFlags} (index tmp2 n : ℕ) (old mid new : Buffer) → n < 2 ^ 30 → PutsAlone flags (slots_of flags (extend_pieces 31 index false 32)) old mid → PutsAlone flags (number_slots flags tmp2 (pos n)) mid new → length (bytes_of new) ≤ length (bytes_of old) + 16
@@ -129,10 +117,6 @@ table_put {flags} index tmp1 tmp2 (default ∷ labels) d old a b new some p q r 
     (both_alone count (jump_slots tmp1 tmp2 default labels) a b new (even_plain count (number_even flags tmp2 (pos (length labels)))) (subst (λ ls. PutsAlone flags (number_slots flags tmp2 (pos (length ls))) a b) same q) jumps)
 
 -- ---- the instruction
-
--- what a branch by a table that breaks no rule asks of its registers and labels
-pub table_kept : (context : Context) (inst : Inst) (index : Reg) (tmp1 tmp2 : Writable Reg) (targets : List MachLabel) → inst ≡ BrTable index tmp1 tmp2 targets → inst_rule context inst ≡ None → IsIntRegister index × IsIntRegister tmp1.reg × IsIntRegister tmp2.reg × AreListed targets × (1 ≤ length targets)
-table_kept context inst index tmp1 tmp2 targets is rule = table_fine index tmp1 tmp2 targets (keeps context (BrTable index tmp1 tmp2 targets) (ap (inst_rule context) (sym is) ∙ rule))
 
 -- at most one label more is allocated
 pub island_few : (space : ℕ) (old new : Buffer) (made : Bool) → IslandIfNeeded space old new made → allocated_of new ≤ 1 + allocated_of old

@@ -1,5 +1,5 @@
 -- Bytes in a memory, and the veneers among them.
-use Rattle.rv_emit.proofs.Terms.{◌≡◌, ℕ, ◌+◌, ◌<◌, ◌≤◌, List, length, drop, arith, sym, ap, subst, ◌∙◌, zero, suc, ◌-◌, ◌*◌, ◌/◌, ◌%◌, ◌^◌, inl, Bool, true, false, [], ◌∷◌, Some, refl, ℤ, pos, negsuc, ◌+ℤ◌, ◌*ℤ◌, ◌-ℤ◌, lit<, slice_index, slice_set, nat_lt, if◌then◌else◌, get_or-take, get_or-drop}
+use Rattle.rv_emit.proofs.Terms.{◌≡◌, ℕ, ◌+◌, ◌<◌, ◌≤◌, List, length, drop, arith, sym, ap, subst, ◌∙◌, zero, suc, ◌-◌, ◌*◌, ◌/◌, ◌%◌, ◌^◌, inl, Bool, true, false, [], ◌∷◌, Some, refl, ℤ, pos, negsuc, ◌+ℤ◌, ◌*ℤ◌, ◌-ℤ◌, lit<, slice_index, slice_set, nat_lt, if◌then◌else◌, get_or-take, get_or-drop, word_opcode, AUIPC, JALR}
 use Rattle.rv_emit.proofs.Terms.{length-take, length-drop, Memory, byte, wrap, Values, reg, set_reg, low64, signed, at, fetch, word_at, AreBytes, window, BytesAt, Site, HasOps, LeadsOn, AllBytes, option_map, ints, ltb-true, get_or-set_at, get_or-set_other, SameOutside, IsaFlags, LabelUse, PCRel32}
 use Rattle.rv_emit.proofs.Terms.{label_kinds, Aims, marks_of, veneer_of, with_immediate, PairDecodes, Same, decode-patched_pair, Decoded, Base, decoded, Use, IsVia, decoded_jalr, are_values_set, istep_at, comes_one, comes_both, word_there}
 use Rattle.rv_machine.specs.{declared.ops.BaseOp.TheVariants.Auipc, Decode.int_decode, Decode.decode}
@@ -57,23 +57,19 @@ old_second flags = refl
 pub first_bytes : (bytes : List ℕ) → 4 ≤ length bytes → AllBytes bytes → AreBytes bytes
 first_bytes bytes le fits = record { first = fits 0 (omega arith); second = fits 1 (omega arith); third = fits 2 (omega arith); fourth = fits 3 (omega arith) }
 
--- eight bytes whose window aims at a distance hold both operations, by its upper and its lower part
-pair_decodes : (flags : IsaFlags) (new : List ℕ) (d : ℤ) → length new ≡ 8 → AllBytes new → SameOutside (marks_of PCRel32) (veneer_of PCRel32).bytes new → Aims PCRel32 new d → PairDecodes flags (veneer_of PCRel32).bytes new d
-pair_decodes flags new d long fits kept aims =
-    decode-patched_pair flags (veneer_of PCRel32).bytes new d
-    (record { first = lit< tt; second = lit< tt; third = lit< tt; fourth = lit< tt }) (first_bytes new (omega arith) fits)
-    (record { first = lit< tt; second = lit< tt; third = lit< tt; fourth = lit< tt }) (first_bytes (drop 4 new) (omega (arith, length-drop 4 new)) (rest_fits new 4 (omega arith) fits))
-    kept refl (inl refl) aims
+-- eight bytes whose window aims at a distance hold the operations of two words, by its upper and its lower part
+pub pair_decodes : (flags : IsaFlags) (old new : List ℕ) (d : ℤ) → AreBytes old → AreBytes (drop 4 old) → word_opcode (word_at old) ≡ AUIPC → word_opcode (word_at (drop 4 old)) ≡ JALR → length new ≡ 8 → AllBytes new → SameOutside (marks_of PCRel32) old new → Aims PCRel32 new d → PairDecodes flags old new d
+pair_decodes flags old new d first second auipc jalr long fits kept aims =
+    decode-patched_pair flags old new d first (first_bytes new (omega arith) fits) second (first_bytes (drop 4 new) (omega (arith, length-drop 4 new)) (rest_fits new 4 (omega arith) fits)) kept auipc (inl jalr) aims
 
 -- the same operations, wherever the bytes stand
-pub pair_there : (flags : IsaFlags) (mem : Memory) (a : ℕ) (new : List ℕ) (d : ℤ) → length new ≡ 8 → BytesAt mem a new → (p : PairDecodes flags (veneer_of PCRel32).bytes new d) → HasOps flags mem a (decoded_auipc p.upper ∷ decoded_jalr 0 31 p.lower ∷ [])
-pair_there flags mem a new d long placed p = (
-  ap (decode flags) (word_there mem a new (omega arith) placed) ∙ p.first ∙ ap (option_map (with_immediate p.upper)) (old_first flags),
-  (
-    ap (decode flags) (word_there mem (a + 4) (drop 4 new) (omega (arith, length-drop 4 new)) (rest_there mem a new 4 (omega arith) placed)) ∙ p.second ∙ ap (option_map (with_immediate p.lower)) (old_second flags),
-    tt,
-  ),
-)
+pub pair_there : (flags : IsaFlags) (mem : Memory) (a : ℕ) (new : List ℕ) (tmp : ℕ) (upper : ℤ) (second : Decoded) → length new ≡ 8 → BytesAt mem a new → decode flags (word_at new) ≡ Some (decoded (Base Auipc) tmp 0 0 upper) → decode flags (word_at (drop 4 new)) ≡ Some second → HasOps flags mem a (decoded (Base Auipc) tmp 0 0 upper ∷ second ∷ [])
+pair_there flags mem a new tmp upper second long placed first next =
+    (ap (decode flags) (word_there mem a new (omega arith) placed) ∙ first, (ap (decode flags) (word_there mem (a + 4) (drop 4 new) (omega (arith, length-drop 4 new)) (rest_there mem a new 4 (omega arith) placed)) ∙ next, tt))
+
+-- those of a veneer
+pub veneer_there : (flags : IsaFlags) (mem : Memory) (a : ℕ) (new : List ℕ) (d : ℤ) → length new ≡ 8 → BytesAt mem a new → (p : PairDecodes flags (veneer_of PCRel32).bytes new d) → HasOps flags mem a (decoded_auipc p.upper ∷ decoded_jalr 0 31 p.lower ∷ [])
+veneer_there flags mem a new d long placed p = pair_there flags mem a new 31 p.upper (decoded_jalr 0 31 p.lower) long placed (p.first ∙ ap (option_map (with_immediate p.upper)) (old_first flags)) (p.second ∙ ap (option_map (with_immediate p.lower)) (old_second flags))
 
 -- ---- where they lead
 
@@ -116,7 +112,7 @@ pair_leads site place to even to_even within p = record {
       let next : wrap (s.pc + 4) ≡ base + place + 4 = omega arith in
       let x = wrap (s.pc + low64 p.upper * 2 ^ 12) in
       let held : slice_index (slice_set s.values.regs 30 x) 30 ≡ x = get_or-set_at s.values.regs 30 30 x 0 refl (let n = is_state.values.count in omega arith) in
-      let has = pair_there flags s.values.mem (base + place) (window site.bytes place 8) (pos to -ℤ pos place) (window_length site.bytes place 8 within) (window_there s.values.mem base site.bytes place 8 within placed.bytes) p in
+      let has = veneer_there flags s.values.mem (base + place) (window site.bytes place 8) (pos to -ℤ pos place) (window_length site.bytes place 8 within) (window_there s.values.mem base site.bytes place 8 within placed.bytes) p in
       let first : decode flags (fetch s.values.mem s.pc) ≡ Some (decoded_auipc p.upper) = ap (λ a. decode flags (fetch s.values.mem a)) here ∙ has.0 in
       let second : decode flags (fetch s.values.mem (wrap (s.pc + 4))) ≡ Some (decoded_jalr 0 31 p.lower) = ap (λ a. decode flags (fetch s.values.mem a)) next ∙ has.1.0 in
       let spare = same_spare v s.values x same in
@@ -133,7 +129,7 @@ pair_leads site place to even to_even within p = record {
 pub via_decodes : (flags : IsaFlags) (bytes : List ℕ) (kind : LabelUse) (u : Use LabelUse) (to : ℕ) (g : IsVia label_kinds (veneer_of kind) bytes u to) → AllBytes bytes → PairDecodes flags (veneer_of PCRel32).bytes (window bytes g.at 8) (pos to -ℤ pos g.at)
 via_decodes flags bytes kind u to g fits =
     let same_place : g.at + 0 ≡ g.at = omega arith in
-    pair_decodes flags (window bytes g.at 8) (pos to -ℤ pos g.at) (window_length bytes g.at 8 g.inside) (window_fits bytes g.at 8 g.inside fits)
+    pair_decodes flags (veneer_of PCRel32).bytes (window bytes g.at 8) (pos to -ℤ pos g.at) (record { first = lit< tt; second = lit< tt; third = lit< tt; fourth = lit< tt }) (record { first = lit< tt; second = lit< tt; third = lit< tt; fourth = lit< tt }) refl refl (window_length bytes g.at 8 g.inside) (window_fits bytes g.at 8 g.inside fits)
     (subst (λ n. SameOutside (marks_of PCRel32) (veneer_of PCRel32).bytes (window bytes n 8)) same_place g.own)
     (subst (λ n. Aims PCRel32 (window bytes n 8) (pos to -ℤ pos n)) same_place g.on)
 

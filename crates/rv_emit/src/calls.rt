@@ -19,8 +19,9 @@ ghost use Rattle.rv_inst.specs.Sizes.{fall, line_space};
 ghost use Rattle.rv_sequences.specs.Parts.{PutsAlone, PutsParts};
 ghost use Rattle.rv_sequences.specs.Emitted.{IsSoundBuffer, pending};
 ghost use Rattle.rv_emit.specs.StackMaps.{call_given};
-ghost use Rattle.rv_code.specs.InstParts.{map_notes, return_notes, try_slots, patch_notes, call_slots, call_ind_slots, loading_parts};
-ghost use Rattle.rv_code.specs.Slots.{Records};
+ghost use Rattle.rv_code.specs.Calls.{map_notes, return_notes, patch_notes, try_pieces, call_pieces, call_ind_pieces};
+ghost use Rattle.rv_code.specs.InstParts.{try_slots, call_slots, call_ind_slots, loading_parts};
+ghost use Rattle.rv_code.specs.Pieces.{Note, slots_of};
 ghost use Rattle.rv_code.specs.Usable.{IsFineTry, AreFineResults};
 
 use crate::results::put_results;
@@ -47,7 +48,7 @@ pub(crate) fn put_call(
     requires fine { IsFineTry info.now.try_call_info }
     requires room { length (bytes_of sink.old) + sequence_limit < code_limit }
     requires sound { IsSoundBuffer sink.old }
-    ensures slots { OnOk result (PutsAlone flags (call_slots flags frame.now (call_given stack_map.now info.now) (try_slots flags info.now.try_call_info)) sink.old sink.new) }
+    ensures slots { OnOk result (PutsAlone flags (call_slots flags frame.now (call_given stack_map.now info.now) (try_pieces info.now.try_call_info)) sink.old sink.new) }
     ensures refused { OnErr result (spoiled_of sink.new ≡ true) }
 {
     begin_call(sink, flags, frame, info, stack_map)?;
@@ -68,7 +69,7 @@ pub(crate) fn put_call_ind(
     requires dest { IsIntRegister info.now.dest }
     requires room { length (bytes_of sink.old) + sequence_limit < code_limit }
     requires sound { IsSoundBuffer sink.old }
-    ensures slots { OnOk result (PutsAlone flags (call_ind_slots flags frame.now (call_given stack_map.now info.now) (try_slots flags info.now.try_call_info)) sink.old sink.new) }
+    ensures slots { OnOk result (PutsAlone flags (call_ind_slots flags frame.now (call_given stack_map.now info.now) (try_pieces info.now.try_call_info)) sink.old sink.new) }
     ensures refused { OnErr result (spoiled_of sink.new ≡ true) }
 {
     begin_call_ind(sink, flags, frame, info, stack_map)?;
@@ -91,7 +92,7 @@ pub(crate) fn put_loading_call(
     requires few { allocated_of sink.old < inner_count }
     requires room { length (bytes_of sink.old) + 32 * count_by is_stacked info.now.defs + reserve_of (shape_of sink.old) + 8 * length (pending sink.old) + 160 < code_limit }
     requires sound { IsSoundBuffer sink.old }
-    ensures parts { OnOk result (PutsParts flags (loading_parts flags (call_slots flags frame.now (call_given stack_map.now info.now)) (result_loads info.now.defs) info.now.try_call_info) sink.old sink.new) }
+    ensures parts { OnOk result (PutsParts flags (loading_parts flags (call_pieces flags frame.now (call_given stack_map.now info.now)) (result_loads info.now.defs) info.now.try_call_info) sink.old sink.new) }
     ensures refused { OnErr result (spoiled_of sink.new ≡ true) }
 {
     begin_call(sink, flags, frame, info, stack_map)?;
@@ -114,7 +115,7 @@ pub(crate) fn put_loading_call_ind(
     requires few { allocated_of sink.old < inner_count }
     requires room { length (bytes_of sink.old) + 32 * count_by is_stacked info.now.defs + reserve_of (shape_of sink.old) + 8 * length (pending sink.old) + 160 < code_limit }
     requires sound { IsSoundBuffer sink.old }
-    ensures parts { OnOk result (PutsParts flags (loading_parts flags (call_ind_slots flags frame.now (call_given stack_map.now info.now)) (result_loads info.now.defs) info.now.try_call_info) sink.old sink.new) }
+    ensures parts { OnOk result (PutsParts flags (loading_parts flags (call_ind_pieces frame.now (call_given stack_map.now info.now)) (result_loads info.now.defs) info.now.try_call_info) sink.old sink.new) }
     ensures refused { OnErr result (spoiled_of sink.new ≡ true) }
 {
     begin_call_ind(sink, flags, frame, info, stack_map)?;
@@ -181,7 +182,7 @@ fn put_return(
 ) -> Result<(), OutOfMemory>
     requires frame { sp_to_args_end frame.now < 2 ^ 31 }
     requires sound { IsSoundBuffer sink.old }
-    ensures slots { OnOk result ((flags : IsaFlags) → PutsAlone flags (return_notes frame.now stack_map.now try_call_info.now) sink.old sink.new) }
+    ensures slots { OnOk result ((flags : IsaFlags) → PutsAlone flags (slots_of flags (return_notes frame.now stack_map.now try_call_info.now)) sink.old sink.new) }
     ensures refused { OnErr result (spoiled_of sink.new ≡ true) }
 {
     put_stack_map(sink, frame, stack_map)?;
@@ -197,7 +198,7 @@ fn put_stack_map(
 ) -> Result<(), OutOfMemory>
     requires frame { sp_to_args_end frame.now < 2 ^ 31 }
     requires sound { IsSoundBuffer sink.old }
-    ensures slots { OnOk result ((flags : IsaFlags) → PutsAlone flags (map_notes frame.now stack_map.now) sink.old sink.new) }
+    ensures slots { OnOk result ((flags : IsaFlags) → PutsAlone flags (slots_of flags (map_notes frame.now stack_map.now)) sink.old sink.new) }
     ensures refused { OnErr result (spoiled_of sink.new ≡ true) }
 {
     match stack_map {
@@ -218,7 +219,7 @@ fn put_site(
 ) -> Result<(), OutOfMemory>
     requires frame { sp_to_args_end frame.now < 2 ^ 31 }
     requires sound { IsSoundBuffer sink.old }
-    ensures slots { OnOk result ((flags : IsaFlags) → PutsAlone flags (Records (site_event frame.now try_call_info.now) ∷ []) sink.old sink.new) }
+    ensures slots { OnOk result ((flags : IsaFlags) → PutsAlone flags (slots_of flags (Note (site_event frame.now try_call_info.now) ∷ [])) sink.old sink.new) }
     ensures refused { OnErr result (spoiled_of sink.new ≡ true) }
 {
     match try_call_info {
@@ -237,7 +238,7 @@ fn put_patchable(
     size: u32,
 ) -> Result<(), OutOfMemory>
     requires sound { IsSoundBuffer sink.old }
-    ensures slots { OnOk result ((flags : IsaFlags) → PutsAlone flags (patch_notes patchable size) sink.old sink.new) }
+    ensures slots { OnOk result ((flags : IsaFlags) → PutsAlone flags (slots_of flags (patch_notes patchable size)) sink.old sink.new) }
     ensures refused { OnErr result (spoiled_of sink.new ≡ true) }
 {
     if patchable {
@@ -248,7 +249,7 @@ fn put_patchable(
 
 fn put_patch(sink: &mut MachBuffer<LabelUse>, size: u32) -> Result<(), OutOfMemory>
     requires sound { IsSoundBuffer sink.old }
-    ensures slots { OnOk result ((flags : IsaFlags) → PutsAlone flags (Records (PatchableCallSite size) ∷ []) sink.old sink.new) }
+    ensures slots { OnOk result ((flags : IsaFlags) → PutsAlone flags (slots_of flags (Note (PatchableCallSite size) ∷ [])) sink.old sink.new) }
     ensures refused { OnErr result (spoiled_of sink.new ≡ true) }
 {
     sink.add_patchable_call_site(size)?;

@@ -13,7 +13,7 @@ ghost use Rattle.rv_inst.specs.Rules.{is_on_stack, is_stacked};
 ghost use Rattle.rv_inst.specs.Sizes.{results_space};
 ghost use Rattle.rv_sequences.specs.Parts.{PutsAlone, PutsParts};
 ghost use Rattle.rv_sequences.specs.Emitted.{IsSoundBuffer, pending};
-ghost use Rattle.rv_code.specs.InstParts.{stack_load_slots, try_slots};
+ghost use Rattle.rv_code.specs.InstParts.{stack_load_slots, result_slots};
 ghost use Rattle.rv_code.specs.Slots.{Ask, Slots};
 ghost use Rattle.rv_code.specs.Usable.{AreFineResults, IsFineResult, IsFineTry};
 
@@ -38,7 +38,7 @@ pub(crate) fn put_results(
     requires few { allocated_of sink.old < inner_count }
     requires room { length (bytes_of sink.old) + 32 * count_by is_stacked defs.now + reserve_of (shape_of sink.old) + 8 * length (pending sink.old) + 64 < code_limit }
     requires sound { IsSoundBuffer sink.old }
-    ensures parts { OnOk result (PutsParts flags (Ask (results_space (result_loads defs.now)) ∷ Slots (stack_load_slots flags (result_loads defs.now) ++ try_slots flags try_call_info.now) ∷ []) sink.old sink.new) }
+    ensures parts { OnOk result (PutsParts flags (Ask (results_space (result_loads defs.now)) ∷ Slots (result_slots flags (result_loads defs.now) try_call_info.now) ∷ []) sink.old sink.new) }
     ensures refused { OnErr result (spoiled_of sink.new ≡ true) }
 {
     let space = results_space(defs);

@@ -7,9 +7,8 @@ ghost use Rattle.rv_base.specs.declared.frame.FrameLayout.{FrameLayout};
 ghost use Rattle.rv_base.specs.Frame.{sp_to_args_end};
 ghost use Rattle.rv_base.specs.LabelUse.{code_limit};
 ghost use Rattle.rv_inst.specs.Context.{context_by};
-ghost use Rattle.rv_inst.specs.Rules.{inst_rule};
 ghost use Rattle.mach_buffer.specs.Buffer.{bytes_of, allocated_of, registered_of, spoiled_of};
-ghost use Rattle.rv_code.specs.Usable.{IsFine};
+ghost use Rattle.rv_code.specs.Usable.{KeepsRules};
 ghost use Rattle.rv_sequences.specs.Emitted.{IsSoundBuffer};
 ghost use Rattle.rv_emit.specs.Emission.{Emits, EmitsAnyhow};
 ghost use Rattle.rv_emit.specs.StackMaps.{with_map};
@@ -45,7 +44,7 @@ pub(crate) fn put_sequence(
     inst: &Inst,
     stack_map: &Option<UserStackMap>,
 ) -> Result<(), OutOfMemory>
-    requires rule { inst_rule (context_by flags frame.now (registered_of sink.old)) inst.now ≡ None }
+    requires rule { KeepsRules (registered_of sink.old) inst.now }
     requires frame { sp_to_args_end frame.now < 2 ^ 31 }
     requires few { allocated_of sink.old < 2 ^ 29 }
     requires room { length (bytes_of sink.old) + sequence_limit < code_limit }
@@ -74,7 +73,7 @@ fn put_calls(
     inst: &Inst,
     stack_map: &Option<UserStackMap>,
 ) -> Result<(), OutOfMemory>
-    requires fine { IsFine (registered_of sink.old) inst.now }
+    requires rule { KeepsRules (registered_of sink.old) inst.now }
     requires frame { sp_to_args_end frame.now < 2 ^ 31 }
     requires room { length (bytes_of sink.old) + sequence_limit < code_limit }
     requires sound { IsSoundBuffer sink.old }
@@ -94,7 +93,7 @@ fn put_pseudo(
     flags: IsaFlags,
     inst: &Inst,
 ) -> Result<(), OutOfMemory>
-    requires fine { IsFine (registered_of sink.old) inst.now }
+    requires rule { KeepsRules (registered_of sink.old) inst.now }
     requires room { length (bytes_of sink.old) + sequence_limit < code_limit }
     requires sound { IsSoundBuffer sink.old }
     ensures parts { family_of inst.now ≡ Pseudo → (frame : FrameLayout) (constants : List Constant) → request_of (context_by flags frame constants) inst.now ≡ None → OnOk result (Emits (context_by flags frame constants) inst.now sink.old sink.new) }
@@ -117,7 +116,7 @@ fn put_integer(
     flags: IsaFlags,
     inst: &Inst,
 ) -> Result<(), OutOfMemory>
-    requires fine { IsFine (registered_of sink.old) inst.now }
+    requires rule { KeepsRules (registered_of sink.old) inst.now }
     requires few { allocated_of sink.old < 2 ^ 29 }
     requires room { length (bytes_of sink.old) + sequence_limit < code_limit }
     requires sound { IsSoundBuffer sink.old }
@@ -162,7 +161,7 @@ fn put_control(
     flags: IsaFlags,
     inst: &Inst,
 ) -> Result<(), OutOfMemory>
-    requires fine { IsFine (registered_of sink.old) inst.now }
+    requires rule { KeepsRules (registered_of sink.old) inst.now }
     requires few { allocated_of sink.old < 2 ^ 29 }
     requires room { length (bytes_of sink.old) + sequence_limit < code_limit }
     requires sound { IsSoundBuffer sink.old }
@@ -190,7 +189,7 @@ fn put_memory(
     frame: &FrameLayout,
     inst: &Inst,
 ) -> Result<(), OutOfMemory>
-    requires fine { IsFine (registered_of sink.old) inst.now }
+    requires rule { KeepsRules (registered_of sink.old) inst.now }
     requires frame { sp_to_args_end frame.now < 2 ^ 31 }
     requires room { length (bytes_of sink.old) + sequence_limit < code_limit }
     requires sound { IsSoundBuffer sink.old }
@@ -231,7 +230,7 @@ fn put_loop(
     flags: IsaFlags,
     inst: &Inst,
 ) -> Result<(), OutOfMemory>
-    requires fine { IsFine (registered_of sink.old) inst.now }
+    requires rule { KeepsRules (registered_of sink.old) inst.now }
     requires few { allocated_of sink.old < 2 ^ 29 }
     requires room { length (bytes_of sink.old) + sequence_limit < code_limit }
     requires sound { IsSoundBuffer sink.old }
@@ -257,7 +256,7 @@ fn put_symbol(
     flags: IsaFlags,
     inst: &Inst,
 ) -> Result<(), OutOfMemory>
-    requires fine { IsFine (registered_of sink.old) inst.now }
+    requires rule { KeepsRules (registered_of sink.old) inst.now }
     requires room { length (bytes_of sink.old) + sequence_limit < code_limit }
     requires sound { IsSoundBuffer sink.old }
     ensures parts { family_of inst.now ≡ Symbols → OnOk result (EmitsAnyhow flags inst.now sink.old sink.new) }

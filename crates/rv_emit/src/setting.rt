@@ -11,7 +11,7 @@ ghost use Rattle.rv_inst.specs.declared.inst.Family.TheVariants.{Integer, Memory
 ghost use Rattle.rv_code.specs.declared.state.EmitVState.{EmitVState as Setting};
 ghost use Rattle.rv_sequences.specs.Emitted.{Buffer};
 ghost use Rattle.rv_emit.specs.State.{setting_after, setting_beyond, is_inline, jumps};
-ghost use Rattle.rv_code.specs.Usable.{IsFine, IsFineAddress};
+ghost use Rattle.rv_code.specs.Usable.{IsFineAddress, KeepsRules};
 
 use rv_base::{AMode, FrameLayout, IsaFlags};
 use rv_imms::{imm_max, imm_min};
@@ -21,7 +21,7 @@ use rv_inst::{CondBrTarget, Family, Inst};
 /// in it, or a `jal` of four bytes.
 pub(crate) fn forgets_setting(flags: IsaFlags, frame: &FrameLayout, inst: &Inst) -> bool
     requires frame { sp_to_args_end frame.now < 2 ^ 31 }
-    requires fine { (constants : List Constant) × IsFine constants inst.now }
+    requires rule { (constants : List Constant) × KeepsRules constants inst.now }
     ensures { (constants : List Constant) → request_of (context_by flags frame.now constants) inst.now ≡ None → (b : Buffer) (setting : Setting) → setting_after (context_by flags frame.now constants) b inst.now setting ≡ setting_beyond result setting }
 {
     match inst.family() {
@@ -50,7 +50,7 @@ fn integer_forgets(flags: IsaFlags, inst: &Inst) -> bool
 /// So is an offset.
 fn memory_forgets(flags: IsaFlags, frame: &FrameLayout, inst: &Inst) -> bool
     requires frame { sp_to_args_end frame.now < 2 ^ 31 }
-    requires fine { (constants : List Constant) × IsFine constants inst.now }
+    requires rule { (constants : List Constant) × KeepsRules constants inst.now }
     ensures { family_of inst.now ≡ Memory → (constants : List Constant) (b : Buffer) (setting : Setting) → setting_after (context_by flags frame.now constants) b inst.now setting ≡ setting_beyond result setting }
 {
     match inst {

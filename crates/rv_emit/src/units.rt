@@ -7,7 +7,7 @@ ghost use Rattle.mach_buffer.specs.Buffer.{bytes_of, registered_of, spoiled_of};
 ghost use Rattle.rv_inst.specs.Operands.{family_of};
 ghost use Rattle.rv_inst.specs.Limits.{sequence_limit};
 ghost use Rattle.rv_inst.specs.declared.inst.Family.TheVariants.{Float};
-ghost use Rattle.rv_code.specs.Usable.{IsFine};
+ghost use Rattle.rv_code.specs.Usable.{KeepsRules};
 ghost use Rattle.rv_emit.specs.Emission.{EmitsAnyhow};
 ghost use Rattle.rv_sequences.specs.Emitted.{IsSoundBuffer};
 
@@ -19,7 +19,7 @@ use rv_sequences::{put_access, put_word};
 /// One word, whatever the flags are.
 #[inline(never)]
 pub(crate) fn put_unit(sink: &mut MachBuffer<LabelUse>, inst: &Inst) -> Result<(), OutOfMemory>
-    requires fine { IsFine (registered_of sink.old) inst.now }
+    requires rule { KeepsRules (registered_of sink.old) inst.now }
     requires room { length (bytes_of sink.old) + sequence_limit < code_limit }
     requires sound { IsSoundBuffer sink.old }
     ensures parts { family_of inst.now ≡ Float → (flags : IsaFlags) → OnOk result (EmitsAnyhow flags inst.now sink.old sink.new) }

@@ -1,26 +1,17 @@
 -- The numbers of a code are those of their types.
-use Rattle.std.specs.Prelude.{ℕ, Option, Some, None, ◌<◌, ◌-◌, ◌^◌, pos, negsuc, ◌≤ℤ◌}
+use Rattle.std.specs.Prelude.{◌<◌, ◌^◌}
 use Rattle.std.specs.List.{AllByRecursion}
 use Rattle.rv_inst.specs.declared.code.LineSpan.{LineSpan}
 use Rattle.rv_inst.specs.declared.code.CallReturn.{CallReturn}
 use Rattle.mach_uses.specs.declared.uses.LabelPlace.{LabelPlace}
 use Rattle.mach_records.specs.declared.records.ConstPlace.{ConstPlace}
-use Rattle.mach_records.specs.declared.records.FinalizedRelocTarget.{FinalizedRelocTarget}
-use Rattle.mach_records.specs.declared.records.FinalizedRelocTarget.TheVariants.{ExternalName, Func}
-use Rattle.mach_records.specs.declared.records.MachReloc.{MachReloc}
-use Rattle.mach_records.specs.declared.records.MachTrap.{MachTrap}
-use Rattle.mach_records.specs.declared.records.MachPatchable.{MachPatchable}
 use Rattle.mach_records.specs.declared.records.MachUnwind.{MachUnwind}
-use Rattle.mach_records.specs.declared.records.FinalizedMachExceptionHandler.{FinalizedMachExceptionHandler}
-use Rattle.mach_records.specs.declared.records.FinalizedMachExceptionHandler.TheVariants.{Tag, Default}
-use Rattle.mach_records.specs.declared.records.MachTryCallSite.{MachTryCallSite}
-use Rattle.mach_records.specs.declared.records.MachStackMap.{MachStackMap}
-use Rattle.rv_base.specs.declared.ir_type.IrType.{IrType}
 use Rattle.rv_base.specs.declared.regs.Reg.{Reg}
 use Rattle.rv_base.specs.declared.regs.Reg.TheVariants.{Real, Virtual}
 use Rattle.rv_base.specs.declared.unwind.UnwindInst.{UnwindInst}
 use Rattle.rv_base.specs.declared.unwind.UnwindInst.TheVariants.{PushFrameRegs, DefineNewFrame, StackAlloc, SaveReg}
 use Rattle.rv_inst.specs.declared.code.Code.{Code}
+pub use Rattle.mach_records.specs.Ranges.{TargetFits, RelocFits, TrapFits, CallFits, FrameFits, HandlerFits, TryFits, EntryFits, MapFits, PatchFits}
 
 pub record SpanFits (l : LineSpan) : Type 0 where
   pub index : l.index < 2 ^ 64
@@ -38,50 +29,6 @@ pub record LabelFits (l : LabelPlace) : Type 0 where
 pub record ConstFits (c : ConstPlace) : Type 0 where
   pub constant : c.constant.number < 2 ^ 32
   pub offset : c.offset < 2 ^ 32
-
-abbrev pub TargetFits : FinalizedRelocTarget → Type 0
-TargetFits (ExternalName name) = name.number < 2 ^ 32
-TargetFits (Func offset) = offset < 2 ^ 32
-
-pub record RelocFits (r : MachReloc) : Type 0 where
-  pub offset : r.offset < 2 ^ 32
-  pub target : TargetFits r.target
-  pub low : negsuc (2 ^ 63 - 1) ≤ℤ r.addend
-  pub high : r.addend ≤ℤ pos (2 ^ 63 - 1)
-
--- a cause has its range in its type
-pub record TrapFits (t : MachTrap) : Type 0 where
-  pub offset : t.offset < 2 ^ 32
-
--- an offset
-abbrev pub CallFits : ℕ → Type 0
-CallFits offset = offset < 2 ^ 32
-
-abbrev pub FrameFits : Option ℕ → Type 0
-FrameFits None = Unit {0}
-FrameFits (Some offset) = offset < 2 ^ 32
-
-abbrev pub HandlerFits : FinalizedMachExceptionHandler → Type 0
-HandlerFits (Tag tag offset) = (tag < 2 ^ 32) × (offset < 2 ^ 32)
-HandlerFits (Default offset) = offset < 2 ^ 32
-
-pub record TryFits (t : MachTryCallSite) : Type 0 where
-  pub offset : t.offset < 2 ^ 32
-  pub frame : FrameFits t.frame_offset
-  pub handlers : AllByRecursion HandlerFits t.handlers
-
--- a type has its range in itself
-abbrev pub EntryFits : IrType × ℕ → Type 0
-EntryFits e = e.1 < 2 ^ 32
-
-pub record MapFits (m : MachStackMap) : Type 0 where
-  pub offset : m.offset < 2 ^ 32
-  pub span : m.span < 2 ^ 32
-  pub entries : AllByRecursion EntryFits m.map.entries
-
-pub record PatchFits (p : MachPatchable) : Type 0 where
-  pub offset : p.offset < 2 ^ 32
-  pub len : p.len < 2 ^ 32
 
 -- A register of the machine, which has its range in its type. Virtual ones of two classes may have one name.
 abbrev pub IsOfMachine : Reg → Type 0

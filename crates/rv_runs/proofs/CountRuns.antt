@@ -1,12 +1,10 @@
 -- The ones and the zeros of a register are counted, bit by bit.
-use Rattle.std.proofs.Common.{Bool, List, Some, [], ap, arith, bit_and, false, if◌then◌else◌, lit<, lit≤, nat_eq, negsuc, not, pos, refl, rules, subst, suc, sym, true, zero, ℕ, ◌%◌, ◌*◌, ◌++◌, ◌+◌, ◌-◌, ◌/◌, ◌<◌, ◌==◌, ◌^◌, ◌∙◌, ◌∷◌, ◌≡◌, ◌≤◌}
-use Rattle.rv_runs.proofs.Words.{Addi, AluOPRRI, And, AreInRange, AreValues, Bind, Branch, Do, Equal, NotEqual, Piece, Rri, Rrr, SameBut, Site, Slli, Srli, State, Values, after}
-use Rattle.rv_runs.proofs.Words.{alu_rri, and_comm, and_pow, and_then, are_values_set, bit_at, bit_at-lt, count_set, evaluate, half_power, ints, low64, none_below, not_zero, point, pow_below, pow_pos, reads_other, reads_set, reg, set_reg, signed_below, slots_of, small_shift, temporary_set, to, wrap}
-use Rattle.{rv_code.specs.InstRuns.environment, rv_inst.specs.Meaning.Environment}
-use Rattle.rv_code.proofs.{Registers.Count, Registers.Counted, Registers.InCount, Registers.IsCount, Registers.TestsBit, Registers.counted, Registers.same_beside, Registers.source_kept, Registers.spare_kept, Registers.written, ZeroNumbers.counts_on, ZeroNumbers.ends_at, ZeroNumbers.index_of}
-use Rattle.rv_code.{proofs.ZeroNumbers.none_to_count, proofs.ZeroNumbers.power_is, proofs.ZeroNumbers.power_next, proofs.ZeroNumbers.power_of, proofs.ZeroNumbers.zeros_all, proofs.ZeroNumbers.zeros_few, proofs.ZeroNumbers.zeros_left, proofs.ZeroNumbers.zeros_more, specs.Sequences.count_down}
-use Rattle.{rv_code.specs.Sequences.count_start, rv_code.specs.Sequences.count_test, rv_code.specs.Sequences.ones_pieces, rv_code.specs.Sequences.ones_turn, rv_code.specs.Sequences.zeros_pieces, rv_code.specs.Sequences.zeros_turn, rv_inst.specs.Bits.ones, rv_inst.specs.Bits.zeros, rv_inst.specs.Sizes.bit_shift}
-use Rattle.{rv_runs.proofs.Exits.Reaches, rv_runs.proofs.Exits.SlotsOut, rv_runs.proofs.Exits.goes_on, rv_runs.proofs.Exits.pieces_out, rv_runs.proofs.Exits.reaches_such, rv_runs.proofs.Exits.same_but, std.proofs.lemmas.Nat.Bits.bit_at-suc, std.proofs.lemmas.Nat.Bits.bit_at_lowest}
+use Rattle.rv_code.{proofs.Reaching.{Reaches, goes_on, reaches_such}, proofs.Registers.{Count, Counted, InCount, IsCount, TestsBit, counted, same_beside, source_kept, spare_kept, written}}
+use Rattle.rv_code.{proofs.ZeroNumbers.{counts_on, ends_at, index_of, none_to_count, power_is, power_next, power_of, zeros_all, zeros_few, zeros_left, zeros_more}, specs.InstRuns.environment, specs.Sequences.{count_start, count_down, count_test, ones_pieces, ones_turn, zeros_pieces, zeros_turn}}
+use Rattle.{rv_inst.{specs.Bits.{ones, zeros}, specs.Meaning.Environment, specs.Sizes.bit_shift}, rv_runs.proofs.Exits.{SlotsOut, pieces_out, same_but}}
+use Rattle.rv_runs.proofs.Words.{Addi, AluOPRRI, And, AreInRange, AreValues, Bind, Branch, Do, Equal, NotEqual, Piece, Rri, Rrr, SameBut, Site, Slli, Srli, State, Values, after, alu_rri, and_comm, and_pow, and_then, are_values_set, bit_at, bit_at-lt, count_set, evaluate}
+use Rattle.rv_runs.proofs.Words.{half_power, ints, low64, none_below, not_zero, point, pow_below, pow_pos, reads_other, reads_set, reg, set_reg, signed_below, slots_of, small_shift, temporary_set, to, wrap}
+use Rattle.std.{proofs.Common.{Bool, List, Some, [], ap, arith, bit_and, false, if◌then◌else◌, lit<, lit≤, nat_eq, negsuc, not, pos, refl, rules, subst, suc, sym, true, zero, ℕ, ◌%◌, ◌*◌, ◌++◌, ◌+◌, ◌-◌, ◌/◌, ◌<◌, ◌==◌, ◌^◌, ◌∙◌, ◌∷◌, ◌≡◌, ◌≤◌}, proofs.lemmas.Nat.Bits.{bit_at-suc, bit_at_lowest}}
 
 -- What sequences that count bits of a register have in common: how their loop begins, tests the next bit, and goes on.
 
@@ -14,6 +12,15 @@ use Rattle.{rv_runs.proofs.Exits.Reaches, rv_runs.proofs.Exits.SlotsOut, rv_runs
 abbrev pub first_power : Bool → ℕ → ℕ
 first_power true bits = 2 ^ bits / 2
 first_power false bits = 1
+
+-- a register that holds 1 is shifted to its highest bit
+pub to_highest : (x bits : ℕ) → x ≡ 1 → 0 < bits → bits ≤ 64 → alu_rri Slli x (pos (bits - 1)) ≡ 2 ^ bits / 2
+to_highest x bits one some few =
+    let last : suc (bits - 1) ≡ bits = omega arith in
+    let half : 2 ^ (bits - 1) ≡ 2 ^ bits / 2 = sym (half_power (bits - 1)) ∙ ap (λ k. 2 ^ k / 2) last in
+    let power = pow_below (bits - 1) 64 (omega arith) in
+    let amount : low64 (pos (bits - 1)) % 64 ≡ bits - 1 = omega (arith, ints) in
+    (λ i. wrap (one i * 2 ^ amount i)) ∙ omega arith
 
 -- The ones of a register are counted, from the highest of its low bits on.
 
@@ -79,11 +86,7 @@ module _ (env : Environment) where
       elim downward as (λ c1. Reaches env whole (point ((if c1 then Do (Rri Slli c.tmp c.tmp (pos (c.bits - 1))) ∷ [] else []) ++ tail) u) tail (InCount c c.bits (first_power c1 c.bits) 0 v)) [
         | true ↦
             let x = alu_rri Slli (reg u c.tmp) (pos (c.bits - 1)) in
-            let bits : suc (c.bits - 1) ≡ c.bits = omega arith in
-            let half : 2 ^ (c.bits - 1) ≡ 2 ^ c.bits / 2 = sym (half_power (c.bits - 1)) ∙ ap (λ k. 2 ^ k / 2) bits in
-            let power = pow_below (c.bits - 1) 64 (omega arith) in
-            let amount : low64 (pos (c.bits - 1)) % 64 ≡ c.bits - 1 = omega (arith, ints) in
-            let highest : x ≡ 2 ^ c.bits / 2 = (λ i. wrap (k.holds.tmp i * 2 ^ amount i)) ∙ omega arith in
+            let highest = to_highest (reg u c.tmp) c.bits k.holds.tmp (omega arith) h.few in
             record { count = 1; values = set_reg u c.tmp x; ran = refl; such = search (rules, reads_other, reads_set, count_set, k, h, temporary_set, highest) }
         | false ↦ record { count = 0; values = u; ran = refl; such = k }
       ])
@@ -196,30 +199,27 @@ module _ (env : Environment) where
 
 -- ---- the whole sequence
 
+-- by some pieces that do nothing, what begins it, and its turns
+count_out : {site : Site} {start after : ℕ} {s : State} {v : Values} (c : Count) (whole turn : List Piece) (downward : Bool) (skipped total : ℕ) → IsCount c → AreInRange whole → total < 2 ^ 64 → evaluate (environment site start after) skipped whole (point whole s.values) ≡ Some (point (count_start downward c.sum c.tmp c.step c.bits ++ Bind 0 ∷ turn) s.values) →
+    ((w : Values) → InCount c c.bits (first_power downward c.bits) 0 v w → Reaches (environment site start after) whole (point turn w) [] (Counted c total v)) → SlotsOut site start after (slots_of site.context.flags whole) s v (c.tmp ∷ c.step ∷ []) (set_reg v c.sum total)
+count_out {site} {start} {after} {s} {v} c whole turn downward skipped total h ranges fits begins turns e =
+    pieces_out whole (c.tmp ∷ c.step ∷ []) (set_reg v c.sum total) ranges e
+    (reaches_such (λ w k. same_beside h e.are_values k) (goes_on {Such = λ w. w ≡ s.values} (record { count = skipped; values = s.values; ran = begins; such = refl })
+    (λ w is. goes_on (starts (environment site start after) whole (Bind 0 ∷ turn) downward w h (subst (λ u. AreValues u) (sym is) e.is_state.values) (subst (λ u. SameBut (written c) v u) (sym is) (same_but (written c) e.same)))
+    (λ w1 k1. goes_on (record { count = 1; values = w1; ran = refl; such = k1 }) turns))))
+    (λ all. are_values_set v c.sum total e.are_values (let a = h.sum_usable in omega arith) fits)
+
 pub popcnt_out : {site : Site} {start after : ℕ} {s : State} {v : Values} (c : Count) → IsCount c → SlotsOut site start after (slots_of site.context.flags (whole_ones c)) s v (c.tmp ∷ c.step ∷ []) (set_reg v c.sum (ones c.bits (reg v c.rs)))
 popcnt_out {site} {start} {after} {s} {v} c h e =
-    let env = environment site start after in
-    let n = reg v c.rs in
-    let whole = whole_ones c in
-    let few = ones_few c.bits n in
-    pieces_out whole (c.tmp ∷ c.step ∷ []) (set_reg v c.sum (ones c.bits n)) (search (rules, arith, h, small_shift)) e
-    (reaches_such (λ w k. same_beside h e.are_values k) (goes_on {Such = λ w. w ≡ s.values} (record { count = 3; values = s.values; ran = refl; such = refl })
-    (λ w is. goes_on (starts env whole (Bind 0 ∷ turn_of_ones c) true w h (subst (λ u. AreValues u) (sym is) e.is_state.values) (subst (λ u. SameBut (written c) v u) (sym is) (same_but (written c) e.same)))
-    (λ w1 k1. goes_on (record { count = 1; values = w1; ran = refl; such = k1 })
-    (λ w2 k2. turns_of_ones env c.bits 0 w2 h.few h (omega arith) k2)))))
-    (λ fits. are_values_set v c.sum (ones c.bits n) e.are_values (let a = h.sum_usable in omega arith) (let bits = h.few in omega arith))
-
--- ---- the whole sequence
+    let few = ones_few c.bits (reg v c.rs) in
+    let bits = h.few in
+    count_out c (whole_ones c) (turn_of_ones c) true 3 (ones c.bits (reg v c.rs)) h (search (rules, arith, h, small_shift)) (omega arith) refl (λ w k. turns_of_ones (environment site start after) c.bits 0 w h.few h (omega arith) k) e
 
 pub zeros_out : {site : Site} {start after : ℕ} {s : State} {v : Values} (leading : Bool) (c : Count) → IsCount c → SlotsOut site start after (slots_of site.context.flags (whole_of leading c)) s v (c.tmp ∷ c.step ∷ []) (set_reg v c.sum (zeros leading c.bits (reg v c.rs)))
 zeros_out {site} {start} {after} {s} {v} leading c h e =
-    let env = environment site start after in
-    let n = reg v c.rs in
-    let whole = whole_of leading c in
-    let few = zeros_few leading c.bits n in
-    pieces_out whole (c.tmp ∷ c.step ∷ []) (set_reg v c.sum (zeros leading c.bits n)) (elim leading as (λ l. AreInRange (whole_of l c)) [ true ↦ search (rules, arith, h, small_shift) | false ↦ search (rules, arith, h) ]) e
-    (reaches_such (λ w k. same_beside h e.are_values k) (goes_on {Such = λ w. w ≡ s.values} (record { count = 2; values = s.values; ran = refl; such = refl })
-    (λ w is. goes_on (starts env whole (Bind 0 ∷ turn_of leading c) leading w h (subst (λ u. AreValues u) (sym is) e.is_state.values) (subst (λ u. SameBut (written c) v u) (sym is) (same_but (written c) e.same)))
-    (λ w1 k1. goes_on (record { count = 1; values = w1; ran = refl; such = subst (λ m. InCount c c.bits m 0 v w1) ((elim leading as (λ l. first_power l c.bits ≡ power_of l c.bits c.bits) [ true ↦ refl | false ↦ let none : c.bits - c.bits ≡ 0 = omega arith in ap (λ k. wrap (2 ^ k)) (sym none) ])) k1 })
-    (λ w2 k2. turns env leading c.bits 0 w2 (omega arith) h (let all = zeros_all leading c.bits n in omega arith) k2)))))
-    (λ fits. are_values_set v c.sum (zeros leading c.bits n) e.are_values (let a = h.sum_usable in omega arith) (let bits = h.few in omega arith))
+    let few = zeros_few leading c.bits (reg v c.rs) in
+    let bits = h.few in
+    let all = zeros_all leading c.bits (reg v c.rs) in
+    let first = elim leading as (λ l. first_power l c.bits ≡ power_of l c.bits c.bits) [ true ↦ refl | false ↦ let none : c.bits - c.bits ≡ 0 = omega arith in ap (λ k. wrap (2 ^ k)) (sym none) ] in
+    count_out c (whole_of leading c) (turn_of leading c) leading 2 (zeros leading c.bits (reg v c.rs)) h (elim leading as (λ l. AreInRange (whole_of l c)) [ true ↦ search (rules, arith, h, small_shift) | false ↦ search (rules, arith, h) ]) (omega arith) refl
+    (λ w k. turns (environment site start after) leading c.bits 0 w (omega arith) h (omega arith) (subst (λ m. InCount c c.bits m 0 v w) first k)) e

@@ -1,11 +1,10 @@
 -- How code comes out at an exit: from the end of a chain, at a trap, and by the evaluation of an instruction's pieces.
-use Rattle.std.proofs.Common.{Bool, List, None, Some, ℤ, [], ap, arith, false, if◌then◌else◌, length, lit<, refl, rules, subst, suc, sym, true, zero, ℕ, ◌%◌, ◌*◌, ◌+◌, ◌++◌, ◌<◌, ◌^◌, ◌∙◌, ◌∷◌, ◌≡◌, ◌≤◌}
-use Rattle.{rv_code.specs.{InstParts.trap_bytes, Pieces.Trap, Pieces.number_pieces, Sites.Leads}, rv_inst.specs.Meaning.Environment}
-use Rattle.rv_runs.proofs.Words.{AreInRange, AreOutside, AreValues, Arrives, Base, BytesAt, CodeHas, ComesOut, Decoded, EmitVState, Enters, low64, lower_of, reads_back, reg, set_twice, upper_of}
-use Rattle.rv_runs.proofs.Words.{Exit, GapIn, Goes, Inst, IsAt, IsBeside, IsPlacedAt, IsState, IsaFlags, MachLabel, Memory, Next, Part, Piece, Same, SameBut, Site, Slot, StandIn, State, To, TrapCode, Values, and_then, are_values_set, at, byte, comes_goes, decodes_at, environment, evaluate, fetch}
-use Rattle.rv_runs.proofs.Words.{goes_first, goes_none, goes_second, inst_effect, inst_exit, inst_temporaries, inst_writes, integer_decodes, is_integer_op as is_integer, least_steps, led_on, next, parts_of, pieces_long, point, same_Some, same_set, set_reg, size_of, slots_alone, slots_of, wrap}
-use Rattle.rv_code.{proofs.Courses.lower_whole, proofs.Courses.offset_sums, proofs.Evaluation.pieces_run, proofs.LineSlots.number_by, proofs.Steps.pc_in_code, specs.Evaluation.AllOutside, specs.Evaluation.ComesToPoint, specs.Evaluation.Point, specs.Evaluation.at as points, specs.Evaluation.steps_of}
-use Rattle.{rv_inst.specs.Meaning.Break, rv_inst.specs.Records.IsRecorded, rv_machine.specs.declared.ops.BaseOp.TheVariants.Ebreak}
+use Rattle.{rv_code.{proofs.Evaluation.pieces_run, proofs.Reaching.{Reaches, Writes}, proofs.Steps.pc_in_code, specs.Evaluation.{AllOutside, ComesToPoint, Point, at as points, steps_of}, specs.InstParts.trap_bytes, specs.Pieces.Trap, specs.Sites.Leads}, rv_inst.specs.Meaning.Break}
+use Rattle.{rv_inst.specs.Records.IsRecorded, rv_machine.specs.declared.ops.BaseOp.TheVariants.Ebreak}
+use Rattle.rv_runs.proofs.Words.{AreInRange, AreOutside, AreValues, Arrives, Base, BytesAt, CodeHas, ComesOut, Decoded, EmitVState, Enters, Exit, GapIn, Goes, Inst, IsAt, IsBeside, IsPlacedAt, IsState, IsaFlags, MachLabel, Memory, Next, Part, Piece, Same, SameBut, Site}
+use Rattle.rv_runs.proofs.Words.{Slot, StandIn, State, To, TrapCode, Values, are_values_set, at, byte, comes_goes, decodes_at, environment, evaluate, fetch, goes_first, goes_none, goes_second, inst_effect, inst_exit, inst_temporaries, inst_writes, integer_decodes}
+use Rattle.rv_runs.proofs.Words.{is_integer_op as is_integer, least_steps, led_on, parts_of, pieces_long, point, same_set, set_reg, size_of, slots_alone, slots_of, wrap}
+use Rattle.std.proofs.Common.{Bool, List, Some, [], ap, arith, false, if◌then◌else◌, length, lit<, refl, rules, subst, sym, true, ℕ, ◌%◌, ◌+◌, ◌<◌, ◌^◌, ◌∙◌, ◌∷◌, ◌≡◌, ◌≤◌, inr}
 use Rattle.rv_inst.specs.Meaning as exit
 use Rattle.mach_records.specs.declared.records.Event.TheVariants as event
 
@@ -94,50 +93,13 @@ pub trap_out : {site : Site} {start after offset size : ℕ} {free : List ℕ} {
     start ≤ offset → offset < after → IsBeside site free v s → ComesOut site start after (exit.Trap code) free v s
 trap_out {site} {start} {after} {offset} {size} {free} {v} {s} code h some recorded bytes le lt b = comes_out s (goes_none site.context.flags s) (offset, recorded, le, lt, h.pc, ap (λ a. fetch s.values.mem a % 2 ^ 16) (pc_in_code h some) ∙ zero_half site.context.flags s.values.mem (site.base + offset) bytes) b
 
--- How an evaluation goes on, and how an instruction runs by that of its pieces.
-
--- in some pieces of a whole the evaluation comes where these are ahead, with such values, once this is written
-pub record Writes (env : Environment) (whole : List Piece) (p : Point) (ps : List Piece) (written : List (List ℕ)) (Such : Values → Type 0) : Type 0 where
-  pub count : ℕ
-  pub values : Values
-  pub ran : evaluate env count whole p ≡ Some (points ps values written)
-  pub such : Such values
-
--- and nothing is
-abbrev pub Reaches : Environment → List Piece → Point → List Piece → (Values → Type 0) → Type 0
-Reaches env whole p ps Such = Writes env whole p ps [] Such
-
-evaluate_both : (env : Environment) (m n : ℕ) (whole : List Piece) (p q r : Point) → evaluate env m whole p ≡ Some q → evaluate env n whole q ≡ Some r → evaluate env (m + n) whole p ≡ Some r
-evaluate_both env zero n whole p q r e f = let none : 0 + n ≡ n = omega arith in ap (λ k. evaluate env k whole p) none ∙ subst (λ o. evaluate env n whole o ≡ Some r) (sym (same_Some p q e)) f
-evaluate_both env (suc m) n whole p q r e f =
-    let more : suc m + n ≡ suc (m + n) = omega arith in
-    ap (λ k. evaluate env k whole p) more ∙ (elim (next env whole p.ahead p.values p.written) as (λ o. and_then o (evaluate env m whole) ≡ Some q → and_then o (evaluate env (m + n) whole) ≡ Some r) [ None ↦ λ e. absurd (cc) | Some t ↦ λ e. evaluate_both env m n whole t q r e f ]) e
-
-pub goes_on : {env : Environment} {whole ps qs : List Piece} {p : Point} {m n : List (List ℕ)} {Such Such' : Values → Type 0} → Writes env whole p ps m Such → ((w : Values) → Such w → Writes env whole (points ps w m) qs n Such') → Writes env whole p qs n Such'
-goes_on {env} {whole} {ps} {qs} {p} {m} {n} r on =
-    let d = on r.values r.such in
-    record { count = r.count + d.count; values = d.values; ran = evaluate_both env r.count d.count whole p (points ps r.values m) (points qs d.values n) r.ran d.ran; such = d.such }
-
-pub reaches_such : {env : Environment} {whole ps : List Piece} {p : Point} {m : List (List ℕ)} {Such Such' : Values → Type 0} → ((w : Values) → Such w → Such' w) → Writes env whole p ps m Such → Writes env whole p ps m Such'
-reaches_such so r = record { count = r.count; values = r.values; ran = r.ran; such = so r.values r.such }
-
--- a number is in a register
-pub number_reaches : (env : Environment) {whole ps : List Piece} (rd : ℕ) (z : ℤ) (w : Values) → AreValues w → 0 < rd → rd < 32 → Reaches env whole (point (number_pieces rd z ++ ps) w) ps (λ u. u ≡ set_reg w rd (wrap (low64 z)))
-number_reaches env {whole} {ps} rd z w hw some lt =
-    let up = wrap (low64 (upper_of z) * 2 ^ 12) in
-    number_by (λ qs. Reaches env whole (point (qs ++ ps) w) ps (λ u. u ≡ set_reg w rd (wrap (low64 z)))) rd z
-    (λ low. record { count = 1; values = set_reg w rd (wrap (0 + low64 (lower_of z))); ran = refl; such = ap (set_reg w rd) (lower_whole z low) })
-    (λ fits none. let e : up ≡ wrap (low64 z) = omega (arith, offset_sums z fits, none) in record { count = 1; values = set_reg w rd up; ran = refl; such = ap (set_reg w rd) e })
-    (λ fits. record { count = 2; values = set_reg (set_reg w rd up) rd (wrap (reg (set_reg w rd up) rd + low64 (lower_of z))); ran = refl; such = ap (set_reg (set_reg w rd up) rd) ((λ i. wrap (reads_back w rd up hw some lt i + low64 (lower_of z))) ∙ offset_sums z fits) ∙ set_twice w rd up (wrap (low64 z)) })
-    (λ far. record { count = 1; values = set_reg w rd (wrap (low64 z)); ran = refl; such = refl })
-
--- ---- an instruction
+-- How an instruction runs by the evaluation of its pieces.
 
 -- the machine where the evaluation comes, from where an instruction's parts begin
 pub comes : {site : Site} {start after : ℕ} {s : State} {v : Values} (whole ps : List Piece) (w : Values) (m : List (List ℕ)) (n : ℕ) → AreInRange whole → AllOutside site m → (e : Enters site start after (slots_alone (slots_of site.context.flags whole)) s v) → evaluate (environment site start after) n whole (point whole s.values) ≡ Some (points ps w m) → ComesToPoint (steps_of (environment site start after) n whole (point whole s.values)) site e.stands.0 start after (points ps w m) s
 comes {site} {start} {after} {s} whole ps w m n ranges out e ran =
     let long = pieces_long site.context.flags whole in
-    let k : StandIn site e.stands.0 start after whole = record { stand = e.stands.1; even = e.even; ends = omega arith; room = e.within; ranges = ranges; bounds = record { short = e.short; labels = e.labels } } in
+    let k : StandIn site e.stands.0 start after whole = record { stand = e.stands.1; even = e.even; ends = omega arith; room = e.within; ranges = ranges; bounds = inr (record { short = e.short; labels = e.labels }) } in
     pieces_run site start after e.stands.0 start after whole k n (point whole s.values) (points ps w m) s ran out (record { offset = start; within = omega arith; here = record { even = e.even; room = omega arith; placed = e.placed; pc = e.pc }; stand = k; is_state = e.is_state; values = refl })
 
 pub point_goes : {most : ℕ} {site : Site} {allocated start end : ℕ} {p : Point} {s : State} (c : ComesToPoint most site allocated start end p s) → Goes site.context.flags 0 s c.state

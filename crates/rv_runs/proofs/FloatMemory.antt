@@ -1,15 +1,14 @@
 -- Loads and stores of floating-point registers on the machine with all units, those of halves by integer registers, too.
-use Rattle.std.proofs.Common.{Bool, None, Option, Some, [], ap, arith, false, if◌then◌else◌, is_some, length, lit<, lit≤, refl, rules, subst, sym, true, ℕ, ◌%◌, ◌*◌, ◌+◌, ◌-◌, ◌/◌, ◌<◌, ◌^◌, ◌∙◌, ◌∷◌, ◌≡◌}
-use Rattle.rv_runs.proofs.Words.{AllByRecursion, AreOutside, AreValues, Based, D, Decoded, Does, Enters, FloatFormat, FullComesOut}
-use Rattle.rv_runs.proofs.Words.{FullState, FullValues, H, InCourse, IsFullState, IsUsableAt, LoadOP, Location, Memory, Or, S, Same, SameBut, Site, StandsIn, State, StoreOP, TrapCode, Units, Values, act, act_on, address_at, addresses_from, are_values_set, at, boxed, byte, comes_on, environment}
-use Rattle.rv_runs.proofs.Words.{extended, fiter_after, float_loaded, format_bytes, freg, half_load_slots, half_store_slots, has_load, has_store, integer_run, ints, is_float_load, label_base, load_bytes, load_fits, load_format, load_line_slots, load_slots, low64, low_part, lui_acts, lui_sized}
-use Rattle.rv_runs.proofs.Words.{or_lt, placed_after, put, put_bytes, put_units, put_values, reads_back, reads_other, reg, rrr_writes, set_freg, set_reg, short_lui, short_rrr, size_append, size_of, slots_alone, spare_set, stands_split, store_format, store_slots, unit_row, w32, wrap, writes}
-use Rattle.rv_code.proofs.{OperationActs.float_load, OperationActs.float_store, OperationActs.only_halves, StackRuns.eight_fit, StackRuns.loaded_same, StackRuns.store_same}
-use Rattle.{rv_code.specs.InstParts.boxing_slots, rv_code.specs.InstParts.moved_to_float, rv_code.specs.InstParts.moved_to_integer, rv_code.specs.InstParts.store_line_slots, rv_full.specs.UnitRows.row_of, rv_inst.specs.Halves.high_bits, rv_machine.specs.Memory.sign_extend}
-use Rattle.{rv_machine.specs.declared.ops.LoadOp.TheVariants.Lh as half, rv_machine.specs.declared.ops.MOp.TheVariants.FloatLoad, rv_machine.specs.declared.ops.MOp.TheVariants.FloatStore, rv_ops.specs.declared.memory.LoadOP.TheVariants.Lh, rv_ops.specs.declared.memory.StoreOP.TheVariants.Sh}
-use Rattle.rv_runs.proofs.{Exits.all_same, Exits.same_but, Exits.starts_at, MemoryRuns.AreReady, MemoryRuns.DoesThere, MemoryRuns.IsBase, MemoryRuns.IsBefore, MemoryRuns.before_values, MemoryRuns.enters_others, MemoryRuns.exact_out, MemoryRuns.load_ready, MemoryRuns.store_out}
-use Rattle.rv_runs.{proofs.MemoryRuns.store_ready, proofs.MemoryRuns.x31_base, proofs.UnitRuns.extended_small, proofs.UnitRuns.fiter_one, proofs.UnitRuns.float_set, proofs.UnitRuns.unit_next_at, specs.FloatAccesses.float_stored, specs.FloatAccesses.low_bytes}
-use Rattle.std.{proofs.lemmas.Nat.le_or_r, proofs.lemmas.Nat.or_block, proofs.lemmas.Nat.or_mod, specs.Int.Bits.or_zero_r, specs.Int.RustNames.bit_or, specs.Int.w16}
+use Rattle.rv_code.{proofs.Courses.{IsRealAt, address_same}, proofs.LineSlots.{closed_even, line_loaded}, proofs.Memories.{eight_fit, loaded_same, store_same}, proofs.OperationActs.{float_load, float_store, only_halves}, proofs.Reaching.{goes_on, load_ranges, load_reaches}}
+use Rattle.{rv_code.{specs.Accesses.{boxing_pieces, half_load_pieces, half_store_pieces, load_pieces, store_pieces}, specs.InstParts.{moved_to_float, moved_to_integer, store_line_slots}, specs.Pieces.Frr}, rv_full.specs.UnitRows.row_of, rv_machine.specs.Memory.sign_extend}
+use Rattle.{rv_machine.{specs.declared.ops.LoadOp.TheVariants.{Lh as half}, specs.declared.ops.MOp.TheVariants.{FloatLoad, FloatStore}}, rv_ops.{specs.declared.float_fields.FpuOPWidth.TheVariants.{S as single}, specs.declared.fpu_rr.FpuOPRR.TheVariants.FmvFmtX}}
+use Rattle.{rv_ops.{specs.declared.memory.LoadOP.TheVariants.Lh, specs.declared.memory.StoreOP.TheVariants.Sh}, rv_runs.{proofs.Exits.{all_same, same_but, starts_at}, proofs.MemoryRuns.{AreReady, DoesThere, IsBefore, before_values, exact_out, before_last, float_ready, store_out, store_ready}}}
+use Rattle.rv_runs.proofs.UnitRuns.{extended_small, fiter_one, float_set, unit_next_at}
+use Rattle.rv_runs.proofs.Words.{AllByRecursion, AreOutside, AreValues, Based, D, Decoded, Does, Enters, FloatFormat, FullComesOut, slots_of, IsaFlags, FullState, FullValues, H, IsFullState, IsUsableAt, LoadOP, Location, Memory, S, Same, SameBut, Site, State, StoreOP}
+use Rattle.rv_runs.proofs.Words.{TrapCode, Units, Values, act, act_on, address_at, addresses_from, are_values_set, at, boxed, byte, environment, extended, fiter_after, float_loaded, format_bytes, freg, has_load, has_store, integer_run, ints, load_bytes, load_format}
+use Rattle.rv_runs.{proofs.Words.{load_line_slots, low_part, or_lt, placed_after, put, put_bytes, put_units, put_values, reads_back, reads_other, reg, set_freg, set_reg, size_of, slots_alone, spare_set, store_format, unit_row, w32, wrap}, specs.FloatAccesses.{float_stored, low_bytes}}
+use Rattle.std.{proofs.Common.{None, Option, Some, [], ap, arith, false, if◌then◌else◌, is_some, length, lit<, lit≤, refl, rules, subst, sym, true, ℕ, ◌%◌, ◌*◌, ◌+◌, ◌-◌, ◌/◌, ◌<◌, ◌^◌, ◌∙◌, ◌∷◌, ◌≡◌}, proofs.lemmas.Nat.{le_or_r, or_block, or_mod}, specs.Int.w16, specs.Int.Bits.or_zero_r}
+use Rattle.std.specs.Int.RustNames.{bit_or}
 
 -- A load or a store of a floating-point register does what it means, on the machine with all units, where the machine has come to it.
 
@@ -42,7 +41,7 @@ loaded_there {v = v} {b} format register a y ints units are_values full lt none 
   placed = y.comes.course.here.placed;
 }
 
-module _ {site : Site} {after : ℕ} {d : Decoded} {v : FullValues} {b : FullState} (format : FloatFormat) (register a : ℕ) (y : IsBefore site after (AreReady [] d a v.ints b.state.values) d b.state) (units : v.units ≡ b.units) (are_values : AreValues v.ints) (full : IsFullState b) where
+module _ {site : Site} {after : ℕ} {d : Decoded} {v : FullValues} {b : FullState} (format : FloatFormat) (register a : ℕ) (y : IsBefore site after (AreReady d a v.ints b.state.values) d b.state) (units : v.units ≡ b.units) (are_values : AreValues v.ints) (full : IsFullState b) where
   pub load_does : d.op ≡ FloatLoad format → d.rd ≡ register → register < 32 → DoesThere site d (float_loaded format register a v) b (before_values b.units y)
   load_does is to lt = loaded_there format register a y y.comes.course.values.same units are_values full lt (λ s. ap (λ op. act_on op d s) is)
       (ap (λ op. row_of op d (before_values b.units y)) is ∙ (λ i. Does (float_loaded format (to i) (y.comes.course.values.address i) (before_values b.units y))))
@@ -93,19 +92,10 @@ half_moved n =
 -- A half that is loaded by integer registers: lh into x31, the bits above it, which lui puts into x30 and or into x31, and then the move to
 -- its register, which takes no answer.
 
--- what lh loads from an address
-abbrev half_at : Memory → ℕ → ℕ
-half_at mem a = sign_extend w16 (load_bytes mem a 2)
-
--- an address is the same wherever its code starts and ends
-pub same_elsewhere : (site : Site) (start other after later : ℕ) (v : Values) (loc : Location) → address_at (environment site start after) v loc ≡ address_at (environment site other later) v loc
-same_elsewhere site start other after later v (Based r o) = refl
-same_elsewhere site start other after later v _ = refl
-
 -- ---- the bits above it, and the move
 
 -- the bits from the sixteenth on
-abbrev upper : ℕ
+abbrev pub upper : ℕ
 upper = 2 ^ 64 - 2 ^ 16
 
 -- with them in x31, too
@@ -113,70 +103,60 @@ pub record AreBoxed (a : ℕ) (v w : Values) : Type 0 where
   pub same : SameBut [] v w
   pub value : boxed S (low_part S (reg w 31)) ≡ boxed H (load_bytes w.mem a 2)
 
-pub half_ready : {site : Site} {start after : ℕ} {s : State} {v : Values} (rd : ℕ) (loc : Location) (trap : Option TrapCode) → IsUsableAt loc → Enters site start after (slots_alone (half_load_slots site.context.flags rd trap loc)) s v →
+pub half_ready : {site : Site} {start after : ℕ} {s : State} {v : Values} (rd : ℕ) (loc : Location) (trap : Option TrapCode) → rd < 32 → IsUsableAt loc → Enters site start after (slots_alone (slots_of site.context.flags (half_load_pieces rd trap loc))) s v →
     IsBefore site after (AreBoxed (address_at (environment site start after) v loc) v) (moved_to_float rd 31) s
-half_ready {site} {start} {after} {s} {v} rd loc trap based e =
-    let flags = site.context.flags in
-    let slots = load_slots flags 31 Lh trap loc in
-    let last = boxing_slots flags rd in
-    let lui = short_lui flags 30 high_bits in
-    let orr = short_rrr flags Or 31 31 30 in
-    let long = size_append slots last in
-    let both = stands_split site e.stands.0 start slots last e.stands.1 in
-    let y = load_ready [] 31 Lh loc trap based (x31_base loc) (enters_others (start + size_of slots) (slots_alone slots) (omega arith) (e.stands.0, both.0, refl) e) in
-    let d = y.operation in
-    let stands = subst (λ n. StandsIn site e.stands.0 n last) (sym y.before.ends) both.1 in
-    let a = address_at (environment site start after) v loc in
+half_ready {site} {start} {after} {s} {v} rd loc trap lt based e =
+    let env = environment site start after in
+    let ps = half_load_pieces rd trap loc in
+    let a = address_at env v loc in
+    let b = address_at env s.values loc in
+    let same : b ≡ a = sym (address_same env v s.values loc based e.same) in
+    let half = sign_extend w16 (load_bytes s.values.mem b 2) in
+    let real : IsRealAt 31 loc = elim loc as (IsRealAt 31) [ Based r o ↦ tt | _ ↦ lit< tt ] in
+    before_last ps (Frr FmvFmtX single rd 31) (load_ranges Lh 31 trap loc (boxing_pieces rd) (lit< tt) real (lit< tt, (lit< tt, (lt, tt)))) e
+    (goes_on (load_reaches site start after Lh 31 trap loc s.values refl e.is_state.values (lit< tt) based) (λ u k.
+    let u1 = set_reg u 30 upper in
+    let x = bit_or (reg u1 31) (reg u1 30) in
+    let parts : x ≡ bit_or half upper = (λ i. bit_or ((reads_other u 30 31 upper (λ e. absurd (omega arith)) ∙ k.holds (lit< tt)) i) (reads_back u 30 upper k.are_values (lit< tt) (lit< tt) i)) in
     record {
-      offset = y.before.offset + d.len + lui.len + orr.len;
-      comes = comes_on y.before.comes (λ t0 k0.
-          let k : InCourse site y.before.offset (d.len + (lui.len + (orr.len + 4))) (AreReady [] d _ v s.values) t0 = record { here = record { even = k0.here.even; room = omega arith; placed = k0.here.placed; pc = k0.here.pc }; is_state = k0.is_state; values = k0.values } in
-          let there : wrap (reg t0.values d.rs1 + low64 d.imm) ≡ a = k0.values.address ∙ same_elsewhere site start start (start + size_of slots) after v loc in
-          comes_on (writes (λ w. SameBut [] v w × (reg w 31 ≡ half_at w.mem a)) d 31 (half_at t0.values.mem a) y.before.sized y.before.has
-          (ap (λ o. act_on o d t0) y.is ∙ (λ i. Some (at (wrap (t0.pc + d.len)) (set_reg t0.values (y.register i) (half_at t0.values.mem (there i)))))) (lit< tt) (load_fits half t0.values.mem a k0.is_state.values.bytes) k
-          ((spare_set v t0.values 31 (half_at t0.values.mem a) (lit≤ tt) k0.values.same), reads_back t0.values 31 (half_at t0.values.mem a) k0.is_state.values (lit< tt) (lit< tt))) (λ t1 k1.
-          comes_on (writes (λ w. SameBut [] v w × (reg w 31 ≡ half_at w.mem a) × (reg w 30 ≡ upper)) lui 30 upper (lui_sized flags 30 high_bits) stands.0 (lui_acts flags 30 high_bits t1 k1.is_state) (lit< tt) (lit< tt) k1
-          (spare_set v t1.values 30 upper (lit≤ tt) k1.values.0, reads_other t1.values 30 31 upper (λ e. absurd (omega arith)) ∙ k1.values.1, reads_back t1.values 30 upper k1.is_state.values (lit< tt) (lit< tt))) (λ t2 k2.
-          let x = bit_or (half_at t2.values.mem a) upper in
-          rrr_writes (AreBoxed a v) Or 31 31 30 x stands.1.0 (λ i. bit_or (k2.values.1 i) (k2.values.2 i)) (lit< tt) k2 (record {
-            same = spare_set v t2.values 31 x (lit≤ tt) k2.values.0;
-            value = ap (λ r. boxed S (low_part S r)) (reads_back t2.values 31 x k2.is_state.values (lit< tt) (lit< tt)) ∙ half_boxed (load_bytes t2.values.mem a 2) (let b0 = k2.is_state.values.bytes (wrap (a + 0)) in let b1 = k2.is_state.values.bytes (wrap (a + 1)) in omega arith);
-          }))));
-      has = stands.1.1.0;
-      sized = record { even = refl; some = lit< tt; few = lit≤ tt };
-      ends = omega arith;
-    }
+      count = 2;
+      values = set_reg u1 31 x;
+      ran = refl;
+      such = record {
+        same = spare_set v u1 31 x (lit≤ tt) (spare_set v u 30 upper (lit≤ tt) (record { regs = λ n below other. e.same.regs n below ∙ sym (k.others n (omega arith) (λ e. absurd (omega arith))); mem = λ m. e.same.mem m ∙ ap (λ mem. byte mem m) (sym k.mem) }));
+        value = ap (λ r. boxed S (low_part S r)) (reads_back u1 31 x (are_values_set u 30 upper k.are_values (lit< tt) (lit< tt)) (lit< tt) (lit< tt) ∙ parts)
+            ∙ half_boxed (load_bytes s.values.mem b 2) (let b0 = e.is_state.values.bytes (wrap (b + 0)) in let b1 = e.is_state.values.bytes (wrap (b + 1)) in omega arith) ∙ (λ i. boxed H (load_bytes (sym k.mem i) (same i) 2));
+      };
+    }))
 
 -- ---- the access
 
-pub half_load_out : {site : Site} {start after : ℕ} {v : FullValues} {b : FullState} (rd : ℕ) (loc : Location) (trap : Option TrapCode) → rd < 32 → IsUsableAt loc → Enters site start after (slots_alone (half_load_slots site.context.flags rd trap loc)) b.state v.ints → v.units ≡ b.units → IsFullState b → FullComesOut site after [] (float_loaded H rd (address_at (environment site start after) v.ints loc) v) [] b
+pub half_load_out : {site : Site} {start after : ℕ} {v : FullValues} {b : FullState} (rd : ℕ) (loc : Location) (trap : Option TrapCode) → rd < 32 → IsUsableAt loc → Enters site start after (slots_alone (slots_of site.context.flags (half_load_pieces rd trap loc))) b.state v.ints → v.units ≡ b.units → IsFullState b → FullComesOut site after [] (float_loaded H rd (address_at (environment site start after) v.ints loc) v) [] b
 half_load_out {site} {start} {after} {v} {b} rd loc trap lt based e units full =
-    let z = half_ready rd loc trap based e in
+    let z = half_ready rd loc trap lt based e in
     let k = z.comes.course.values in
     exact_out z (loaded_there H rd (address_at (environment site start after) v.ints loc) z k.same units e.are_values full lt (λ s. refl) (ap (λ r. Does (put_units (set_freg b.units rd r) (before_values b.units z))) k.value)) full.answers
 
 -- A half that is stored by an integer register: the move into x30, which takes no answer, and then sh.
 
--- the machine after the move, before the store
-store_enters : {site : Site} {start after z : ℕ} {s : State} {v : Values} (src : ℕ) (loc : Location) (trap : Option TrapCode) → z < 2 ^ 64 → Enters site start after (slots_alone (half_store_slots site.context.flags src trap loc)) s v → Enters site (start + 4) after (slots_alone (store_slots site.context.flags Sh 30 trap loc)) (at (wrap (s.pc + 4)) (set_reg s.values 30 z)) v
-store_enters {z = z} {s} {v} src loc trap fits e = search (rules, arith, e, (are_values_set s.values 30 z e.is_state.values (lit< tt) fits), (all_same (spare_set v s.values 30 z (lit≤ tt) (same_but [] e.same))))
-
-pub half_store_out : {site : Site} {start after : ℕ} {v : FullValues} {b : FullState} (src : ℕ) (loc : Location) (trap : Option TrapCode) → IsUsableAt loc → Enters site start after (slots_alone (half_store_slots site.context.flags src trap loc)) b.state v.ints → v.units ≡ b.units → IsFullState b → AreOutside site.base (length site.bytes) (addresses_from (address_at (environment site start after) v.ints loc) 2) → FullComesOut site after [] (float_stored H src (address_at (environment site start after) v.ints loc) v) [] b
+pub half_store_out : {site : Site} {start after : ℕ} {v : FullValues} {b : FullState} (src : ℕ) (loc : Location) (trap : Option TrapCode) → IsUsableAt loc → Enters site start after (slots_alone (slots_of site.context.flags (half_store_pieces src trap loc))) b.state v.ints → v.units ≡ b.units → IsFullState b → AreOutside site.base (length site.bytes) (addresses_from (address_at (environment site start after) v.ints loc) 2) → FullComesOut site after [] (float_stored H src (address_at (environment site start after) v.ints loc) v) [] b
 half_store_out {site} {start} {after} {v} {b} src loc trap based e units full clear =
     let flags = site.context.flags in
     let number = freg b.units src in
     let z = extended S number in
     let t = at (wrap (b.state.pc + 4)) (set_reg b.state.values 30 z) in
     let c = put t b in
+    let fits = extended_small S number (full.units.float_fits src) in
+    let before : Enters site (start + 4) after (slots_alone (slots_of flags (store_pieces Sh 30 trap loc))) t v.ints = search (rules, arith, e, (are_values_set b.state.values 30 z e.is_state.values (lit< tt) fits), (all_same (spare_set v.ints b.state.values 30 z (lit≤ tt) (same_but [] e.same)))) in
     let a = address_at (environment site start after) v.ints loc in
-    let there : address_at (environment site (start + 4) after) v.ints loc ≡ a = same_elsewhere site (start + 4) start after after v.ints loc in
-    let g = store_out Sh 30 loc trap refl (lit< tt) based (store_enters src loc trap (extended_small S number (full.units.float_fits src)) e) (subst (λ x. AreOutside site.base (length site.bytes) (addresses_from x 2)) (sym there) clear) in
+    let there : address_at (environment site (start + 4) after) v.ints loc ≡ a = elim loc as (λ l. address_at (environment site (start + 4) after) v.ints l ≡ address_at (environment site start after) v.ints l) [ Based r o ↦ refl | _ ↦ refl ] in
+    let g = store_out Sh 30 loc trap refl (lit< tt) based before (subst (λ x. AreOutside site.base (length site.bytes) (addresses_from x 2)) (sym there) clear) in
     let bytes : low_bytes H (reg t.values 30) ≡ low_bytes H (freg v.units src) = ap (low_bytes H) (reads_back b.state.values 30 z e.is_state.values (lit< tt) (lit< tt)) ∙ half_moved number ∙ ap (λ u. low_bytes H (freg u src)) (sym units) in
     let made : put_bytes v.ints (address_at (environment site (start + 4) after) v.ints loc) (low_bytes H (reg t.values 30)) ≡ (float_stored H src a v).ints = λ i. put_bytes v.ints (there i) (bytes i) in
     record {
       steps = g.steps + 1;
       state = put g.state c;
-      ran = fiter_after flags g.steps 1 b c (fiter_one flags b c (unit_next_at b (moved_to_integer 30 src) [] refl (starts_at (half_store_slots flags src trap loc) e) (omega arith) e.stands.1.0)) ∙ integer_run flags g.steps g.state c g.ran;
+      ran = fiter_after flags g.steps 1 b c (fiter_one flags b c (unit_next_at b (moved_to_integer 30 src) [] refl (starts_at (slots_of flags (half_store_pieces src trap loc)) e) (omega arith) e.stands.1.0)) ∙ integer_run flags g.steps g.state c g.ran;
       pc = g.arrives;
       same = record { ints = subst (λ w. SameBut [] w g.state.values) made g.same; units = units };
       are_values = subst AreValues made g.are_values;
@@ -191,23 +171,16 @@ half_store_out {site} {start} {after} {v} {b} src loc trap based e units full cl
 
 -- ---- loads
 
-float_base : (op : LoadOP) (rd : ℕ) (loc : Location) → is_float_load op ≡ true → IsBase [] loc (label_base op rd)
-float_base op rd loc float = subst (λ (c : Bool). IsBase [] loc (if c then 31 else rd)) (sym float) (x31_base loc)
-
--- a load of a line ends at an even offset
-pub line_even : {site : Site} {start after : ℕ} {s : State} {v : Values} (rd : ℕ) (op : LoadOP) (trap : Option TrapCode) (loc : Location) → is_float_load op ≡ true → IsUsableAt loc → Enters site start after (slots_alone (load_line_slots site.context.flags rd op trap loc)) s v → after % 2 ≡ 0
-line_even {site} {start} {after} {s} {v} rd op trap loc float based =
-    elim (has_load site.context.flags op) as (λ has. Enters site start after (slots_alone (if has then load_slots site.context.flags rd op trap loc else half_load_slots site.context.flags rd trap loc)) s v → after % 2 ≡ 0) [
-      | true ↦ λ e. let y = load_ready [] rd op loc trap based (float_base op rd loc float) e in let even = y.before.comes.course.here.even in let ends = y.before.ends in let own = y.before.sized.even in omega arith
-      | false ↦ λ e. let y = half_ready rd loc trap based e in let even = y.comes.course.here.even in let ends = y.ends in omega arith
-    ]
+-- a load of a line has an even number of bytes
+pub line_even : (flags : IsaFlags) (rd : ℕ) (op : LoadOP) (trap : Option TrapCode) (loc : Location) → size_of (load_line_slots flags rd op trap loc) % 2 ≡ 0
+line_even flags rd op trap loc = closed_even (λ k. None) 0 (load_line_slots flags rd op trap loc) ((line_loaded flags rd op trap loc).closed _ 0)
 
 -- the load of a line, which may be that of a half by integer registers
 pub line_load : {site : Site} {start after : ℕ} {v : FullValues} {b : FullState} (rd : ℕ) (op : LoadOP) (trap : Option TrapCode) (loc : Location) (format : FloatFormat) → load_format op ≡ Some format → rd < 32 → IsUsableAt loc → Enters site start after (slots_alone (load_line_slots site.context.flags rd op trap loc)) b.state v.ints → v.units ≡ b.units → IsFullState b → FullComesOut site after [] (float_loaded format rd (address_at (environment site start after) v.ints loc) v) [] b
 line_load {site} {start} {after} {v} {b} rd op trap loc format is lt based e units full =
     let a = address_at (environment site start after) v.ints loc in
-    (elim (has_load site.context.flags op) as (λ has. has_load site.context.flags op ≡ has → Enters site start after (slots_alone (if has then load_slots site.context.flags rd op trap loc else half_load_slots site.context.flags rd trap loc)) b.state v.ints → FullComesOut site after [] (float_loaded format rd a v) [] b) [
-      | true ↦ λ has e. let y = load_ready [] rd op loc trap based (float_base op rd loc (ap is_some is)) e in exact_out y.before (load_does format rd a y.before units e.are_values full (y.is ∙ float_load op format is) y.register lt) full.answers
+    (elim (has_load site.context.flags op) as (λ has. has_load site.context.flags op ≡ has → Enters site start after (slots_alone (slots_of site.context.flags (if has then load_pieces op rd trap loc else half_load_pieces rd trap loc))) b.state v.ints → FullComesOut site after [] (float_loaded format rd a v) [] b) [
+      | true ↦ λ has e. let y = float_ready rd op loc trap (ap is_some is) lt based e in exact_out y.before (load_does format rd a y.before units e.are_values full (y.is ∙ float_load op format is) y.register lt) full.answers
       | false ↦ λ none e. subst (λ f. FullComesOut site after [] (float_loaded f rd a v) [] b) (sym (only_halves site.context.flags (load_format op) format is none)) (half_load_out rd loc trap lt based e units full)
     ]) refl e
 
@@ -219,7 +192,7 @@ pub line_store : {site : Site} {start after : ℕ} {v : FullValues} {b : FullSta
     FullComesOut site after [] (float_stored format src (address_at (environment site start after) v.ints loc) v) [] b
 line_store {site} {start} {after} {v} {b} op src trap loc format is based e units full clear =
     let a = address_at (environment site start after) v.ints loc in
-    (elim (has_store site.context.flags op) as (λ has. has_store site.context.flags op ≡ has → Enters site start after (slots_alone (if has then store_slots site.context.flags op src trap loc else half_store_slots site.context.flags src trap loc)) b.state v.ints → FullComesOut site after [] (float_stored format src a v) [] b) [
+    (elim (has_store site.context.flags op) as (λ has. has_store site.context.flags op ≡ has → Enters site start after (slots_alone (slots_of site.context.flags (if has then store_pieces op src trap loc else half_store_pieces src trap loc))) b.state v.ints → FullComesOut site after [] (float_stored format src a v) [] b) [
       | true ↦ λ has e. let y = store_ready op src loc trap based e in exact_out y.before (store_does format src a y.before units e.are_values full (y.is ∙ float_store op format is) y.register clear) full.answers
       | false ↦ λ none e.
           let half = only_halves site.context.flags (store_format op) format is none in

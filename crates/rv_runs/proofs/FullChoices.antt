@@ -1,15 +1,14 @@
 -- Registers of any class get values on the machine with all units, and one of two values is chosen for them.
-use Rattle.std.proofs.Common.{Bool, List, Some, [], ap, arith, eqb-true, false, if◌then◌else◌, length, lit<, map, nat_eq, nat_le, not, pos, refl, rules, slice_index, subst, suc, sym, true, ℕ, ◌&&◌, ◌++◌, ◌+◌, ◌<◌, ◌∙◌, ◌∷◌, ◌≡◌, ◌≢◌}
-use Rattle.{rv_code.proofs.{Evaluation.one, Evaluation.rest, MadeOfPieces.moves_after, Operands.below_30, Operands.select_fine}, rv_runs.proofs.Words.{AVirtual, Addi, AllByRecursion, AnswerFits, AreInRange, AreUnits, AreValues, Bind, Branch}}
+use Rattle.{rv_base.{specs.declared.regs.RegClass.TheVariants.Vector, specs.declared.value_regs.ValueRegs.ValueRegs, specs.declared.value_regs.ValueRegs.TheVariants.{One, Two}}, rv_code.{proofs.Evaluation.{one, rest}, proofs.MadeOfPieces.moves_after, proofs.Operands.{below_30, select_fine}}}
+use Rattle.{rv_code.{specs.Choices.{choice_pieces, moves_then, same_numbers, select_pieces}, specs.Evaluation.IsAtPoint, specs.InstRuns.environment, specs.Pieces.{Copy, IsInRange, pieces_size}, specs.Usable.{AreMoves, IsFineChoice}}, rv_full.specs.Units.{set_vreg, vreg}}
+use Rattle.{rv_inst.{specs.Generators.canonical_type, specs.Meaning.Environment, specs.Rules.{is_movable, is_one_of, same_class, same_register}}, rv_ops.specs.declared.float_fields.FpuOPWidth.TheVariants.D, rv_runs.{proofs.Exits.same_but, proofs.PlainRuns.{complement_holds, int_class}}}
+use Rattle.rv_runs.proofs.UnitRuns.{FullSteps, fiter_one, float_set, more_steps, no_steps, unit_next_at}
+use Rattle.rv_runs.proofs.Words.{AVirtual, Addi, AllByRecursion, AnswerFits, AreInRange, AreUnits, AreValues, Bind, Branch, Do, Does, EmitVState, Enters, Float, FullComesOut, FullState, FullValues, Int, IntCC, IntegerCompare, IsFullState, IsIntRegister, IsUsableIn, Keeps}
+use Rattle.rv_runs.proofs.Words.{Piece, Real, Reg, RegClass, Rri, Same, SameFull, Select, SelectInfo, Site, StandIn, StandsIn, Values, Writable, after, all_of, alu_rri, and_parts, are_values_set, at, at_next, chosen, class_of, complement_of, freg, full_at, holds}
+use Rattle.rv_runs.proofs.Words.{inputs_of, integer_run, is_int_class, is_reserved, is_virtual, list_any, move_action, nat_tests, next, number_below, number_of, number_row, op_of, or_parts, parts_of, pieces_long, plus_none, point, put, put_all, put_f, put_in, put_units}
+use Rattle.rv_runs.proofs.Words.{reads_other, reg, row_next, same_set, set_freg, set_own, set_reg, set_twice, size_of, slots_of, to, value_in, value_of, values_of, with_ints, wrap, written_in}
+use Rattle.std.proofs.Common.{Bool, List, Some, [], ap, arith, eqb-true, false, if◌then◌else◌, length, lit<, map, nat_eq, nat_le, not, pos, refl, rules, slice_index, subst, suc, sym, true, ℕ, ◌&&◌, ◌++◌, ◌+◌, ◌<◌, ◌∙◌, ◌∷◌, ◌≡◌, ◌≢◌, inr}
 use Rattle.std.proofs.lemmas.List.{get_or-set_other, set-get_or, set-set, set_comm}
-use Rattle.rv_runs.proofs.Words.{Do, Does, EmitVState, Enters, Float, FullComesOut, FullState, FullValues, Int, IntCC, IntegerCompare, IsFullState, IsIntRegister, IsUsableIn, Keeps, Piece, Real, Reg, RegClass, Rri, Same, SameFull, Select, SelectInfo, Site, StandIn, StandsIn, Values, Writable}
-use Rattle.rv_runs.proofs.Words.{after, all_of, alu_rri, and_parts, are_values_set, at, at_next, chosen, class_of, complement_of, freg, full_at, holds, inputs_of, integer_run, is_int_class, is_reserved, is_virtual, list_any, move_action, nat_tests, next, number_below, number_of, number_row}
-use Rattle.rv_runs.proofs.Words.{op_of, or_parts, parts_of, pieces_long, plus_none, point, put, put_all, put_f, put_in, put_units, reads_other, reg, row_next, same_set, set_freg, set_own, set_reg, set_twice, size_of, slots_of, to, value_in, value_of, values_of, with_ints, wrap, written_in}
-use Rattle.rv_base.specs.declared.{regs.RegClass.TheVariants.Vector, value_regs.ValueRegs.TheVariants.One, value_regs.ValueRegs.TheVariants.Two, value_regs.ValueRegs.ValueRegs}
-use Rattle.rv_code.specs.{Choices.choice_pieces, Choices.moves_then, Choices.same_numbers, Choices.select_pieces, Evaluation.IsAtPoint, Pieces.Copy, Pieces.IsInRange, Pieces.pieces_size, Usable.AreMoves, Usable.IsFineChoice}
-use Rattle.{rv_full.specs.Units.set_vreg, rv_full.specs.Units.vreg, rv_inst.specs.Generators.canonical_type, rv_inst.specs.Rules.is_movable, rv_inst.specs.Rules.is_one_of, rv_inst.specs.Rules.same_class, rv_inst.specs.Rules.same_register, rv_ops.specs.declared.float_fields.FpuOPWidth.TheVariants.D}
-use Rattle.{rv_code.specs.InstRuns.environment, rv_inst.specs.Meaning.Environment}
-use Rattle.rv_runs.proofs.{Exits.same_but, PlainRuns.complement_holds, PlainRuns.int_class, UnitRuns.FullSteps, UnitRuns.fiter_one, UnitRuns.float_set, UnitRuns.more_steps, UnitRuns.no_steps, UnitRuns.unit_next_at}
 use Rattle.rv_full.specs.declared.shapes.Sources.TheVariants as sources
 use Rattle.rv_full.specs.declared.shapes.Target.TheVariants as target
 
@@ -347,13 +346,10 @@ are_free (r ∷ rs) real free =
 one_apart : (r s : Reg) → is_virtual r ≡ false → is_virtual s ≡ false → same_register r s ≡ false → Apart (class_of r) (number_of r) (class_of s) (number_of s)
 one_apart (AVirtual class index) s real other e = absurd (cc)
 one_apart (Real p) (AVirtual class index) real other e = absurd (cc)
-one_apart (Real p) (Real q) real other e = by p.class q.class e
-  where
-    by : (c d : RegClass) → (same_class c d && nat_eq p.number q.number) ≡ false → Apart c p.number d q.number
-    by Int Int e = λ same. grind (arith, nat_tests)
-    by Float Float e = λ same. grind (arith, nat_tests)
-    by Vector Vector e = λ same. grind (arith, nat_tests)
-    by c d e = λ same. absurd (cc)
+one_apart (Real p) (Real q) real other e = λ same.
+    let class : same_class p.class q.class ≡ true = subst (λ c. same_class p.class c ≡ true) same (elim p.class as (λ c. same_class c c ≡ true) [ Int ↦ refl | _ ↦ refl ]) in
+    let apart : nat_eq p.number q.number ≡ false = ap (λ c. c && nat_eq p.number q.number) (sym class) ∙ e in
+    grind (arith, nat_tests)
 
 is_apart : (r : Reg) (ss : List Reg) → IsFree r → AreFree ss → is_one_of r ss ≡ false → IsApart r ss
 is_apart r [] free others e = tt
@@ -394,7 +390,7 @@ full_select {site} setting info {start} {after} {v} {b} k e units is_state =
     let slots = λ (ps : List Piece). slots_of site.context.flags ps in
     let ends : start + size_of (slots whole) ≡ after = subst (λ ps. start + size_of (slots ps) ≡ after) o.pieces e.stands.2 in
     let long = pieces_long site.context.flags whole in
-    let stand : StandIn site e.stands.0 start after whole = record { stand = subst (λ ps. StandsIn site e.stands.0 start (slots ps)) o.pieces e.stands.1; even = e.even; ends = omega arith; room = e.within; ranges = choice_range (written_in info.dst) o.first o.second o.how _ _; bounds = record { short = e.short; labels = e.labels } } in
+    let stand : StandIn site e.stands.0 start after whole = record { stand = subst (λ ps. StandsIn site e.stands.0 start (slots ps)) o.pieces e.stands.1; even = e.even; ends = omega arith; room = e.within; ranges = choice_range (written_in info.dst) o.first o.second o.how _ _; bounds = inr (record { short = e.short; labels = e.labels }) } in
     let c = choice_comes info h (environment site start after) (λ c. Unit {0}) (λ ps u. (x : FullState) → IsAtPieces site e.stands.0 start after ps u x → ComesToPieces site e.stands.0 start after [] (chosen info w) x)
     (λ ps qs u z step on x at. more_steps (piece_lifts start after whole stand ps qs z step at) on) (λ rd rs ps u allowed on x at. more_steps (piece_copies rd rs ps at) on) w (all_allowed (written_in info.dst)) e.is_state.values (λ x at. no_steps at) b (record {
       ints = record { offset = start; within = omega arith; here = record { even = e.even; room = omega arith; placed = e.placed; pc = e.pc }; stand = stand; is_state = e.is_state; values = refl };

@@ -1,35 +1,24 @@
 -- What instructions mean on the machine with all units, and that each runs as it means.
-use Rattle.std.proofs.Common.{Bool, List, None, Option, Some, [], ap, arith, false, if◌then◌else◌, inl, inr, is_some, length, not, refl, subst, sym, true, ℕ, ⊎_elim, ◌%◌, ◌&&◌, ◌+◌, ◌<◌, ◌∙◌, ◌≡◌, ◌≤◌}
-use Rattle.rv_runs.proofs.Words.{AMode, Answer, AreOutside, AtStart, Call, CallInd, EmitVState, EndsAsMeant, Enters, Environment, Exit, FloatFormat, FullComesOut, FullEnds, FullMeaning}
-use Rattle.rv_runs.proofs.Words.{FullState, FullValues, Inst, IsFullState, IsaFlags, Load, LoadOP, MemFlagsData, Mov, Next, Nop0, PartsStand, Put, Reg, Resumes, Return, ReturnCall, ReturnCallInd, SameFull, Select, SelectInfo, Site, Store, StoreOP, TailCall, Writable, addresses_from, and_parts}
-use Rattle.rv_runs.proofs.Words.{answers_of, code_limit, context_by, environment, family_of, fiter_after, format_bytes, inst_effect, inst_exit, inst_meaning, inst_rule, inst_temporaries, inst_writes, integer_run, is_bad_frame_for, is_float, is_integer, is_integer_family, is_integer_in, is_unit}
-use Rattle.rv_runs.proofs.Words.{keeps, load_format, location_of, meaning_by, move_row, not_true, number_of, of_float_move, of_integers, operands_of, operation_of, operation_row, parts_of, put, restores_float, return_of, row_takes, store_format, tail_call_of, to, try_call_of, try_exit, values_of}
-use Rattle.{rv_code.proofs.LineOperands.full_load_kept, rv_code.proofs.LineOperands.full_store_kept, rv_inst.proofs.Meaning.effect_agrees, rv_inst.proofs.Meaning.load_address_agrees, rv_inst.proofs.Meaning.store_address_agrees, rv_inst.proofs.Meaning.writes_agree}
-use Rattle.rv_inst.specs.{Environments.AgreeOn, Meaning.resumed_by, Operands.named_labels, declared.inst.Family.Family, declared.inst.Family.TheVariants.Calls, declared.inst.Family.TheVariants.Float, declared.inst.Family.TheVariants.Integer, declared.inst.Family.TheVariants.Memory}
-use Rattle.rv_runs.proofs.{FloatMemory.line_load, FloatMemory.line_store, FullCallRuns.call_starts, FullCallRuns.ends_at_once, FullCallRuns.full_leaves, FullCallRuns.full_resumes, FullCallRuns.left_integers, FullChoices.full_select, InstRuns.inst_runs, OneOperations.ComesAsMeant}
-use Rattle.rv_runs.{proofs.OneOperations.OutAsMeant, proofs.OneOperations.move_runs, proofs.OneOperations.out_at_end, proofs.OneOperations.unit_runs, specs.Entries.AtReturn, specs.Entries.Entry, specs.FullInstRuns.FullyOut, specs.FullInstRuns.RunsFully}
-use Rattle.rv_runs.specs.FullMeaning.{call_returned, call_started, float_loaded, float_stored, full_left, full_resumed, of_access, of_call, of_choice, of_float_load, of_float_store, of_integer, of_memory, of_unit, with_ints}
+use Rattle.{rv_code.{proofs.LineOperands.{full_load_kept, full_store_kept}, proofs.OperationActs.no_format}, rv_inst.{proofs.Meaning.{effect_agrees, load_address_agrees, store_address_agrees, writes_agree}, specs.Environments.AgreeOn, specs.Meaning.resumed_by, specs.Operands.named_labels}}
+use Rattle.{rv_inst.{specs.declared.inst.Family.Family, specs.declared.inst.Family.TheVariants.{Calls, Float, Integer, Memory}}, rv_runs.{proofs.FloatMemory.{line_load, line_store}, proofs.FullCallRuns.{call_starts, ends_at_once, full_leaves, full_resumes, left_integers}}}
+use Rattle.rv_runs.{proofs.FullChoices.full_select, proofs.InstRuns.inst_runs, proofs.OneOperations.{ComesAsMeant, OutAsMeant, move_runs, out_at_end, unit_runs}}
+use Rattle.rv_runs.proofs.Words.{AMode, Answer, AreOutside, AtStart, Call, CallInd, EmitVState, EndsAsMeant, Enters, Environment, Exit, FloatFormat, FullComesOut, FullEnds, FullMeaning, FullState, FullValues, Inst, IsFullState, IsaFlags, Load, LoadOP, MemFlagsData, Mov}
+use Rattle.rv_runs.proofs.Words.{Next, Nop0, PartsStand, Put, Reg, Resumes, Return, ReturnCall, ReturnCallInd, SameFull, Select, Site, Store, StoreOP, TailCall, Writable, addresses_from, and_parts, answers_of, code_limit, context_by, environment, family_of, fiter_after}
+use Rattle.rv_runs.proofs.Words.{format_bytes, inst_effect, inst_exit, inst_meaning, inst_rule, inst_temporaries, inst_writes, integer_run, is_bad_frame_for, is_float, is_integer, is_integer_family, is_integer_in, is_unit, keeps, load_format, location_of, meaning_by}
+use Rattle.rv_runs.{proofs.Words.{move_row, not_true, number_of, of_float_move, of_integers, operands_of, operation_of, operation_row, parts_of, put, restores_float, return_of, row_takes, store_format, tail_call_of, to, try_call_of, try_exit, values_of}, specs.Entries.{AtReturn, Entry}}
+use Rattle.rv_runs.{specs.FullInstRuns.{FullyOut, RunsFully}, specs.FullMeaning.{call_returned, call_started, float_loaded, float_stored, full_left, full_resumed, of_access, of_call, of_choice, of_float_load, of_float_store, of_integer, of_memory, of_unit, with_ints}}
+use Rattle.std.{proofs.Common.{Bool, List, None, Option, Some, [], ap, arith, false, if◌then◌else◌, inl, inr, is_some, length, not, refl, subst, sym, true, ℕ, ⊎_elim, ◌%◌, ◌&&◌, ◌+◌, ◌<◌, ◌∙◌, ◌≡◌, ◌≤◌}, proofs.lemmas.Bool.not-false}
 
 -- An instruction of the integer core means on the machine with all units what it means on integers, with the units as they were.
 
--- no format, no floating-point register
-access_is_of_integers : (format : Option FloatFormat) (of_float : FloatFormat → FullMeaning) (integers : FullMeaning) → not (is_some format) ≡ true → of_access format of_float integers ≡ integers
-access_is_of_integers None of_float integers core = refl
-access_is_of_integers (Some format) of_float integers core = absurd (cc)
-
 memory_is_of_integers : (inst : Inst) → not (operands_of inst).floats ≡ true → of_memory AtStart inst ≡ of_integers AtStart (Put inst)
-memory_is_of_integers (Load rd op flags from) core = access_is_of_integers (load_format op) (λ format. of_float_load format rd.reg from) (of_integers AtStart (Put (Load rd op flags from))) core
-memory_is_of_integers (Store src op flags to) core = access_is_of_integers (store_format op) (λ format. of_float_store format src to) (of_integers AtStart (Put (Store src op flags to))) core
+memory_is_of_integers (Load rd op flags from) core = ap (λ f. of_access f (λ format. of_float_load format rd.reg from) (of_integers AtStart (Put (Load rd op flags from)))) (no_format (load_format op) (not_true _ core))
+memory_is_of_integers (Store src op flags to) core = ap (λ f. of_access f (λ format. of_float_store format src to) (of_integers AtStart (Put (Store src op flags to)))) (no_format (store_format op) (not_true _ core))
 memory_is_of_integers _ core = refl
 
--- no floating-point register is moved
-unless : (c : Bool) (m n : FullMeaning) → not c ≡ true → (if c then m else n) ≡ n
-unless true m n other = absurd (cc)
-unless false m n other = refl
-
 integer_is_of_integers : (inst : Inst) → not (operands_of inst).floats ≡ true → of_integer AtStart inst ≡ of_integers AtStart (Put inst)
-integer_is_of_integers (Mov rd rm type) other = unless (is_float rd.reg) _ _ other
-integer_is_of_integers (Select info) other = unless (operands_of (Select info)).floats _ _ other
+integer_is_of_integers (Mov rd rm type) other = ap (λ c. if c then of_float_move (Mov rd rm type) else of_integers AtStart (Put (Mov rd rm type))) (not_true _ other)
+integer_is_of_integers (Select info) other = ap (λ c. if c then of_choice info else of_integers AtStart (Put (Select info))) (not_true _ other)
 integer_is_of_integers _ other = refl
 
 -- what an instruction means from these values is what it means on integers
@@ -92,7 +81,6 @@ module _ {e f : Environment} (v : FullValues) where
       access_same (store_format op) (λ format. of_float_store format src to) (of_integers entry (Put (Store src op flags to)))
       (λ format. record { takes = λ answers. ap (λ n. Some (float_stored format (number_of src) n v, answers)) same; writes = λ answers. ap (λ n. addresses_from n (format_bytes format)) same; own = refl })
       (integers_same entry (Store src op flags to) a)
-  memory_same entry Nop0 a = integers_same entry Nop0 a
   memory_same entry inst a = integers_same entry inst a
 
   operation_same : (inst : Inst) → AgreeOn (named_labels (Put inst)) e f → operation_of (context_by e.flags e.frame []) inst ≡ operation_of (context_by f.flags f.frame []) inst
@@ -102,15 +90,10 @@ module _ {e f : Environment} (v : FullValues) where
   integer_same entry (Mov rd rm type) a = either_same (is_float rd.reg) (of_float_move (Mov rd rm type)) (of_integers entry (Put (Mov rd rm type)))
       (record { takes = λ answers. ap (λ o. row_takes (move_row o v) answers) (operation_same (Mov rd rm type) a); writes = λ answers. refl; own = ap (λ o. answers_of (move_row o v)) (operation_same (Mov rd rm type) a) }) (integers_same entry (Mov rd rm type) a)
   integer_same entry (Select info) a = either_same (operands_of (Select info)).floats (of_choice info) (of_integers entry (Put (Select info))) (record { takes = λ answers. refl; writes = λ answers. refl; own = refl }) (integers_same entry (Select info) a)
-  integer_same entry Nop0 a = integers_same entry Nop0 a
   integer_same entry inst a = integers_same entry inst a
 
-  started_same : (inst : Inst) (tail : Option TailCall) → AgreeOn (named_labels (Put inst)) e f → call_started e inst tail v ≡ call_started f inst tail v
-  started_same inst None a = ap (λ w. with_ints w v) (effect_agrees (Put inst) v.ints a)
-  started_same inst (Some tail) a = ap (λ frame. full_left frame tail.stack_arg_size v) a.frame
-
   call_same : (entry : Entry) (inst : Inst) → AgreeOn (named_labels (Put inst)) e f → MeansSame (of_call entry inst) e f v
-  call_same AtStart inst a = record { takes = λ answers. ap (λ w. Some (w, answers)) (started_same inst (tail_call_of inst) a); writes = λ answers. refl; own = refl }
+  call_same AtStart inst a = record { takes = λ answers. ap (λ w. Some (w, answers)) (elim (tail_call_of inst) as (λ o. call_started e inst o v ≡ call_started f inst o v) [ None ↦ ap (λ w. with_ints w v) (effect_agrees (Put inst) v.ints a) | Some tail ↦ ap (λ frame. full_left frame tail.stack_arg_size v) a.frame ]); writes = λ answers. refl; own = refl }
   call_same AtReturn inst a = record { takes = λ answers. (λ i. Some (call_returned (return_of (a.flags i) inst) v, answers)); writes = λ answers. refl; own = refl }
 
   unit_same : (entry : Entry) (inst : Inst) → AgreeOn (named_labels (Put inst)) e f → MeansSame (of_unit entry inst) e f v
@@ -130,12 +113,6 @@ module _ {e f : Environment} (v : FullValues) where
 -- Every instruction that breaks no rule runs as it means on the machine with all units, wherever its parts stand in finished code: from its
 -- start, and from where a call returns.
 
--- ---- what a call has none of
-
-none_free : (inst : Inst) → family_of inst ≡ Calls → inst_temporaries inst ≡ []
-none_free Nop0 e = absurd (cc)
-none_free inst e = cc
-
 -- a tail call is a call
 tail_calls : (inst : Inst) (tail : TailCall) → tail_call_of inst ≡ Some tail → family_of inst ≡ Calls
 tail_calls Nop0 tail is = absurd (cc)
@@ -151,10 +128,6 @@ returns_call flags inst r e = (cc, cc)
 format_in : (format : Option FloatFormat) → not (is_some format) ≡ false → (f : FloatFormat) × (format ≡ Some f)
 format_in None some = absurd (cc)
 format_in (Some f) some = (f, refl)
-
-not_false : (a : Bool) → (true && not a) ≡ false → a ≡ true
-not_false true e = refl
-not_false false e = absurd (cc)
 
 -- ---- from its start
 
@@ -204,19 +177,13 @@ module _ (site : Site) (start after : ℕ) (v : FullValues) (b : FullState) (set
       (line_store op (number_of src) flags.trap (location_of site.context.frame to) format is (full_store_kept site.context.frame to op flags src (keeps site.context inst h.rule)) h.enters same.units full
       (subst (λ (m : FullMeaning). AreOutside site.base (length site.bytes) (m.writes env v (m.own_of b.answers))) means h.clear)) refl refl
 
-  choice_out : (info : SelectInfo) → (operands_of (Select info)).floats ≡ true → Begins (Select info) → Out (Select info)
-  choice_out info floats h =
-      let inst = Select info in
-      exact inst (of_choice info) (ap (λ c. if c then of_choice info else of_integers AtStart (Put inst)) floats)
-      (full_select setting info (keeps site.context inst h.rule) h.enters same.units full) refl refl
-
   -- with values that the meaning gives
-  left : (inst : Inst) → family_of inst ≡ Calls → (made : FullValues) → call_started env inst (tail_call_of inst) v ≡ made → FullEnds site start after (inst_exit env inst v.ints) [] made [] b → Out inst
+  left : (inst : Inst) → family_of inst ≡ Calls → (made : FullValues) → call_started env inst (tail_call_of inst) v ≡ made → FullEnds site start after (inst_exit env inst v.ints) (inst_temporaries inst) made [] b → Out inst
   left inst call made gives ends = record {
     took = [];
     made = made;
     takes = ap (λ f. (meaning_by f AtStart inst).takes env v ((meaning_by f AtStart inst).own_of [])) call ∙ ap (λ w. Some (w, [])) gives;
-    ends = subst (λ free. FullEnds site start after (inst_exit env inst v.ints) free made [] b) (sym (none_free inst call)) ends;
+    ends = ends;
   }
 
   tail_out : (inst : Inst) (tail : TailCall) → tail_call_of inst ≡ Some tail → Begins inst → Out inst
@@ -228,14 +195,14 @@ module _ (site : Site) (start after : ℕ) (v : FullValues) (b : FullState) (set
   call_out inst r is h =
       let c = returns_call site.context.flags inst r is in
       left inst c.0 (with_ints (inst_effect env inst v.ints) v) (ap (λ o. call_started env inst o v) c.1)
-      (subst (λ free. FullEnds site start after (inst_exit env inst v.ints) free (with_ints (inst_effect env inst v.ints) v) [] b) (none_free inst c.0) (ends_at_once v same.units full (call_starts setting inst r (keeps site.context inst h.rule) is h.enters)))
+      (ends_at_once v same.units full (call_starts setting inst r (keeps site.context inst h.rule) is h.enters))
 
   -- of a family of integers
   floating : (inst : Inst) → Begins inst → is_integer_family (family_of inst) ≡ true → is_integer inst ≡ false → Comes inst
   floating (Load rd op flags from) h family other = let f = format_in (load_format op) other in inl (load_out rd op flags from f.0 f.1 h)
   floating (Store src op flags to) h family other = let f = format_in (store_format op) other in inl (store_out to op flags src f.0 f.1 h)
-  floating (Mov rd rm type) h family other = move_runs setting rd rm type h.enters same full (not_false (is_float rd.reg) other)
-  floating (Select info) h family other = inl (choice_out info (not_false (operands_of (Select info)).floats other) h)
+  floating (Mov rd rm type) h family other = move_runs setting rd rm type h.enters same full (not-false (is_float rd.reg) other)
+  floating (Select info) h family other = inl (exact (Select info) (of_choice info) (ap (λ c. if c then of_choice info else of_integers AtStart (Put (Select info))) (not-false _ other)) (full_select setting info (keeps site.context (Select info) h.rule) h.enters same.units full) refl refl)
   floating (Call info) h family other = inl (call_out (Call info) _ refl h)
   floating (CallInd info) h family other = inl (call_out (CallInd info) _ refl h)
   floating inst h family other = absurd (cc)

@@ -1,4 +1,5 @@
 -- Every instruction of the integer core that breaks no rule runs as it means.
+use Rattle.rv_code.proofs.OperationActs.{short_ebreak_is}
 use Rattle.{rv_base.specs.IrType.bits_of, rv_code.proofs.LineOperands.{label_address_kept, load_addr_kept, load_kept, store_kept}, rv_code.specs.Evaluation.literal_value, rv_code.specs.InstParts.literal_of, rv_code.specs.InstRuns.environment, rv_code.specs.Pieces.{NameAddress, OfLabel, OfSymbol, Word32, Word64}}
 use Rattle.{rv_code.specs.Slots.{AddressOf, SlotOf}, rv_inst.specs.Descriptions.{counts, sequence_registers}, rv_inst.specs.Meaning.{Environment, constant_of}, rv_inst.specs.declared.sequence.Computation.TheVariants.{Ones, Zeros}, rv_machine.specs.Arithmetic.extend_word}
 use Rattle.{rv_runs.proofs.{ProbeRuns.probe_out, ReverseRuns.reverse_out, SelectRuns.extend_out, SelectRuns.select_runs, TableRuns.table_out}, rv_runs.proofs.CallRuns.{call_ind_out, call_out, return_call_ind_runs, return_call_runs}}
@@ -6,7 +7,7 @@ use Rattle.{rv_runs.proofs.Words.{AluRRImm12, AluRRR, Auipc, Call, CallInd, Come
 use Rattle.rv_runs.proofs.Words.{EmitVState, Extend, FrameLayout, GapIn, Inst, Jalr, Keeps, Label, Load, LoadAddr, LoadExtNameFar, LoadExtNameGot, LoadInlineConst, Lui, Mov, MovFromPReg, Nop0, Nop4, Op, Ret, ReturnCall, ReturnCallInd, Select, Site, State, Store, Values, and_parts, call_usable}
 use Rattle.rv_runs.proofs.Words.{compares, decoded_addi, goes_none, inst_rule, is_bad_frame_for, is_float_load, is_float_store, is_integer, is_integer_in, jump_to, keeps, location_of, low_word, not_true, number_of, reg, restores, restores_float, signed, tail_call_of, target_fine, to, window_some}
 use Rattle.rv_code.proofs.Operands.{all_integers, are_usable, constant_kept, extend_kept, is_count, is_probe, is_reversal, is_table, move_usable, not_zero, or_left, preg_usable, reversal_of, trap_if_usable}
-use Rattle.{rv_code.proofs.OperationActs.ebreak_breaks, rv_code.proofs.OperationActs.ebreak_sized, rv_code.proofs.Registers.count_of, rv_code.specs.InstParts.trap_slots, rv_code.specs.InstRuns.RunsIn, rv_inst.specs.Forms.short_ebreak, rv_inst.specs.Rules.is_zero}
+use Rattle.{rv_code.proofs.OperationActs.short_ebreak_is, rv_code.proofs.OperationActs.ebreak_sized, rv_code.proofs.Registers.count_of, rv_code.specs.InstParts.trap_slots, rv_code.specs.InstRuns.RunsIn, rv_inst.specs.Forms.short_ebreak, rv_inst.specs.Rules.is_zero}
 use Rattle.rv_inst.specs.declared.inst.Inst.TheVariants.{Args, BrTable, Brev8, Cltz, DummyUse, EmitIsland, Jal, LabelAddress, LoadExtNameNear, Popcnt, RawData, Rets, SequencePoint, StackProbeLoop, TrapIf, Udf, Unwind}
 use Rattle.rv_runs.proofs.{CountRuns.popcnt_out, CountRuns.zeros_out, Exits.RunsHere, Exits.break_out, Exits.comes_out, Exits.gap_out, Exits.starts_at, Exits.starts_beside, Exits.trap_out, Exits.trap_some, MemoryRuns.address_out, MemoryRuns.load_runs, MemoryRuns.store_runs}
 use Rattle.rv_runs.proofs.PlainRuns.{alu_rri_runs, alu_rrr_runs, auipc_runs, cond_br_runs, distant_out, jalr_runs, literal_out, jump_out, lui_runs, mov_runs, move_out, next_out, nothing_out, ret_runs, trap_if_out}
@@ -24,7 +25,7 @@ module _ (site : Site) (setting : EmitVState) (start after : ℕ) (s : State) (v
   kept_out : (inst : Inst) → is_integer_in site.context.frame inst ≡ true → Keeps inst → is_bad_frame_for site.context.frame (tail_call_of inst) ≡ false → RunsHere site setting inst start after s v
   kept_out Nop0 core k r e clear = nothing_out e.stands e
   kept_out Nop4 core k r e clear = next_out (decoded_addi 0 0 (pos 0)) 0 0 e (lit< tt) refl (lit< tt) (lit< tt)
-  kept_out EBreak core k r e clear = break_out (short_ebreak site.context.flags) (ebreak_breaks site.context.flags) (starts_at (Op (short_ebreak site.context.flags) ∷ []) e) (let some = (ebreak_sized site.context.flags).some in omega arith) e.stands.1.0 (starts_beside [] e)
+  kept_out EBreak core k r e clear = break_out (short_ebreak site.context.flags) (short_ebreak_is site.context.flags) (starts_at (Op (short_ebreak site.context.flags) ∷ []) e) (let some = (ebreak_sized site.context.flags).some in omega arith) e.stands.1.0 (starts_beside [] e)
   kept_out SequencePoint core k r e clear = nothing_out e.stands e
   kept_out (Args args) core k r e clear = nothing_out e.stands e
   kept_out (Rets rets) core k r e clear = nothing_out e.stands e

@@ -1,15 +1,16 @@
 -- Instructions that become one operation, on either machine.
+use Rattle.rv_code.{proofs.LineSlots.access_is, proofs.Operands.are_usable_in, proofs.OperationActs.{Does, short_ebreak_is, short_jalr_does, short_load_does, short_lui_does, short_rri_does, short_rrr_does, short_store_does}, specs.Accesses.access_pieces, specs.Pieces.Action}
+use Rattle.{rv_inst.{proofs.Descriptions.IsUnit, specs.Rules.Faults, specs.Sizes.{address_operation, load_operation, move_op, move_operation, store_operation}}, rv_machine.{proofs.States.zero_state, proofs.UnitOperations.acts_integer, specs.Decode.{decode, int_decode}, specs.Steps.zero_at}}
+use Rattle.{rv_ops.{specs.FloatFields.width_of, specs.declared.float_fields.FpuOPWidth.TheVariants.D}, rv_runs.{proofs.Exits.{comes_out, same_but}, proofs.FullCallRuns.ends_at_once, proofs.PlainRuns.nothing_out}}
+use Rattle.rv_runs.proofs.UnitRuns.{fiter_one, parts_are, row_comes, shape_agrees, unit_next_at, unit_operation}
+use Rattle.rv_runs.proofs.Words.{Addi, AluRRImm12, AluRRR, Andi, Answer, AreUsableIn, AtStart, Auipc, Based, CodeHas, Context, Decoded, Do, EBreak, EmitVState, EndsAsMeant, Enters, Environment, Exit, Extend, Float, FullComesOut, FullEnds, FullMeaning, FullState}
+use Rattle.rv_runs.proofs.Words.{FullValues, Inst, IrType, IsAt, IsFullState, IsIntegerLoad, IsIntegerStore, IsPlacedAt, IsaFlags, Jalr, Load, LoadAddr, LoadOP, Location, Lui, Memory, Mov, MovFromPReg, Next, Nop4, Op, Part, PartsStand, Piece, Put, Reg, RegClass, Ret, Row}
+use Rattle.rv_runs.proofs.Words.{RowAsks, RowGoes, RowsAgree, Rri, SameFull, Sign, Site, State, Store, StoreOP, TrapCode, Writable, access_slots, act, address_slots, answers_of, class_of, context_by, environment, family_of, fetch, fiter_none, format_of, full_at}
+use Rattle.rv_runs.proofs.Words.{goes_none, has_load, has_store, inst_exit, inst_meaning, inst_rule, inst_temporaries, integer_decodes, is_byte, is_float, is_float_class, is_float_load, is_float_store, is_integer, is_integer_family, is_integer_op, is_near, is_reserved}
+use Rattle.rv_runs.proofs.Words.{is_unit, is_virtual, keeps, list_any, load_slots, location_of, meaning_by, move_action, move_pieces, move_row, not_true, number_below, number_of, of_float_move, of_integers, op_of, operands_of, operation_of, operation_row, parts_of}
+use Rattle.rv_runs.{proofs.Words.{row_takes, same_Some, slots_alone, slots_of, store_slots, unit_row, values_of, wrap}, specs.FullInstRuns.FullyAsks}
 use Rattle.std.proofs.Common.{Bool, List, None, Option, Some, [], ap, arith, false, if◌then◌else◌, inl, inr, lit<, nat_eq, not, pos, refl, rules, subst, sym, true, unwrap_or, ℕ, ⊎_elim, ◌&&◌, ◌*◌, ◌++◌, ◌+◌, ◌<◌, ◌∙◌, ◌∷◌, ◌≡◌, ◌⊎◌}
-use Rattle.rv_runs.proofs.Words.{Addi, AluRRImm12, AluRRR, Andi, Answer, AreUsableIn, AtStart, Auipc, Based, CodeHas, Context, Decoded, Do, EBreak, EmitVState, EndsAsMeant, Enters, Environment, Exit, Extend, Float, FullComesOut}
-use Rattle.rv_runs.proofs.Words.{FullEnds, FullMeaning, FullState, FullValues, Inst, IrType, IsAt, IsFullState, IsIntegerLoad, IsIntegerStore, IsPlacedAt, IsaFlags, Jalr, Load, LoadAddr, LoadOP, Location, Lui, Memory, Mov, MovFromPReg, Next, Nop4, Op, Part, PartsStand, Piece, Put, Reg, RegClass}
-use Rattle.rv_runs.proofs.Words.{Ret, Row, RowAsks, RowGoes, RowsAgree, Rri, SameFull, Sign, Site, Slot, State, Store, StoreOP, TrapCode, Writable, access_slots, act, address_slots, answers_of, class_of, context_by, environment, family_of, fetch, fiter_none, format_of, full_at, goes_none, has_load}
-use Rattle.rv_runs.proofs.Words.{has_store, inst_exit, inst_meaning, inst_rule, inst_temporaries, integer_decodes, is_byte, is_float, is_float_class, is_float_load, is_float_store, is_integer, is_integer_family, is_integer_op, is_near, is_reserved, is_unit, is_virtual, keeps, list_any, load_slots}
-use Rattle.rv_runs.proofs.Words.{location_of, meaning_by, move_action, move_pieces, move_row, not_true, number_below, number_of, of_float_move, of_integers, op_of, operands_of, operation_of, operation_row, parts_of, row_takes, same_Some, slots_alone, slots_of, store_slots, unit_row, values_of, wrap}
-use Rattle.rv_code.proofs.{Operands.are_usable_in, OperationActs.Does, OperationActs.short_ebreak_is, OperationActs.short_jalr_does, OperationActs.short_load_does, OperationActs.short_lui_does, OperationActs.short_rri_does, OperationActs.short_rrr_does, OperationActs.short_store_does}
-use Rattle.{rv_code.specs.Pieces.Action, rv_inst.proofs.Descriptions.IsUnit, rv_inst.specs.Rules.Faults, rv_inst.specs.Sizes.address_operation, rv_inst.specs.Sizes.load_operation, rv_inst.specs.Sizes.move_op, rv_inst.specs.Sizes.move_operation, rv_inst.specs.Sizes.store_operation}
-use Rattle.{rv_machine.proofs.States.zero_state, rv_machine.proofs.UnitOperations.acts_integer, rv_machine.specs.Decode.decode, rv_machine.specs.Decode.int_decode, rv_machine.specs.Steps.zero_at, rv_ops.specs.FloatFields.width_of, rv_ops.specs.declared.float_fields.FpuOPWidth.TheVariants.D}
-use Rattle.rv_runs.proofs.{Exits.comes_out, Exits.same_but, FullCallRuns.ends_at_once, PlainRuns.nothing_out, UnitRuns.fiter_one, UnitRuns.parts_are, UnitRuns.row_comes, UnitRuns.shape_agrees, UnitRuns.unit_next_at, UnitRuns.unit_operation}
-use Rattle.rv_runs.specs.FullInstRuns.{FullyAsks}
+use Rattle.rv_code.specs.Pieces as piece
 
 -- An instruction of one machine word becomes one operation, which is read where it starts.
 
@@ -25,11 +26,7 @@ pub record IsAlone (core : Bool) (parts : List Part) (d : Decoded) : Type 0 wher
   pub integer : core ≡ true → is_integer_op d.op ≡ true
 
 after_trap : {core : Bool} {d : Decoded} (trap : Option TrapCode) (x : Decoded) → (core ≡ true → is_integer_op x.op ≡ true) → Some x ≡ Some d → IsAlone core (slots_alone (access_slots trap ++ Op x ∷ [])) d
-after_trap {core} {d} trap x integer e = record {
-  trap = trap;
-  only = ap (λ (y : Decoded). slots_alone (access_slots trap ++ Op y ∷ [])) (same_Some x d e);
-  integer = λ core. subst (λ (y : Decoded). is_integer_op y.op ≡ true) (same_Some x d e) (integer core);
-}
+after_trap {core} {d} trap x integer e = subst (λ (y : Decoded). IsAlone core (slots_alone (access_slots trap ++ Op x ∷ [])) y) (same_Some x d e) (record { trap = trap; only = refl; integer = integer })
 
 alone : {core : Bool} {d : Decoded} (x : Decoded) → is_integer_op x.op ≡ true → Some x ≡ Some d → IsAlone core (slots_alone (Op x ∷ [])) d
 alone x integer e = after_trap None x (λ core. integer) e
@@ -42,27 +39,23 @@ moves : {d : Decoded} (flags : IsaFlags) (class : RegClass) (type : IrType) (rd 
 moves flags Float type rd rs e = unless flags (nat_eq rd rs) (move_action Float type rd rs) (λ core. absurd (cc)) e
 moves flags _ type rd rs e = unless flags (nat_eq rd rs) (Rri Addi rd rs (pos 0)) (λ core. does_integer (short_rri_does flags Addi rd rs (pos 0))) e
 
-only_where : {core : Bool} {d : Decoded} (flags : IsaFlags) (c : Bool) (a : Action) (others : List Piece) → is_integer_op (op_of flags a).op ≡ true → (if c then Some (op_of flags a) else None) ≡ Some d → IsAlone core (slots_alone (slots_of flags (if c then Do a ∷ [] else others))) d
-only_where flags true a others integer e = alone (op_of flags a) integer e
-only_where flags false a others integer e = absurd (cc)
+either : {core : Bool} {d : Decoded} (flags : IsaFlags) (c : Bool) (o : Option Decoded) (ps others : List Piece) → (o ≡ Some d → IsAlone core (slots_alone (slots_of flags ps)) d) → (if c then o else None) ≡ Some d → IsAlone core (slots_alone (slots_of flags (if c then ps else others))) d
+either flags true o ps others alone e = alone e
+either flags false o ps others alone e = absurd (cc)
 
-either : {core : Bool} {d : Decoded} (c : Bool) (o : Option Decoded) (slots others : List Slot) → (o ≡ Some d → IsAlone core (slots_alone slots) d) → (if c then o else None) ≡ Some d → IsAlone core (slots_alone (if c then slots else others)) d
-either true o slots others alone e = alone e
-either false o slots others alone e = absurd (cc)
-
-near : {core : Bool} {d : Decoded} (c : Bool) (trap : Option TrapCode) (x : Decoded) (far : List Slot) → (core ≡ true → is_integer_op x.op ≡ true) → (if c then Some x else None) ≡ Some d → IsAlone core (slots_alone (if c then access_slots trap ++ Op x ∷ [] else far)) d
-near c trap x far integer e = either c (Some x) _ far (after_trap trap x integer) e
+near : {core : Bool} {d : Decoded} (flags : IsaFlags) (c : Bool) (trap : Option TrapCode) (a : Action) (far : List Piece) → (core ≡ true → is_integer_op (op_of flags a).op ≡ true) → (if c then Some (op_of flags a) else None) ≡ Some d → IsAlone core (slots_alone (slots_of flags (if c then access_pieces trap ++ Do a ∷ [] else far))) d
+near {core} {d} flags c trap a far integer e = either flags c (Some (op_of flags a)) (access_pieces trap ++ Do a ∷ []) far (λ e. subst (λ slots. IsAlone core (slots_alone slots) d) (sym (access_is flags trap (Do a ∷ []))) (after_trap trap (op_of flags a) integer e)) e
 
 loads : {core : Bool} {d : Decoded} (flags : IsaFlags) (op : LoadOP) (rd : ℕ) (trap : Option TrapCode) (location : Location) → (core ≡ true → IsIntegerLoad op) → load_operation flags op rd location ≡ Some d → IsAlone core (slots_alone (load_slots flags rd op trap location)) d
-loads flags op rd trap (Based r o) integer e = near (is_near o) trap _ _ (λ core. does_integer (short_load_does flags op rd r o (integer core))) e
+loads flags op rd trap (Based r o) integer e = near flags (is_near o) trap (piece.Load op rd r o) _ (λ core. does_integer (short_load_does flags op rd r o (integer core))) e
 loads flags op rd trap _ integer e = absurd (cc)
 
 stores : {core : Bool} {d : Decoded} (flags : IsaFlags) (op : StoreOP) (src : ℕ) (trap : Option TrapCode) (location : Location) → (core ≡ true → IsIntegerStore op) → store_operation flags op src location ≡ Some d → IsAlone core (slots_alone (store_slots flags op src trap location)) d
-stores flags op src trap (Based r o) integer e = near (is_near o) trap _ _ (λ core. does_integer (short_store_does flags op r src o (integer core))) e
+stores flags op src trap (Based r o) integer e = near flags (is_near o) trap (piece.Store op r src o) _ (λ core. does_integer (short_store_does flags op r src o (integer core))) e
 stores flags op src trap _ integer e = absurd (cc)
 
 addresses : {core : Bool} {d : Decoded} (flags : IsaFlags) (rd : ℕ) (location : Location) → address_operation flags rd location ≡ Some d → IsAlone core (slots_alone (address_slots flags rd location)) d
-addresses flags rd (Based r o) e = near (is_near o) None _ _ (λ core. does_integer (short_rri_does flags Addi rd r o)) e
+addresses flags rd (Based r o) e = near flags (is_near o) None (Rri Addi rd r o) _ (λ core. does_integer (short_rri_does flags Addi rd r o)) e
 addresses flags rd _ e = absurd (cc)
 
 -- of the families of integers
@@ -75,9 +68,9 @@ of_integer_family context setting (AluRRR op rd rs1 rs2) d family e = alone _ (d
 of_integer_family context setting (AluRRImm12 op rd rs imm) d family e = alone _ (does_integer (short_rri_does context.flags op (number_of rd.reg) (number_of rs) imm.value)) e
 of_integer_family context setting (Mov rd rm type) d family e = moves context.flags (class_of rd.reg) type (number_of rd.reg) (number_of rm) e
 of_integer_family context setting (MovFromPReg rd rm) d family e = unless context.flags (nat_eq (number_of rd.reg) rm.number) (Rri Addi (number_of rd.reg) rm.number (pos 0)) (λ core. does_integer (short_rri_does context.flags Addi (number_of rd.reg) rm.number (pos 0))) e
-of_integer_family context setting (Extend rd rn signed from_bits to_bits) d family e = only_where context.flags (is_byte signed from_bits) (Rri Andi (number_of rd.reg) (number_of rn) (pos 255)) _ (does_integer (short_rri_does context.flags Andi (number_of rd.reg) (number_of rn) (pos 255))) e
-of_integer_family context setting (Load rd op flags from) d family e = either (has_load context.flags op) _ _ _ (loads context.flags op (number_of rd.reg) flags.trap (location_of context.frame from) (not_true (is_float_load op))) e
-of_integer_family context setting (Store src op flags to) d family e = either (has_store context.flags op) _ _ _ (stores context.flags op (number_of src) flags.trap (location_of context.frame to) (not_true (is_float_store op))) e
+of_integer_family context setting (Extend rd rn signed from_bits to_bits) d family e = near context.flags (is_byte signed from_bits) None (Rri Andi (number_of rd.reg) (number_of rn) (pos 255)) _ (λ core. does_integer (short_rri_does context.flags Andi (number_of rd.reg) (number_of rn) (pos 255))) e
+of_integer_family context setting (Load rd op flags from) d family e = either context.flags (has_load context.flags op) _ _ _ (loads context.flags op (number_of rd.reg) flags.trap (location_of context.frame from) (not_true (is_float_load op))) e
+of_integer_family context setting (Store src op flags to) d family e = either context.flags (has_store context.flags op) _ _ _ (stores context.flags op (number_of src) flags.trap (location_of context.frame to) (not_true (is_float_store op))) e
 of_integer_family context setting (LoadAddr rd mem) d family e = addresses context.flags (number_of rd.reg) (location_of context.frame mem) e
 of_integer_family context setting Ret d family e = alone _ (does_integer (short_jalr_does context.flags 0 1 (pos 0))) e
 of_integer_family context setting (Jalr rd base offset) d family e = alone _ (does_integer (short_jalr_does context.flags (number_of rd.reg) (number_of base) offset.value)) e
@@ -87,11 +80,8 @@ pub one_slot : (context : Context) (setting : EmitVState) (inst : Inst) (d : Dec
 one_slot context setting inst d e =
     (elim (is_integer_family (family_of inst)) as (λ c. is_integer_family (family_of inst) ≡ c → IsAlone (is_integer inst) (parts_of context setting inst) d) [
       | true ↦ λ family. of_integer_family context setting inst d family e
-      | false ↦ λ family. let u = is_unit inst family in record {
-        trap = u.word.trap;
-        only = parts_are context setting inst u.word u.is ∙ ap (λ (y : Decoded). slots_alone (access_slots u.word.trap ++ Op y ∷ [])) (same_Some u.word.operation d (sym (λ i. (u.code context i).operation) ∙ e));
-        integer = λ core. let none : false ≡ true = sym (ap (λ c. c && not (operands_of inst).floats) family) ∙ core in absurd (cc);
-      }
+      | false ↦ λ family. let u = is_unit inst family in subst (λ parts. IsAlone (is_integer inst) parts d) (sym (parts_are context setting inst u.word u.is))
+          (after_trap u.word.trap u.word.operation (λ core. let none : false ≡ true = sym (ap (λ c. c && not (operands_of inst).floats) family) ∙ core in absurd (cc)) (sym (λ i. (u.code context i).operation) ∙ e))
     ]) refl
 
 module _ (site : Site) (start : ℕ) (d : Decoded) where

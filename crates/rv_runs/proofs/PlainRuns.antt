@@ -1,17 +1,14 @@
 -- Plain instructions: those of no operation or of one, jumps and branches, traps, and the addresses of symbols.
-use Rattle.{rv_base.specs.declared.condcodes.IntCC.TheVariants.{SignedGreaterThanOrEqual, SignedLessThanOrEqual, UnsignedGreaterThanOrEqual, UnsignedLessThanOrEqual}, rv_code.{proofs.Steps.aims_at, specs.InstParts.branch_to, specs.Slots.SlotOf, specs.Slots.Target, specs.Traps.trap_if_pieces}}
-use Rattle.{rv_code.proofs.Evaluation.{distant_fits, literal_fits}, rv_code.specs.Evaluation.{distant_value, literal_value}, rv_code.specs.InstRuns.environment, rv_code.specs.Pieces.{AreInRange, Constant, Distant, Literal, OfSymbol, Take}}
-use Rattle.rv_runs.proofs.Words.{AVirtual, Addi, Environment, Memory, Piece, are_values_set, byte, next, same_set}
-use Rattle.std.proofs.Common.{Bool, List, Some, [], ap, arith, eqb-true, false, if◌then◌else◌, lit<, lit≤, nat_eq, nat_lt, not, pos, refl, subst, sym, true, ℕ, ◌*◌, ◌+◌, ◌/◌, ◌<◌, ◌^◌, ◌∙◌, ◌∷◌, ◌≡◌, ◌≤◌}
-use Rattle.rv_runs.proofs.Words.{AimsFrom, AluOPRRI, AluRRImm12, AluRRR, Arrives, Auipc, Base, Bind, ComesOut, CondBr, Decoded, Do, EmitVState, Enters, Exit, Goes, Int, IntCC, IntegerCompare, IrType, IsAt, IsBeside, IsIntRegister, IsUsable, IsaFlags, Jalr, Label, Ld, Leave}
-use Rattle.rv_runs.proofs.Words.{Lui, MachLabel, Mov, Next, NotEqual, Op, Part, Real, Reg, Ret, Rri, Same, Site, Slot, StandsIn, State, To, TrapCode, Values, Writable, act, alu_result_fits, alu_rri, alu_rrr, and_then, at, at_next, between, class_of, compares}
-use Rattle.rv_runs.proofs.Words.{complement_of, decoded, evaluate, goes_at_least, goes_none, holds, jalr_acts, jalr_sized, jump_acts, jump_to, least_steps, load_op, load_same, low64, lui_acts, lui_sized}
-use Rattle.rv_runs.proofs.Words.{move_pieces, number_of, plus_none, point, reg, rri_op, set_own, set_reg, short_jalr, short_jump, short_lui, short_rri, short_rrr, signed_below, size_of, slots_alone, slots_of, step_at, window_some, wrap}
-use Rattle.rv_code.proofs.{OperationActs.branch_acts, OperationActs.low64_small, OperationActs.rri_acts, OperationActs.rri_sized, OperationActs.rrr_acts, OperationActs.rrr_fits, OperationActs.rrr_sized}
-use Rattle.{rv_encode.specs.Operations.decoded_branch, rv_imms.specs.declared.imm12.Imm12.Imm12, rv_imms.specs.declared.imm20.Imm20.Imm20}
-use Rattle.rv_inst.specs.{Forms.jump_kind, LabelUse.has_veneer_of, Meaning.Trap, Meaning.target_exit, Rules.is_fallthrough, Faults.is_out_of_range, declared.inst.CondBrTarget.CondBrTarget, declared.inst.CondBrTarget.TheVariants.Fallthrough, declared.inst.CondBrTarget.TheVariants.Label as ToLabel}
-use Rattle.{rv_inst.specs.declared.label_use.LabelUse.TheVariants.B12, rv_ops.specs.declared.alu.AluOPRRR.AluOPRRR}
-use Rattle.rv_runs.proofs.{Exits.RunsHere, Exits.SlotsOut, Exits.comes_out, Exits.goes_out, Exits.label_out, Exits.pieces_out, Exits.pieces_trap, Exits.same_but, Exits.starts_at, Exits.starts_beside, Exits.writes_beside}
+use Rattle.{rv_base.specs.declared.condcodes.IntCC.TheVariants.{SignedGreaterThanOrEqual, SignedLessThanOrEqual, UnsignedGreaterThanOrEqual, UnsignedLessThanOrEqual}, rv_code.{proofs.Evaluation.{distant_fits, literal_fits}, proofs.OperationActs.{branch_acts, low64_small, rrr_fits}}}
+use Rattle.rv_code.{proofs.Reaching.Reaches, proofs.Steps.aims_at, specs.Evaluation.{distant_value, literal_value}, specs.InstParts.branch_to, specs.InstRuns.environment, specs.Pieces.{Rrr, AreInRange, Constant, Distant, Literal, OfSymbol, Take}, specs.Slots.{SlotOf, Target}}
+use Rattle.{rv_code.specs.Traps.trap_if_pieces, rv_encode.specs.Operations.decoded_branch, rv_imms.{specs.declared.imm12.Imm12.Imm12, specs.declared.imm20.Imm20.Imm20}, rv_inst.{specs.Faults.is_out_of_range, specs.Forms.jump_kind, specs.LabelUse.has_veneer_of, specs.Meaning.{Trap, target_exit}}}
+use Rattle.{rv_inst.{specs.Rules.is_fallthrough, specs.declared.inst.CondBrTarget.CondBrTarget, specs.declared.inst.CondBrTarget.TheVariants.{Fallthrough, Label as ToLabel}, specs.declared.label_use.LabelUse.TheVariants.B12}, rv_ops.specs.declared.alu.AluOPRRR.AluOPRRR}
+use Rattle.rv_runs.proofs.Exits.{RunsHere, SlotsOut, comes_out, goes_out, label_out, pieces_out, pieces_trap, same_but, starts_at, starts_beside, writes_beside}
+use Rattle.rv_runs.proofs.Words.{AVirtual, Addi, Environment, Memory, Piece, are_values_set, byte, next, same_set, AimsFrom, AluOPRRI, AluRRImm12, AluRRR, Arrives, Auipc, Base, Bind, ComesOut, CondBr, Decoded, Do, EmitVState, Enters, Exit, Goes, Int, IntCC, SameBut}
+use Rattle.rv_runs.proofs.Words.{IntegerCompare, IrType, IsAt, IsBeside, IsIntRegister, IsUsable, IsaFlags, Jalr, Label, Ld, Leave, Lui, MachLabel, Mov, Next, NotEqual, Op, Part, Real, Reg, Ret, Rri, Same, Site, Slot, StandsIn, State, To, TrapCode, Values, Writable, act}
+use Rattle.rv_runs.proofs.Words.{alu_result_fits, alu_rri, alu_rrr, and_then, at, at_next, between, class_of, compares, complement_of, decoded, evaluate, goes_at_least, goes_none, holds, jalr_acts, jalr_sized, jump_acts, jump_to, least_steps, load_op, load_same, low64}
+use Rattle.rv_runs.proofs.Words.{move_pieces, number_of, plus_none, point, reg, rri_op, set_own, set_reg, short_jalr, short_jump, signed_below, size_of, slots_alone, slots_of, step_at, window_some, wrap}
+use Rattle.std.{proofs.Common.{Bool, List, Some, [], ap, arith, eqb-true, false, if◌then◌else◌, lit<, lit≤, nat_eq, nat_lt, not, pos, refl, subst, sym, true, ℕ, ◌*◌, ◌+◌, ◌/◌, ◌<◌, ◌^◌, ◌∙◌, ◌∷◌, ◌≡◌, ◌≤◌}, proofs.Math.Bool.not-not}
 use Rattle.rv_machine.specs.declared.ops.BaseOp.TheVariants as base
 use Rattle.rv_code.specs.Pieces as piece
 
@@ -34,31 +31,32 @@ pub next_out : {site : Site} {start after : ℕ} {s : State} {v : Values} (d : D
     ComesOut site start after Next [] (set_reg v n x) s
 next_out {site} {start} {after} {s} d n x e some acts usable fits = writes_out Next d (wrap (s.pc + d.len)) n x e some (lit≤ tt) acts (let pc = e.pc in let ends = e.stands.2 in omega arith) (omega arith) usable fits
 
+-- one piece writes a register
+piece_sets : {site : Site} {start after : ℕ} {s : State} {v : Values} (p : Piece) (rd x : ℕ) → rd < 30 → AreInRange (p ∷ []) → next (environment site start after) (p ∷ []) (p ∷ []) s.values [] ≡ Some (point [] (set_reg s.values rd x)) → x < 2 ^ 64 → SlotsOut site start after (slots_of site.context.flags (p ∷ [])) s v [] (set_reg v rd x)
+piece_sets {site} {start} {after} {s} {v} p rd x usable range is fits e =
+    pieces_out (p ∷ []) [] (set_reg v rd x) range e
+    (record { count = 1; values = set_reg s.values rd x; ran = ap (λ o. and_then o (evaluate (environment site start after) 0 (p ∷ []))) is; such = same_but [] (same_set v s.values rd x e.are_values e.is_state.values (omega arith) e.same) })
+    (λ all. are_values_set v rd x e.are_values (omega arith) fits)
+
 -- ---- operations of registers and immediates
 
 pub alu_rrr_runs : (site : Site) (setting : EmitVState) (start after : ℕ) (s : State) (v : Values) (op : AluOPRRR) (rd : Writable Reg) (rs1 rs2 : Reg) → IsUsable rd.reg → IsUsable rs1 → IsUsable rs2 → RunsHere site setting (AluRRR op rd rs1 rs2) start after s v
 alu_rrr_runs site setting start after s v op rd rs1 rs2 h h1 h2 e clear =
     let n = number_of rd.reg in let x = number_of rs1 in let y = number_of rs2 in
-    let d = short_rrr site.context.flags op n x y in
-    next_out d n (alu_rrr op (reg v x) (reg v y)) e (rrr_sized site.context.flags op n x y).some
-    (rrr_acts site.context.flags op n x y s e.is_state ∙ (λ i. Some (at (wrap (s.pc + d.len)) (set_reg s.values n (alu_rrr op (sym (e.same.regs x h1.1) i) (sym (e.same.regs y h2.1) i))))))
-    h.1 (rrr_fits op (reg v x) (reg v y) (e.are_values.fits x) (e.are_values.fits y))
+    piece_sets (Do (Rrr op n x y)) n (alu_rrr op (reg v x) (reg v y)) h.1 (omega (arith, h.1), tt) (λ i. Some (point [] (set_reg s.values n (alu_rrr op (sym (e.same.regs x h1.1) i) (sym (e.same.regs y h2.1) i)))))
+    (rrr_fits op (reg v x) (reg v y) (e.are_values.fits x) (e.are_values.fits y)) e
 
 pub alu_rri_runs : (site : Site) (setting : EmitVState) (start after : ℕ) (s : State) (v : Values) (op : AluOPRRI) (rd : Writable Reg) (rs : Reg) (imm : Imm12) → IsUsable rd.reg → IsUsable rs → is_out_of_range (AluRRImm12 op rd rs imm) ≡ false →
     RunsHere site setting (AluRRImm12 op rd rs imm) start after s v
 alu_rri_runs site setting start after s v op rd rs imm h h1 range e clear =
-    let n = number_of rd.reg in let x = number_of rs in
-    let d = short_rri site.context.flags op n x imm.value in
-    next_out d n (alu_rri op (reg v x) imm.value) e (rri_sized site.context.flags op n x imm.value).some
-    (rri_acts site.context.flags op n x imm.value s range e.is_state ∙ (λ i. Some (at (wrap (s.pc + d.len)) (set_reg s.values n (alu_rri op (sym (e.same.regs x h1.1) i) imm.value)))))
-    h.1 (alu_result_fits (rri_op op) (reg v x) 0 (low64 imm.value) (e.are_values.fits x) (lit< tt) (low64_small imm.value imm.low imm.high))
+    let n = number_of rd.reg in let x = number_of rs in let small = low64_small imm.value imm.low imm.high in
+    piece_sets (Do (Rri op n x imm.value)) n (alu_rri op (reg v x) imm.value) h.1 ((omega (arith, h.1), range, small), tt) (λ i. Some (point [] (set_reg s.values n (alu_rri op (sym (e.same.regs x h1.1) i) imm.value))))
+    (alu_result_fits (rri_op op) (reg v x) 0 (low64 imm.value) (e.are_values.fits x) (lit< tt) small) e
 
 -- ---- upper immediates, moves, and what is dropped
 
 pub lui_runs : (site : Site) (setting : EmitVState) (start after : ℕ) (s : State) (v : Values) (rd : Writable Reg) (imm : Imm20) → IsUsable rd.reg → RunsHere site setting (Lui rd imm) start after s v
-lui_runs site setting start after s v rd imm h e clear =
-    let n = number_of rd.reg in
-    next_out (short_lui site.context.flags n imm.value) n (wrap (low64 imm.value * 2 ^ 12)) e (lui_sized site.context.flags n imm.value).some (lui_acts site.context.flags n imm.value s e.is_state) h.1 (omega arith)
+lui_runs site setting start after s v rd imm h e clear = piece_sets (Do (piece.Lui (number_of rd.reg) imm.value)) (number_of rd.reg) (wrap (low64 imm.value * 2 ^ 12)) h.1 (omega (arith, h.1), tt) refl (omega arith) e
 
 pub auipc_runs : (site : Site) (setting : EmitVState) (start after : ℕ) (s : State) (v : Values) (rd : Writable Reg) (imm : Imm20) → IsUsable rd.reg → RunsHere site setting (Auipc rd imm) start after s v
 auipc_runs site setting start after s v rd imm h e clear =
@@ -75,10 +73,7 @@ int_class (AVirtual class index) h = absurd h
 pub move_out : {site : Site} {start after : ℕ} {s : State} {v : Values} (own : Bool) (rd rs : ℕ) → nat_eq rd rs ≡ own → rd < 30 → rs < 30 → SlotsOut site start after (slots_of site.context.flags (if own then [] else Do (Rri Addi rd rs (pos 0)) ∷ [])) s v [] (set_reg v rd (reg v rs))
 move_out {site} {start} {after} {s} {v} true rd rs test h h1 e = subst (λ (w : Values). ComesOut site start after Next [] w s) (sym (ap (λ n. set_reg v rd (reg v n)) (sym (eqb-true rd rs test)) ∙ set_own v rd)) (nothing_out (let ends = e.stands.2 in omega arith) e)
 move_out {site} {start} {after} {s} {v} false rd rs test h h1 e =
-    let d = short_rri site.context.flags Addi rd rs (pos 0) in
-    next_out d rd (reg v rs) e (rri_sized site.context.flags Addi rd rs (pos 0)).some
-    (rri_acts site.context.flags Addi rd rs (pos 0) s refl e.is_state ∙ (λ i. Some (at (wrap (s.pc + d.len)) (set_reg s.values rd ((plus_none (reg s.values rs) (e.is_state.values.fits rs) ∙ sym (e.same.regs rs h1)) i)))))
-    h (e.are_values.fits rs)
+    piece_sets (Do (Rri Addi rd rs (pos 0))) rd (reg v rs) h ((omega arith, refl, lit< tt), tt) (λ i. Some (point [] (set_reg s.values rd ((plus_none (reg s.values rs) (e.is_state.values.fits rs) ∙ sym (e.same.regs rs h1)) i)))) (e.are_values.fits rs) e
 
 pub mov_runs : (site : Site) (setting : EmitVState) (start after : ℕ) (s : State) (v : Values) (rd : Writable Reg) (rm : Reg) (type : IrType) → IsUsable rd.reg → IsUsable rm → RunsHere site setting (Mov rd rm type) start after s v
 mov_runs site setting start after s v rd rm type h h1 e clear =
@@ -162,39 +157,27 @@ cond_br_runs site setting start after s v kind (ToLabel t) (ToLabel f) h1 h2 aim
 
 -- ---- a trap where a comparison holds
 
-not_not : (b : Bool) → not (not b) ≡ b
-not_not true = refl
-not_not false = refl
-
 pub complement_holds : (k : IntCC) (x y : ℕ) → holds (complement_of k) x y ≡ not (holds k x y)
-complement_holds NotEqual x y = sym (not_not (nat_eq x y))
-complement_holds SignedGreaterThanOrEqual x y = sym (not_not (signed_below x y))
-complement_holds SignedLessThanOrEqual x y = sym (not_not (signed_below y x))
-complement_holds UnsignedGreaterThanOrEqual x y = sym (not_not (nat_lt x y))
-complement_holds UnsignedLessThanOrEqual x y = sym (not_not (nat_lt y x))
+complement_holds NotEqual x y = sym (not-not (nat_eq x y))
+complement_holds SignedGreaterThanOrEqual x y = sym (not-not (signed_below x y))
+complement_holds SignedLessThanOrEqual x y = sym (not-not (signed_below y x))
+complement_holds UnsignedGreaterThanOrEqual x y = sym (not-not (nat_lt x y))
+complement_holds UnsignedLessThanOrEqual x y = sym (not-not (nat_lt y x))
 complement_holds k x y = refl
 
--- the branch over the trap, by whether the comparison holds
-skips : (cmp : IntegerCompare) (c : Bool) (v w : Values) → compares cmp v ≡ c → IsUsable cmp.rs1 → IsUsable cmp.rs2 → Same v w → holds (complement_of cmp.kind) (reg w (number_of cmp.rs1)) (reg w (number_of cmp.rs2)) ≡ not c
-skips cmp c v w test h1 h2 same = complement_holds cmp.kind (reg w (number_of cmp.rs1)) (reg w (number_of cmp.rs2)) ∙ ap not (sym (compares_same cmp v w h1 h2 same) ∙ test)
+-- the branch goes over the trap where the comparison doesn't hold
+trap_if_reaches : {env : Environment} {v w : Values} (cmp : IntegerCompare) (code : TrapCode) (c : Bool) → compares cmp v ≡ c → IsUsable cmp.rs1 → IsUsable cmp.rs2 → Same v w → Reaches env (trap_if_pieces cmp code) (point (trap_if_pieces cmp code) w) (if c then piece.Trap code ∷ Bind 0 ∷ [] else []) (SameBut [] v)
+trap_if_reaches {env} {v} {w} cmp code c test h1 h2 same =
+    let skips = complement_holds cmp.kind (reg w (number_of cmp.rs1)) (reg w (number_of cmp.rs2)) ∙ ap not (sym (compares_same cmp v w h1 h2 same) ∙ test) in
+    let goes = λ (b : Bool). and_then (if b then Some (point [] w) else Some (point (piece.Trap code ∷ Bind 0 ∷ []) w)) (evaluate env 0 (trap_if_pieces cmp code)) in
+    record { count = 2; values = w; ran = ap goes skips ∙ elim c as (λ c. goes (not c) ≡ Some (point (if c then piece.Trap code ∷ Bind 0 ∷ [] else []) w)) [ true ↦ refl | false ↦ refl ]; such = same_but [] same }
 
 pub trap_if_out : {site : Site} {start after : ℕ} {s : State} {v : Values} (cmp : IntegerCompare) (code : TrapCode) (c : Bool) → compares cmp v ≡ c → IsUsable cmp.rs1 → IsUsable cmp.rs2 → Enters site start after (slots_alone (slots_of site.context.flags (trap_if_pieces cmp code))) s v →
     ComesOut site start after (if c then Trap code else Next) [] v s
-trap_if_out {site} {start} {after} {s} {v} cmp code true test h1 h2 e = pieces_trap (trap_if_pieces cmp code) (Bind 0 ∷ []) code [] v tt e
-    (record { count = 2; values = s.values; ran = ap (λ b. and_then (if b then Some (point [] s.values) else Some (point (piece.Trap code ∷ Bind 0 ∷ []) s.values)) (evaluate (environment site start after) 0 (trap_if_pieces cmp code))) (skips cmp true v s.values test h1 h2 e.same); such = same_but [] e.same })
-    (λ fits. e.are_values)
-trap_if_out {site} {start} {after} {s} {v} cmp code false test h1 h2 e = pieces_out (trap_if_pieces cmp code) [] v tt e
-    (record { count = 2; values = s.values; ran = ap (λ b. and_then (if b then Some (point [] s.values) else Some (point (piece.Trap code ∷ Bind 0 ∷ []) s.values)) (evaluate (environment site start after) 0 (trap_if_pieces cmp code))) (skips cmp false v s.values test h1 h2 e.same); such = same_but [] e.same })
-    (λ fits. e.are_values)
+trap_if_out {v = v} cmp code true test h1 h2 e = pieces_trap (trap_if_pieces cmp code) (Bind 0 ∷ []) code [] v tt e (trap_if_reaches cmp code true test h1 h2 e.same) (λ fits. e.are_values)
+trap_if_out {v = v} cmp code false test h1 h2 e = pieces_out (trap_if_pieces cmp code) [] v tt e (trap_if_reaches cmp code false test h1 h2 e.same) (λ fits. e.are_values)
 
 -- Registers that get what stands among the code, or what is distant.
-
--- one piece does it, where the value is the same in the listing's memory
-piece_sets : {site : Site} {start after : ℕ} {s : State} {v : Values} (p : Piece) (rd x : ℕ) → rd < 30 → AreInRange (p ∷ []) → next (environment site start after) (p ∷ []) (p ∷ []) s.values [] ≡ Some (point [] (set_reg s.values rd x)) → x < 2 ^ 64 → SlotsOut site start after (slots_of site.context.flags (p ∷ [])) s v [] (set_reg v rd x)
-piece_sets {site} {start} {after} {s} {v} p rd x usable range is fits e =
-    pieces_out (p ∷ []) [] (set_reg v rd x) range e
-    (record { count = 1; values = set_reg s.values rd x; ran = ap (λ o. and_then o (evaluate (environment site start after) 0 (p ∷ []))) is; such = same_but [] (same_set v s.values rd x e.are_values e.is_state.values (omega arith) e.same) })
-    (λ all. are_values_set v rd x e.are_values (omega arith) fits)
 
 pub literal_out : {site : Site} {start after : ℕ} {s : State} {v : Values} (rd : ℕ) (l : Literal) → rd < 30 → 0 < rd → SlotsOut site start after (slots_of site.context.flags (Constant rd l ∷ [])) s v [] (set_reg v rd (literal_value (environment site start after) l))
 literal_out {site} {start} {after} rd l usable some = piece_sets (Constant rd l) rd (literal_value (environment site start after) l) usable ((some, omega arith), tt) refl (literal_fits (environment site start after) l)
@@ -207,5 +190,4 @@ distant_out {site} {start} {after} {s} {v} rd to usable some e =
   where
     distant_same : (env : Environment) (to : Distant) (m w : Memory) → ((a : ℕ) → byte m a ≡ byte w a) → distant_value env to m ≡ distant_value env to w
     distant_same env (OfSymbol (SlotOf name)) m w same = load_same (load_op Ld) m w (env.slot name.number) same
-    distant_same env (OfSymbol symbol) m w same = refl
     distant_same env to m w same = refl

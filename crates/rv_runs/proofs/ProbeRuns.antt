@@ -1,12 +1,11 @@
 -- The stack is probed, from the farthest guard on.
-use Rattle.std.proofs.Common.{Bool, List, [], ap, arith, eqb-true, false, if◌then◌else◌, length, lit<, nat_lt, not, pos, refl, rules, subst, suc, sym, true, zero, Some, ℕ, ℤ, ⊎_elim, ◌%◌, ◌*◌, ◌++◌, ◌+◌, ◌-◌, ◌<◌, ◌==◌, ◌^◌, ◌∙◌, ◌∷◌, ◌≡◌, ◌≤◌}
-use Rattle.{rv_code.proofs.{Courses.bits_back, Courses.read_low, LineSlots.number_by, MadeOfPieces.probe_places, Operands.IsProbe}, rv_runs.proofs.Exits.{Reaches, Writes, all_same, goes_on, number_reaches, reaches_such, same_but, writes_out}}
-use Rattle.rv_runs.proofs.Words.{AreInRange, AreOutside, AreValues, Bind, ComesOut, Do, Enters, Next, Piece, Rrr, SameBut, Site, State, Values, after}
-use Rattle.rv_runs.proofs.Words.{and_then, are_values_set, cast_signed, count_set, evaluate, low64, lower_of, nat_tests, not_below, point, put_bytes, put_same, put_values, reads_back, reads_other, reads_set, reg, set_reg, slots_alone, slots_of, small_number, spare_set, temporary_set, to, w64, wrap}
-use Rattle.rv_code.specs.{Evaluation.AllOutside, Evaluation.at as points, Pieces.Jump, Pieces.Store, Pieces.number_pieces, Probes.probe_pieces, Probes.probe_turn}
-use Rattle.{rv_inst.specs.Meaning.probes_from, rv_inst.specs.Meaning.probes_of, rv_inst.specs.Meaning.zero_bytes, rv_ops.specs.declared.alu.AluOPRRR.TheVariants.Sub, rv_ops.specs.declared.memory.StoreOP.TheVariants.Sb}
-use Rattle.{rv_code.specs.InstRuns.environment, rv_inst.specs.Meaning.Environment}
-use Rattle.{std.proofs.Math.Nat.mul_comm, std.proofs.lemmas.Bool.lt-ltb, std.proofs.lemmas.Nat.mul-lt}
+use Rattle.rv_code.{proofs.Courses.bits_back, proofs.MadeOfPieces.{number_keeps, probe_places}, proofs.Operands.IsProbe, proofs.Reaching.{Reaches, Writes, goes_on, number_reaches, reaches_such}, specs.Evaluation.{AllOutside, at as points}, specs.InstRuns.environment}
+use Rattle.{rv_code.{specs.Pieces.{Jump, Store, number_pieces}, specs.Probes.{probe_pieces, probe_turn}}, rv_inst.specs.Meaning.{probes_from, probes_of, zero_bytes, Environment}, rv_ops.{specs.declared.alu.AluOPRRR.TheVariants.Sub, specs.declared.memory.StoreOP.TheVariants.Sb}}
+use Rattle.rv_runs.proofs.Exits.{all_same, same_but, writes_out}
+use Rattle.rv_runs.proofs.Words.{AreInRange, AreOutside, AreValues, Bind, ComesOut, Do, Enters, Next, Piece, Rrr, SameBut, Site, State, Values, after, and_then, are_values_set, cast_signed, count_set, evaluate, low64, nat_tests, not_below, point, put_bytes, put_same}
+use Rattle.rv_runs.proofs.Words.{put_values, reads_back, reads_other, reads_set, reg, set_reg, slots_alone, slots_of, small_number, spare_set, temporary_set, to, w64, wrap}
+use Rattle.std.{proofs.Common.{Bool, List, [], ap, arith, eqb-true, false, if◌then◌else◌, length, lit<, nat_lt, not, pos, refl, rules, subst, suc, sym, true, zero, Some, ℕ, ℤ, ◌*◌, ◌++◌, ◌+◌, ◌-◌, ◌<◌, ◌==◌, ◌^◌, ◌∙◌, ◌∷◌, ◌≡◌, ◌≤◌}, proofs.Math.Nat.mul_comm, proofs.lemmas.Bool.lt-ltb}
+use Rattle.std.proofs.lemmas.Nat.{mul-lt}
 
 -- x31 is how far below the stack pointer the next probe is, and a register holds the guard's size; all else is as in these values
 record Holds (tmp guard left : ℕ) (u w : Values) : Type 0 where
@@ -99,7 +98,6 @@ module _ (env : Environment) where
 
   starts : {tmp guard : ℕ} {v : Values} (count : ℕ) (w : Values) → IsProbe tmp → guard < 2 ^ 32 → guard * count < 2 ^ 64 → AreValues w → SameBut [] v w → Reaches env (probe_pieces tmp guard count) (point (probe_pieces tmp guard count) w) (probe_turn tmp) (Holds tmp guard (guard * count) v)
   starts {tmp} {guard} {v} count w h few fits hw same =
-      let whole = probe_pieces tmp guard count in
       let far = cast_signed w64 (guard * count) in
       let loop = Bind 0 ∷ probe_turn tmp in
       let near : wrap (low64 (pos guard)) ≡ guard = (let e = small_number guard (omega arith) in omega arith) in
@@ -110,11 +108,8 @@ module _ (env : Environment) where
 
 -- ---- the whole sequence
 
-lower_fits : (z : ℤ) → low64 (lower_of z) < 2 ^ 64
-lower_fits z = ⊎_elim (λ a. omega (arith, a.0, a.1)) (λ a. omega (arith, a.0, a.1)) (read_low (2 ^ 11) (low64 z % 2 ^ 12) (omega arith) (omega arith))
-
 number_ranges : (rd : ℕ) (z : ℤ) (more : List Piece) → 0 < rd → rd < 32 → AreInRange more → AreInRange (number_pieces rd z ++ more)
-number_ranges rd z more some lt h = number_by (λ ps. AreInRange (ps ++ more)) rd z (λ low. ((lt, refl, lower_fits z), h)) (λ fits none. (lt, h)) (λ fits. (lt, ((lt, refl, lower_fits z), h))) (λ far. ((some, lt), h))
+number_ranges rd z more some lt h = number_keeps AreInRange rd z more (λ a ps ranged k. (ranged lt, k)) (λ n ps k. ((some, lt), k)) h
 
 pub probe_out : {site : Site} {start after : ℕ} {s : State} {v : Values} (tmp guard count : ℕ) → IsProbe tmp → guard < 2 ^ 32 → count < 2 ^ 32 → Enters site start after (slots_alone (slots_of site.context.flags (probe_pieces tmp guard count))) s v →
     AreOutside site.base (length site.bytes) (probes_of (reg v 2) guard count) → ComesOut site start after Next (tmp ∷ []) (zero_bytes v (probes_of (reg v 2) guard count)) s
@@ -122,7 +117,7 @@ probe_out {site} {start} {after} {s} {v} tmp guard count h small few e out =
     let env = environment site start after in
     let all = probes_of (reg v 2) guard count in
     let fits : guard * count < 2 ^ 64 = mul-lt guard count (2 ^ 32) (2 ^ 32) small few in
-    let near = number_ranges tmp (pos guard) (Bind 0 ∷ probe_turn tmp) h.written (omega arith) (lit< tt, (refl, (lit< tt, tt))) in
+    let near = number_ranges tmp (pos guard) (Bind 0 ∷ probe_turn tmp) h.written (omega arith) (lit< tt, (tt, (lit< tt, tt))) in
     writes_out (probe_pieces tmp guard count) (writing all []) (tmp ∷ []) (zero_bytes v all) (number_ranges 31 (cast_signed w64 (guard * count)) _ (lit< tt) (lit< tt) near) (all_outside site all [] out tt) e
     (goes_on (starts env count s.values h small fits e.is_state.values (same_but [] e.same)) (λ w k. probed env count v w h fits k))
     (λ is. zero_values v all e.are_values)

@@ -1,11 +1,11 @@
 -- The bits of a register's bytes are set in reverse order, from the highest bit on.
-use Rattle.std.proofs.Common.{List, Some, [], ap, arith, bit_and, bit_or, false, if◌then◌else◌, int_rem, nat_eq, negsuc, not, pos, refl, rules, subst, suc, sym, zero, ℕ, ◌%◌, ◌*◌, ◌+◌, ◌-◌, ◌/◌, ◌<◌, ◌^◌, ◌∙◌, ◌∷◌, ◌≡◌, ◌≤◌}
-use Rattle.rv_runs.proofs.Words.{Addi, And, AreValues, Bind, Branch, Do, Equal, Or, Piece, Rri, Rrr, SameBut, Site, Slli, Srli, State, Values, alu_rri, alu_rrr, and_comm, and_pow, and_then}
-use Rattle.rv_runs.proofs.Words.{are_values_set, bit_at, bit_at-lt, count_set, evaluate, half_power, ints, low64, nat_tests, none_below, not_zero, point, pow_below, pow_pos, reads_other, reads_set, reg, set_reg, signed64, signed_below, slots_of, small_number, small_shift, temporary_set, wrap}
-use Rattle.rv_code.proofs.ReversedBytes.{Holds, InReversal, IsClear, IsReversal, Reversal, Tests, all_clear, clear_after, mirrored, mirrored_bits, or_plus, place_down, place_first, place_fits, place_of, place_up, same_beside, source_kept, spare_tests, step_set, tmp_set, whole_bytes, written}
-use Rattle.{rv_code.specs.Pieces.Jump, rv_code.specs.Sequences.reverse_down, rv_code.specs.Sequences.reverse_move, rv_code.specs.Sequences.reverse_pieces, rv_code.specs.Sequences.reverse_turn, rv_inst.specs.Bits.reversed_bytes, rv_ops.specs.declared.alu.AluOPRRR.TheVariants.Rem}
-use Rattle.{rv_code.specs.InstRuns.environment, rv_inst.specs.Meaning.Environment}
-use Rattle.rv_runs.proofs.Exits.{Reaches, SlotsOut, goes_on, pieces_out, reaches_such, same_but}
+use Rattle.rv_code.proofs.Reaching.{Reaches, goes_on, reaches_such}
+use Rattle.rv_code.proofs.ReversedBytes.{Holds, InReversal, IsClear, IsReversal, Reversal, Tests, all_clear, clear_after, mirrored, mirrored_bits, or_plus, place_down, place_first, place_fits, place_of, place_up, same_beside, source_kept, spare_tests, step_set, tmp_set}
+use Rattle.{rv_code.{proofs.ReversedBytes.{whole_bytes, written}, specs.InstRuns.environment, specs.Pieces.Jump, specs.Sequences.{reverse_down, reverse_move, reverse_pieces, reverse_turn}}, rv_inst.{specs.Bits.reversed_bytes, specs.Meaning.Environment}}
+use Rattle.{rv_ops.specs.declared.alu.AluOPRRR.TheVariants.Rem, rv_runs.{proofs.CountRuns.to_highest, proofs.Exits.{SlotsOut, pieces_out, same_but}}}
+use Rattle.rv_runs.proofs.Words.{Addi, And, AreValues, Bind, Branch, Do, Equal, Or, Piece, Rri, Rrr, SameBut, Site, Slli, Srli, State, Values, alu_rri, alu_rrr, and_comm, and_pow, and_then, are_values_set, bit_at, bit_at-lt, count_set, evaluate, half_power, ints, low64}
+use Rattle.rv_runs.proofs.Words.{nat_tests, none_below, not_zero, point, pow_pos, reads_other, reads_set, reg, set_reg, signed64, signed_below, slots_of, small_number, small_shift, temporary_set, wrap}
+use Rattle.std.proofs.Common.{List, Some, [], ap, arith, bit_and, bit_or, false, if◌then◌else◌, int_rem, nat_eq, negsuc, not, pos, refl, rules, subst, suc, zero, ℕ, ◌%◌, ◌*◌, ◌+◌, ◌-◌, ◌/◌, ◌<◌, ◌^◌, ◌∙◌, ◌∷◌, ◌≡◌, ◌≤◌}
 
 abbrev whole_of : Reversal → List Piece
 whole_of c = reverse_pieces c.rd c.tmp c.tmp2 c.step c.rs c.bits
@@ -49,11 +49,7 @@ module _ (env : Environment) where
   starts {c} {v} w h hw others =
       let full : alu_rri Addi 0 (pos c.bits) ≡ c.bits = omega (arith, ints) in
       goes_on {Such = InReversal c c.bits 1 (reg w c.tmp2) 0 v} (record { count = 8; values = set_reg (set_reg (set_reg w c.rd 0) c.step (alu_rri Addi 0 (pos c.bits))) c.tmp 1; ran = refl; such = search (rules, reads_other, reads_set, count_set, hw, h, temporary_set, others, full) }) (λ w3 k3.
-      let amount : low64 (pos (c.bits - 1)) % 64 ≡ c.bits - 1 = omega (arith, ints) in
-      let power = pow_below (c.bits - 1) 64 (omega arith) in
-      let bits : suc (c.bits - 1) ≡ c.bits = omega arith in
-      let half : 2 ^ (c.bits - 1) ≡ 2 ^ c.bits / 2 = sym (half_power (c.bits - 1)) ∙ ap (λ k. 2 ^ k / 2) bits in
-      let highest : alu_rri Slli (reg w3 c.tmp) (pos (c.bits - 1)) ≡ 2 ^ c.bits / 2 = (λ i. wrap (k3.holds.tmp i * 2 ^ amount i)) ∙ omega arith in
+      let highest = to_highest (reg w3 c.tmp) c.bits k3.holds.tmp (omega arith) h.few in
       goes_on {Such = InReversal c c.bits (2 ^ c.bits / 2) (reg w c.tmp2) 0 v} (record { count = 1; values = set_reg w3 c.tmp (alu_rri Slli (reg w3 c.tmp) (pos (c.bits - 1))); ran = refl; such = search (rules, reads_other, reads_set, count_set, k3, h, temporary_set, highest) }) (λ w4 k4.
       goes_on {Such = InReversal c c.bits (2 ^ c.bits / 2) 1 0 v} (record { count = 1; values = set_reg w4 c.tmp2 1; ran = refl; such = search (rules, reads_other, reads_set, count_set, k4, h, temporary_set) }) (λ w5 k5.
       let amount2 : low64 (pos (c.bits - 8)) % 64 ≡ c.bits - 8 = omega (arith, ints) in

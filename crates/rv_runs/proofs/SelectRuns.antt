@@ -1,12 +1,11 @@
 -- Of integer registers, one of two values is chosen, and the low bits are extended.
-use Rattle.{rv_code.specs.InstRuns.environment, rv_runs.proofs.Words.{Andi, AreInRange}}
+use Rattle.{rv_code.{proofs.Operands.none_of_both, proofs.Reaching.{Reaches, goes_on, reaches_such}, specs.InstRuns.environment}, rv_full.specs.View.zero_units, rv_inst.{specs.Bits.extended, specs.Meaning.set_regs, specs.Operands.inst_registers, specs.Rules.{is_beyond, is_other_class}}}
+use Rattle.{rv_inst.specs.Sizes.right_shift, rv_ops.specs.Operations.{immediate_of, shift_limit}, rv_runs.{proofs.Exits.{RunsHere, SlotsOut, pieces_out, same_but}, proofs.FullChoices.{AreAllowed, choice_comes, choice_range, chosen_fits, chosen_same, is_fair, order_of, ordered}}}
+use Rattle.rv_runs.proofs.Words.{Andi, AreInRange, AreValues, ComesOut, Do, EmitVState, Enters, FullValues, Int, Keeps, Next, Piece, Reg, Rri, Same, SameBut, Select, SelectInfo, Site, Slli, State, Values, all_of, alu_result_fits, alu_rri, and_then, are_values_set, chosen}
+use Rattle.rv_runs.proofs.Words.{class_of, compares, evaluate, extend_pieces, ints, is_byte, is_int_class, list_any, low64, nat_tests, number_of, or_parts, point, pow_pos, put_all, put_in, reads_back, reg, rri_op, same_set, set_reg, set_twice, signed, signed64}
+use Rattle.rv_runs.proofs.Words.{slots_alone, slots_of, small_shift, value_in, value_of, wrap, written_in}
 use Rattle.std.proofs.Common.{Bool, List, [], ap, arith, eqb-true, false, if◌then◌else◌, lit<, map, mod-lt, mul-le-mul, nat_lt, negsuc, not, pos, refl, subst, suc, sym, true, zero, ℕ, ◌%◌, ◌*◌, ◌++◌, ◌+◌, ◌-◌, ◌/◌, ◌<◌, ◌^◌, ◌∙◌, ◌∷◌, ◌≡◌, ◌≤◌}
-use Rattle.rv_runs.proofs.Words.{AreValues, ComesOut, Do, EmitVState, Enters, FullValues, Int, Keeps, Next, Piece, Reg, Rri, Same, SameBut, Select, SelectInfo, Site, Slli, State, Values, all_of, alu_result_fits, alu_rri, and_then, are_values_set, chosen, class_of, compares, evaluate, extend_pieces}
-use Rattle.rv_runs.proofs.Words.{ints, is_byte, is_int_class, list_any, low64, nat_tests, number_of, or_parts, point, pow_pos, put_all, put_in, reads_back, reg, rri_op, same_set, set_reg, set_twice, signed, signed64, slots_alone, slots_of, small_shift, value_in, value_of, wrap, written_in}
-use Rattle.{rv_code.proofs.Operands.none_of_both, rv_full.specs.View.zero_units, rv_inst.specs.Bits.extended, rv_inst.specs.Meaning.set_regs, rv_inst.specs.Operands.inst_registers}
-use Rattle.{rv_inst.specs.Rules.is_beyond, rv_inst.specs.Rules.is_other_class, rv_inst.specs.Sizes.right_shift, rv_ops.specs.Operations.immediate_of, rv_ops.specs.Operations.shift_limit, rv_runs.proofs.Exits.Reaches, rv_runs.proofs.Exits.RunsHere, rv_runs.proofs.Exits.SlotsOut}
-use Rattle.rv_runs.proofs.{Exits.goes_on, Exits.pieces_out, Exits.reaches_such, Exits.same_but, FullChoices.AreAllowed, FullChoices.choice_comes, FullChoices.choice_range, FullChoices.chosen_fits, FullChoices.chosen_same, FullChoices.is_fair, FullChoices.order_of, FullChoices.ordered}
-use Rattle.std.{proofs.Math.Nat.mul-div_cancel, proofs.Math.Nat.mul-mod_left, proofs.Math.Nat.mul_assoc, proofs.Math.Nat.pow-suc, proofs.lemmas.Int.to_z-of_z, proofs.lemmas.Nat.and_mask, proofs.lemmas.Nat.div-mul-add, proofs.lemmas.Nat.mod-pow-add, proofs.lemmas.Nat.pow-add, specs.Int.Signed.shr_z}
+use Rattle.std.{proofs.Math.Nat.{mul-div_cancel, mul-mod_left, mul_assoc, pow-suc}, proofs.lemmas.Int.to_z-of_z, proofs.lemmas.Nat.{and_mask, div-mul-add, mod-pow-add, pow-add}, specs.Int.Signed.shr_z}
 use mir.Syntax.{w64}
 
 -- One of two values is chosen.
@@ -28,9 +27,8 @@ ints_read : (v : FullValues) (rs : List Reg) → AreOfInt rs → map (value_of v
 ints_read v [] ints = refl
 ints_read v (r ∷ rs) ints = λ i. value_in (ints.0 i) v (number_of r) ∷ ints_read v rs ints.1 i
 
-ints_chosen : (v : FullValues) (c : Bool) (rds xs ys : List Reg) → AreOfInt rds → AreOfInt xs → AreOfInt ys → (put_all v rds (map (value_of v) (if c then xs else ys))).ints ≡ set_regs v.ints (map number_of rds) (map (λ (r : Reg). reg v.ints (number_of r)) (if c then xs else ys))
-ints_chosen v true rds xs ys ints first second = ints_put v rds (map (value_of v) xs) ints ∙ ap (set_regs v.ints (map number_of rds)) (ints_read v xs first)
-ints_chosen v false rds xs ys ints first second = ints_put v rds (map (value_of v) ys) ints ∙ ap (set_regs v.ints (map number_of rds)) (ints_read v ys second)
+ints_moved : (v : FullValues) (rds rs : List Reg) → AreOfInt rds → AreOfInt rs → (put_all v rds (map (value_of v) rs)).ints ≡ set_regs v.ints (map number_of rds) (map (λ (r : Reg). reg v.ints (number_of r)) rs)
+ints_moved v rds rs ints read = ints_put v rds (map (value_of v) rs) ints ∙ ap (set_regs v.ints (map number_of rds)) (ints_read v rs read)
 
 -- ---- the instruction
 
@@ -49,7 +47,7 @@ select_runs site setting start after s v info placed k e clear =
     let comes : Reaches (environment site start after) whole (point whole s.values) [] (λ t. t ≡ (chosen info w).ints) = choice_comes info h (environment site start after) (λ c. c ≡ Int) (λ ps r. Reaches (environment site start after) whole (point ps r.ints) [] (λ t. t ≡ (chosen info w).ints))
     (λ ps qs r z step on. goes_on {Such = λ t. t ≡ z} (record { count = 1; values = z; ran = ap (λ q. and_then q (evaluate (environment site start after) 0 whole)) step; such = refl }) (λ t is. subst (λ t. Reaches (environment site start after) whole (point qs t) [] (λ t. t ≡ (chosen info w).ints)) (sym is) on))
     (λ rd rs ps r none on. absurd (cc)) w ints e.is_state.values (record { count = 0; values = (chosen info w).ints; ran = refl; such = refl }) in
-    subst (λ r. ComesOut site start after Next [] r s) (ints_chosen u (compares info.condition v) rds (all_of info.x) (all_of info.y) ints (are_of_int inputs parts.1).1.1 (are_of_int (all_of info.y) both.1))
+    subst (λ r. ComesOut site start after Next [] r s) (ints_moved u rds _ ints (elim (compares info.condition v) as (λ c. AreOfInt (if c then all_of info.x else all_of info.y)) [ true ↦ (are_of_int inputs parts.1).1.1 | false ↦ are_of_int (all_of info.y) both.1 ]))
     (pieces_out whole [] (chosen info u).ints (choice_range rds o.first o.second o.how _ _) (subst (λ ps. Enters site start after (slots_alone (slots_of site.context.flags ps)) s v) o.pieces e)
     (reaches_such (λ t is. subst (SameBut [] (chosen info u).ints) (sym is) (same_but [] (chosen_same info h u w e.are_values e.is_state.values (record { ints = e.same; units = refl })).ints)) comes) (λ all. chosen_fits info h u e.are_values))
 

@@ -1,24 +1,14 @@
 -- A branch by a table goes to the label of the index, or to the default.
-use Rattle.std.proofs.Common.{Bool, List, None, Some, [], ap, arith, false, if◌then◌else◌, length, lit<, lt-ltb, map, nat_eq, nat_lt, pos, refl, rules, slice_get, subst, suc, sym, true, unwrap_or, zero, ℕ, ◌*◌, ◌++◌, ◌+◌, ◌/◌, ◌<◌, ◌^◌, ◌||◌, ◌∙◌, ◌∷◌, ◌≡◌, ◌≤◌}
-use Rattle.rv_runs.proofs.Words.{AimsFrom, AreShort, AreValues, Ask, Base, Comes, ComesOut, Decoded, Enters, HasSize, InCourse, IsAs, IsAt, IsBeside, Label}
-use Rattle.rv_runs.proofs.Words.{MachLabel, Op, Same, SameBut, Site, Slli, Slots, Srli, StandsIn, State, To, Values, act, address_sums, are_values_set, at, between, code_after, comes_on, course_before, decoded, decoded_jalr, equals_itself, extend_pieces, goes_ahead, goes_first, goes_second, ints}
-use Rattle.rv_runs.proofs.Words.{is_among, low64, low_word, lower_of, not_below, number_comes, number_slots, reads_back, reads_other, reg, same_Some, set_at, set_reg, short_rri, size_append, size_of, slots_of, small_number, spare_set, stands_split, step_at, temporary_set, upper_of, wrap, writes}
-use Rattle.rv_code.{proofs.Courses.rri_writes, proofs.LongSlots.jumps_long, proofs.Operands.IsTable, proofs.Registers.or_true, proofs.Steps.lands, specs.InstParts.table_slots, specs.Tables.bound_op, specs.Tables.enter_ops, specs.Tables.far_jump, specs.Tables.jump_slots}
-use Rattle.{rv_encode.specs.Operations.decoded_rri, rv_encode.specs.Operations.decoded_rrr, rv_inst.specs.Meaning.table_exit, rv_inst.specs.declared.label_use.LabelUse.TheVariants.PCRel32, rv_ops.specs.declared.alu.AluOPRRR.TheVariants.Add, rv_runs.proofs.CallRuns.entered}
-use Rattle.{rv_runs.proofs.CallRuns.gap_comes, rv_runs.proofs.Exits.all_same, rv_runs.proofs.Exits.goes_out, rv_runs.proofs.Exits.label_out, rv_runs.proofs.Exits.same_but, rv_runs.proofs.PlainRuns.moved_beside, std.proofs.lemmas.Option.slice_get_cases, std.proofs.lemmas.Option.slice_get_within}
+use Rattle.{rv_code.proofs.LongSlots.jumps_long, rv_code.proofs.Operands.IsTable, rv_code.proofs.Reaching.pieces_come, rv_code.proofs.Steps.aims_at, rv_code.specs.InstParts.table_slots, rv_code.specs.Tables.{bound_op, enter_ops, far_jump, jump_slots}, rv_encode.specs.Operations.{decoded_rri, decoded_rrr}}
+use Rattle.{rv_inst.{specs.Meaning.table_exit, specs.declared.label_use.LabelUse.TheVariants.PCRel32}, rv_ops.specs.declared.alu.AluOPRRR.TheVariants.Add, rv_runs.{proofs.CallRuns.{upper_sum, way_goes, way_words, entered, gap_comes}, proofs.Exits.{all_same, goes_out, label_out, same_but}}}
+use Rattle.rv_runs.proofs.Words.{AimsFrom, AreShort, AreValues, Ask, Base, Comes, ComesOut, Decoded, Enters, HasSize, InCourse, IsAs, IsAt, IsBeside, Label, MachLabel, Op, Same, SameBut, Site, Slli, Slots, StandsIn, State, To, Values, act, are_values_set}
+use Rattle.rv_runs.proofs.Words.{nat_tests, Goes, at, between, comes_on, course_before, decoded, extend_pieces, goes_ahead, goes_second, ints, is_among, low64, low_word, not_below, number_comes, number_slots, reads_back}
+use Rattle.rv_runs.proofs.Words.{reads_other, reg, same_Some, set_reg, size_append, size_of, slots_of, small_number, spare_set, stands_split, step_at, temporary_set, wrap, writes}
+use Rattle.std.proofs.Common.{Bool, List, None, Some, [], ap, arith, false, if◌then◌else◌, length, lit<, lt-ltb, map, nat_lt, pos, refl, rules, slice_get, subst, suc, sym, true, unwrap_or, zero, ℕ, ◌*◌, ◌++◌, ◌+◌, ◌/◌, ◌<◌, ◌^◌, ◌∙◌, ◌∷◌, ◌≡◌, ◌≤◌, lit≤}
+use Rattle.std.proofs.lemmas.Option.{slice_get_cases, slice_get_within}
 use Rattle.rv_machine.specs.declared.ops.BaseOp.TheVariants as base
 
 -- ---- registers
-
-first_among : (m n : ℕ) → is_among (m ∷ n ∷ []) m ≡ true
-first_among m n = (λ i. equals_itself m i || (nat_eq n m || false))
-
-second_among : (m n : ℕ) → is_among (m ∷ n ∷ []) n ≡ true
-second_among m n = (λ i. nat_eq m n || (equals_itself n i || false)) ∙ or_true (nat_eq m n)
-
--- a temporary is written
-beside_temporary : {site : Site} {free : List ℕ} {v : Values} {s : State} (pc n x : ℕ) → is_among free n ≡ true → n < 32 → pc < 2 ^ 64 → x < 2 ^ 64 → IsBeside site free v s → IsBeside site free v (at pc (set_reg s.values n x))
-beside_temporary {v = v} {s = s} pc n x among lt fits_pc fits b = search (rules, temporary_set, are_values_set, b)
 
 -- x31 holds the index, and all but temporaries is as in these values; a temporary holds how many labels there are, or an address
 record Indexed (tmp1 tmp2 x : ℕ) (v w : Values) : Type 0 where
@@ -34,33 +24,26 @@ record Counts (tmp1 tmp2 x tmp n : ℕ) (v w : Values) : Type 0 where
 
 -- it comes to its label's place, and changes its temporary alone
 far_out : {site : Site} {start after offset allocated : ℕ} {free : List ℕ} {v : Values} {s : State} (tmp : ℕ) (label : MachLabel) → AreShort site → is_among free tmp ≡ true → 0 < tmp → tmp < 30 → IsAt site offset 8 s →
-    (a : AimsFrom site allocated offset PCRel32 (Label label) (λ d. decoded (Base base.Auipc) tmp 0 0 (upper_of d) ∷ decoded_jalr 0 tmp (lower_of d) ∷ [])) → IsBeside site free v s → ComesOut site start after (To label.number) free v s
+    (a : AimsFrom site allocated offset PCRel32 (Label label) (way_words 0 tmp)) → IsBeside site free v s → ComesOut site start after (To label.number) free v s
 far_out {site} {offset = offset} {s = s} tmp label within among some usable h a b =
     let d = between offset a.to in
-    let first = decoded (Base base.Auipc) tmp 0 0 (upper_of d) in
-    let second = decoded_jalr 0 tmp (lower_of d) in
-    let x = wrap (s.pc + low64 (upper_of d) * 2 ^ 12) in
-    let s1 = at (wrap (s.pc + 4)) (set_reg s.values tmp x) in
-    let h1 : IsAt site (offset + 4) 4 s1 = set_at 4 tmp x h refl in
+    let x = upper_sum s.pc d in
     let le = within.labels label.number a.to a.reaches.0 in
-    let lands_at : wrap (reg s1.values tmp + low64 (lower_of d)) / 2 * 2 ≡ wrap (site.base + a.to) =
-    (λ i. wrap ((reads_back s.values tmp x b.is_state.values some (omega arith)) i + low64 (lower_of d)) / 2 * 2) ∙ (λ i. wrap (wrap (h.pc i + low64 (upper_of d) * 2 ^ 12) + low64 (lower_of d)) / 2 * 2)
-    ∙ ap (λ n. n / 2 * 2) (address_sums (wrap (site.base + offset)) d (grind (arith, ints)) ∙ lands site.base offset a.to (omega arith)) ∙ (let aligned = h.placed.aligned in let even = a.reaches.1 in omega arith) in
-    let s2 = at (wrap (site.base + a.to)) s1.values in
-    label_out false label a.to s2 a.reaches
-    (goes_first (step_at first (second ∷ []) s1 h (omega arith) a.has refl) (step_at second [] s2 h1 (omega arith) (code_after site offset first (second ∷ []) a.has) (λ i. Some (at (lands_at i) s1.values))))
-    refl (moved_beside (wrap (site.base + a.to)) (omega arith) (beside_temporary (wrap (s.pc + 4)) tmp x among (omega arith) (omega arith) (omega arith) b))
+    let short = within.short in
+    let there : wrap (s.pc + low64 d) / 2 * 2 ≡ wrap (site.base + a.to) = ap (λ n. n / 2 * 2) (aims_at a.to h (lit< tt)) ∙ (let aligned = h.placed.aligned in let even = a.reaches.1 in omega arith) in
+    label_out false label a.to (at (wrap (site.base + a.to)) (set_reg s.values tmp x)) a.reaches (subst (λ pc. Goes site.context.flags 1 s (at pc (set_reg s.values tmp x))) there (way_goes 0 tmp d (grind (arith, ints)) some (omega arith) b.is_state h a.has))
+    refl (search (rules, arith, temporary_set, are_values_set, among, b))
 
 -- that of an index stands so many times eight bytes on
-far_at : {site : Site} {allocated : ℕ} (tmp offset index : ℕ) (labels : List MachLabel) (label : MachLabel) → slice_get labels index ≡ Some label → StandsIn site allocated offset (map (far_jump tmp) labels) → AimsFrom site allocated (offset + 8 * index) PCRel32 (Label label) (λ d. decoded (Base base.Auipc) tmp 0 0 (upper_of d) ∷ decoded_jalr 0 tmp (lower_of d) ∷ [])
+far_at : {site : Site} {allocated : ℕ} (tmp offset index : ℕ) (labels : List MachLabel) (label : MachLabel) → slice_get labels index ≡ Some label → StandsIn site allocated offset (map (far_jump tmp) labels) → AimsFrom site allocated (offset + 8 * index) PCRel32 (Label label) (way_words 0 tmp)
 far_at tmp offset index [] label e stands = absurd (cc)
 far_at {site} {allocated} tmp offset zero (first ∷ labels) label e stands =
     let here : offset ≡ offset + 8 * 0 = omega arith in
-    subst (λ n. AimsFrom site allocated n PCRel32 (Label label) (λ d. decoded (Base base.Auipc) tmp 0 0 (upper_of d) ∷ decoded_jalr 0 tmp (lower_of d) ∷ [])) here
-    (subst (λ l. AimsFrom site allocated offset PCRel32 (Label l) (λ d. decoded (Base base.Auipc) tmp 0 0 (upper_of d) ∷ decoded_jalr 0 tmp (lower_of d) ∷ [])) (same_Some first label e) stands.0)
+    subst (λ n. AimsFrom site allocated n PCRel32 (Label label) (way_words 0 tmp)) here
+    (subst (λ l. AimsFrom site allocated offset PCRel32 (Label l) (way_words 0 tmp)) (same_Some first label e) stands.0)
 far_at {site} {allocated} tmp offset (suc index) (first ∷ labels) label e stands =
     let there : offset + 8 + 8 * index ≡ offset + 8 * suc index = omega arith in
-    subst (λ n. AimsFrom site allocated n PCRel32 (Label label) (λ d. decoded (Base base.Auipc) tmp 0 0 (upper_of d) ∷ decoded_jalr 0 tmp (lower_of d) ∷ [])) there
+    subst (λ n. AimsFrom site allocated n PCRel32 (Label label) (way_words 0 tmp)) there
     (far_at tmp (offset + 8) index labels label e stands.1)
 
 -- ---- the jump into the table
@@ -70,8 +53,8 @@ entered_out : {site : Site} {start after offset : ℕ} {v : Values} {s : State} 
     StandsIn site allocated offset (map Op (enter_ops tmp1 tmp2) ++ map (far_jump tmp2) labels) → InCourse site offset (16 + 8 * length labels) (Indexed tmp1 tmp2 index v) s → ComesOut site start after (To label.number) (tmp1 ∷ tmp2 ∷ []) v s
 entered_out {site} {offset = offset} {v} {s} allocated source tmp1 tmp2 index labels label within r few e stands k =
     let below = slice_get_within labels index label e in
-    let among1 = first_among tmp1 tmp2 in
-    let among2 = second_among tmp1 tmp2 in
+    let among1 : is_among (tmp1 ∷ tmp2 ∷ []) tmp1 ≡ true = grind (arith, nat_tests) in
+    let among2 : is_among (tmp1 ∷ tmp2 ∷ []) tmp2 ≡ true = grind (arith, nat_tests) in
     let sized : (d : Decoded) → d.len ≡ 4 → HasSize d = λ d four. record { even = omega arith; some = omega arith; few = omega arith } in
     let p = wrap (s.pc + low64 (pos 0) * 2 ^ 12) in
     let y = 8 * index in
@@ -101,7 +84,7 @@ jumps_out {site} {start} {after} {offset} {v} {s} allocated source tmp1 tmp2 ind
     (elim (slice_get labels index) as (λ found. slice_get labels index ≡ found → ComesOut site start after (To (unwrap_or found default).number) (tmp1 ∷ tmp2 ∷ []) v s) [
       | None ↦ λ e.
           let c = goes_ahead (bound_op tmp2) 4 (offset + 4) 8 stands.0 (acts false (not_below index (length labels) (past e))) refl refl (omega arith) (omega arith) k in
-          goes_out c.goes (far_out tmp2 default within (second_among tmp1 tmp2) r.tmp2_written r.tmp2_usable c.course.here stands.1.0 (search (rules, c.course)))
+          goes_out c.goes (far_out tmp2 default within (grind (arith, nat_tests)) r.tmp2_written r.tmp2_usable c.course.here stands.1.0 (search (rules, c.course)))
       | Some label ↦ λ e.
           let c = goes_ahead (bound_op tmp2) 12 (offset + 4 + 8) (16 + 8 * length labels) stands.0 (acts true (lt-ltb index (length labels) (slice_get_within labels index label e))) (omega arith) refl (omega arith) (omega arith) k in
           goes_out c.goes (entered_out allocated source tmp1 tmp2 index labels label within r few e stands.1.1 (record { here = c.course.here; is_state = c.course.is_state; values = c.course.values.now }))
@@ -111,15 +94,14 @@ jumps_out {site} {start} {after} {offset} {v} {s} allocated source tmp1 tmp2 ind
 
 extend_comes : {site : Site} {offset size : ℕ} {v : Values} {s : State} (allocated source tmp1 tmp2 : ℕ) → source < 30 → StandsIn site allocated offset (slots_of site.context.flags (extend_pieces 31 source false 32)) → InCourse site offset (size_of (slots_of site.context.flags (extend_pieces 31 source false 32)) + size) (IsAs v) s →
     Comes site (offset + size_of (slots_of site.context.flags (extend_pieces 31 source false 32))) size (Indexed tmp1 tmp2 (low_word (reg v source)) v) s
-extend_comes {site} {offset} {size} {v} {s} allocated source tmp1 tmp2 usable stands k =
-    let up = short_rri site.context.flags Slli 31 source (pos 32) in
-    let down = short_rri site.context.flags Srli 31 31 (pos 32) in
-    let u = wrap (reg v source * 2 ^ 32) in
-    let there : offset + up.len + down.len ≡ offset + (up.len + (down.len + 0)) = omega arith in
+extend_comes {site} {v = v} {s} allocated source tmp1 tmp2 usable stands k =
     let same : Same v s.values = all_same k.values.same in
-    subst (λ m. Comes site m size (Indexed tmp1 tmp2 (low_word (reg v source)) v) s) there
-    (comes_on (rri_writes (Indexed tmp1 tmp2 u v) Slli 31 source (pos 32) u refl stands.0 (λ i. wrap (sym (same.regs source usable) i * 2 ^ 32)) (lit< tt) (omega arith) (course_before (up.len + (down.len + size)) k (omega arith)) (search (rules, arith, reads_back, spare_set, same_but, same, k)))
-    (λ t k1. rri_writes (Indexed tmp1 tmp2 (low_word (reg v source)) v) Srli 31 31 (pos 32) (low_word (reg v source)) refl stands.1.0 (ap (λ m. m / 2 ^ 32) k1.values.index ∙ omega arith) (lit< tt) (omega arith) k1 (search (rules, arith, reads_back, spare_set, k1))))
+    let u = set_reg s.values 31 (wrap (reg s.values source * 2 ^ 32)) in
+    let x = reg u 31 / 2 ^ 32 in
+    let low : x ≡ low_word (reg v source) = ap (λ m. m / 2 ^ 32) (reads_back s.values 31 (wrap (reg s.values source * 2 ^ 32)) k.is_state.values (lit< tt) (lit< tt) ∙ (λ i. wrap (sym (same.regs source usable) i * 2 ^ 32))) ∙ omega arith in
+    let held = are_values_set s.values 31 (wrap (reg s.values source * 2 ^ 32)) k.is_state.values (lit< tt) (omega arith) in
+    pieces_come (Indexed tmp1 tmp2 (low_word (reg v source)) v) allocated (extend_pieces 31 source false 32) ((lit< tt, refl, lit< tt), ((lit< tt, refl, lit< tt), tt)) tt stands
+    (record { count = 2; values = set_reg u 31 x; ran = refl; such = record { index = reads_back u 31 x held (lit< tt) (lit< tt) ∙ low; same = spare_set v u 31 x (lit≤ tt) (spare_set v s.values 31 (wrap (reg s.values source * 2 ^ 32)) (lit≤ tt) (same_but (tmp1 ∷ tmp2 ∷ []) same)); are_values = k.values.are_values } }) k
 
 -- ---- the whole sequence
 
@@ -137,8 +119,9 @@ table_out {site} {start} {after} {s} {v} space index tmp1 tmp2 default labels r 
     let jump_long = jumps_long tmp1 tmp2 default labels in
     let first = stands_split site allocated e.stands.0 extend (number ++ jumps) e.stands.2.1 in
     let second = stands_split site allocated (e.stands.0 + size_of extend) number jumps first.1 in
+    let among : is_among (tmp1 ∷ tmp2 ∷ []) tmp2 ≡ true = grind (arith, nat_tests) in
     let value : wrap (low64 (pos n)) ≡ n = (let l = small_number n (omega arith) in omega arith) in
     let c = comes_on (gap_comes {size = size_of extend + (size_of number + (28 + 8 * n))} e.stands.1 (omega arith) (entered e (omega arith))) (λ t0 k0.
     comes_on (extend_comes allocated index tmp1 tmp2 r.index_usable first.0 k0) (λ t1 k1.
-    number_comes (Counts tmp1 tmp2 x tmp2 n v) allocated tmp2 n (pos n) r.tmp2_written (omega arith) value second.0 k1 (search (rules, arith, reads_other, reads_back, temporary_set, (second_among tmp1 tmp2), k1, r)))) in
+    number_comes (Counts tmp1 tmp2 x tmp2 n v) allocated tmp2 n (pos n) r.tmp2_written (omega arith) value second.0 k1 (search (rules, arith, reads_other, reads_back, temporary_set, among, k1, r)))) in
     goes_out c.goes (jumps_out allocated index tmp1 tmp2 x default labels (record { short = e.short; labels = e.labels }) r (omega arith) second.1 c.course)

@@ -1,19 +1,16 @@
 -- What the machine with all units does at an operation of a unit, and which instructions are one.
-use Rattle.std.proofs.Common.{Bool, FitsSigned, List, None, Option, Some, T, [], ap, arith, false, if◌then◌else◌, inl, inr, leb, length, lt_of_le_of_lt, nat_eq, refl, rules, slice_index, slice_set, subst, sym, true, unwrap_or, w16, w32, w64, ℕ, ◌%◌, ◌+◌, ◌-◌, ◌<◌, ◌^◌, ◌∙◌, ◌∷◌, ◌≡◌, ◌⊎◌}
-use Rattle.rv_runs.proofs.Words.{AllByRecursion}
-use Rattle.rv_runs.proofs.Words.{Answer, AnswerFits, AreUnits, AreUsableIn, AreValues, CodeHas, Context, D, Decoded, Does, EmitVState, FloatFormat, FullState, FullValues, H, Inst, IsAt, IsUsableIn, IsaFlags, Nop0, Row, RowAsks, RowGoes, RowsAgree, S, SameFull, Sign, Site, State, Units}
-use Rattle.rv_runs.proofs.Words.{act, are_values_set, boxed, cast_signed, decodes_at, extended, fiter_after, fiter_none, format_of, freg, full_at, inputs_of, ints, low64, low_part, number_of, number_row, or_lt, parts_of, put_f, put_units, row_next, same_set, set_freg, unit_row, values_of, wrap}
-use Rattle.rv_code.specs.{InstParts.unit_parts, UnitRuns.Agree, UnitRuns.IsUsableCsr, UnitRuns.IsUsableShape, UnitRuns.IsUsableSource, UnitRuns.IsUsableTarget}
-use Rattle.{rv_encode.specs.Operations.decoded_csr_imm, rv_encode.specs.Operations.decoded_csr_reg, rv_full.specs.Atomics.csr_result, rv_full.specs.Atomics.csr_row, rv_full.specs.Floats.float_shape, rv_full.specs.Floats.is_move}
-use Rattle.rv_full.specs.{Floats.put_number, Floats.shape_row, Rows.Absent, Rows.OneNumber, Rows.Takes, Rows.bits_of, Rows.entry_of, Rows.fits, Rows.noted, Rows.x_of, Steps.Asks, Steps.Goes, Steps.Halts, Steps.fiter, Steps.fnext, Steps.next_by, Steps.stepped, Steps.unit_on, Units.set_frm}
-use Rattle.rv_full.specs.declared.{answer.Answer.TheVariants.Bits, shapes.FloatShape.FloatShape, shapes.FloatShape.TheVariants.Answered, shapes.FloatShape.TheVariants.ToFloat, shapes.FloatShape.TheVariants.ToInteger, shapes.Sources.Sources, shapes.Target.Target}
-use Rattle.rv_inst.specs.{Descriptions.UnitWord, Descriptions.unit_word, declared.inst.Inst.TheVariants.CsrImm, declared.inst.Inst.TheVariants.CsrReg, declared.inst.Inst.TheVariants.Fli, declared.inst.Inst.TheVariants.FpuRR, declared.inst.Inst.TheVariants.FpuRRR, declared.inst.Inst.TheVariants.FpuRRRR}
-use Rattle.{rv_inst.specs.declared.units.PlacedReg.PlacedReg, rv_machine.proofs.UnitOperations.same_step, rv_machine.specs.Steps.step_on}
-use Rattle.rv_machine.specs.declared.ops.{CsrOp.CsrOp, CsrOp.TheVariants.Csrrc, CsrOp.TheVariants.Csrrci, CsrOp.TheVariants.Csrrs, CsrOp.TheVariants.Csrrsi, CsrOp.TheVariants.Csrrw, CsrOp.TheVariants.Csrrwi, FloatOp.TheVariants.Fli as FloatFli}
-use Rattle.rv_ops.specs.{Csr.csr_imm_op, Csr.csr_reg_op, Fpu.fpu_rr_files, Fpu.fpu_rr_op, Fpu.fpu_rrr_op, Fpu.fpu_rrr_result, Fpu.fpu_rrrr_op}
-use Rattle.rv_ops.specs.declared.{csr.CsrImmOP.TheVariants.CsrRWI, csr.CsrRegOP.TheVariants.CsrRW, fpu.FpuOPRRR.FpuOPRRR, fpu.FpuOPRRR.TheVariants.Fsgnj, fpu.FpuOPRRRR.FpuOPRRRR, fpu.FpuOPRRRR.TheVariants.Fmadd, fpu_rr.FpuOPRR.FpuOPRR}
-use Rattle.rv_ops.specs.declared.fpu_rr.FpuOPRR.TheVariants.{FcvtFmtL, FcvtFmtLu, FcvtFmtW, FcvtFmtWu, FmvFmtX, FmvXFmt}
-use Rattle.std.proofs.{Math.Facts.Fits-lt-pow, Math.Facts.Fits-of_z, Math.Facts.sfits_widen, Math.ListN.length-set, Math.Seq.get_or-set_other, lemmas.Bool.cases_eq, lemmas.Grind.get_or-set_at, lemmas.Nat.and_le_l}
+use Rattle.{rv_code.{specs.InstParts.unit_parts, specs.UnitRuns.{Agree, IsUsableCsr, IsUsableShape, IsUsableSource, IsUsableTarget}}, rv_encode.specs.Operations.{decoded_fpu_rrr, decoded_fpu_rrrr, decoded_csr_imm, decoded_csr_reg}, rv_full.specs.Atomics.{csr_result, csr_row}}
+use Rattle.rv_full.{specs.Floats.{float_shape, is_move, put_number, shape_row}, specs.Rows.{Absent, OneNumber, Takes, bits_of, entry_of, fits, noted, x_of}, specs.Steps.{Asks, Goes, Halts, fiter, fnext, next_by, stepped, unit_on}, specs.Units.set_frm, specs.declared.answer.Answer.TheVariants.Bits}
+use Rattle.{rv_full.{specs.declared.shapes.FloatShape.FloatShape, specs.declared.shapes.FloatShape.TheVariants.{Answered, ToFloat, ToInteger}, specs.declared.shapes.Sources.Sources, specs.declared.shapes.Target.Target}, rv_inst.specs.Descriptions.{UnitWord, unit_word}}
+use Rattle.{rv_inst.{specs.declared.inst.Inst.TheVariants.{CsrImm, CsrReg, Fli, FpuRR, FpuRRR, FpuRRRR}, specs.declared.units.PlacedReg.PlacedReg}, rv_machine.{proofs.UnitOperations.same_step, specs.Steps.step_on, specs.declared.ops.CsrOp.CsrOp}}
+use Rattle.{rv_machine.{specs.declared.ops.CsrOp.TheVariants.{Csrrc, Csrrci, Csrrs, Csrrsi, Csrrw, Csrrwi}, specs.declared.ops.FloatOp.TheVariants.{Fli as FloatFli}}, rv_ops.{specs.Csr.{csr_imm_op, csr_reg_op}, specs.Fpu.{fpu_rr_files, fpu_rr_op, fpu_rrr_op, fpu_rrr_result, fpu_rrrr_op}}}
+use Rattle.{rv_ops.specs.declared.csr.CsrImmOP.TheVariants.CsrRWI, rv_ops.specs.declared.csr.CsrRegOP.TheVariants.CsrRW, rv_ops.specs.declared.fpu.FpuOPRRR.TheVariants.Fsgnj, rv_ops.specs.declared.fpu.FpuOPRRRR.TheVariants.Fmadd}
+use Rattle.rv_ops.{specs.declared.fpu_rr.FpuOPRR.FpuOPRR, specs.declared.fpu_rr.FpuOPRR.TheVariants.{FcvtFmtL, FcvtFmtLu, FcvtFmtW, FcvtFmtWu, FmvFmtX, FmvXFmt}}
+use Rattle.rv_runs.proofs.Words.{AllByRecursion, Answer, AnswerFits, AreUnits, AreUsableIn, AreValues, CodeHas, Context, D, Decoded, Does, EmitVState, FloatFormat, FullState, FullValues, H, Inst, IsAt, IsUsableIn, IsaFlags, Nop0, Row, RowAsks, RowGoes, RowsAgree, S}
+use Rattle.rv_runs.proofs.Words.{SameFull, Sign, Site, State, Units, act, are_values_set, boxed, cast_signed, decodes_at, extended, fiter_after, fiter_none, format_of, freg, full_at, inputs_of, ints, low64, low_part, number_of, number_row, or_lt, parts_of, put_f}
+use Rattle.rv_runs.proofs.Words.{put_units, row_next, same_set, set_freg, unit_row, values_of, wrap}
+use Rattle.std.proofs.Common.{Bool, FitsSigned, List, None, Option, Some, T, [], ap, arith, false, if◌then◌else◌, inl, inr, leb, lt_of_le_of_lt, nat_eq, refl, rules, subst, sym, true, unwrap_or, w16, w32, w64, ℕ, ◌%◌, ◌+◌, ◌-◌, ◌<◌, ◌^◌}
+use Rattle.std.{proofs.Common.{◌∙◌, ◌∷◌, ◌≡◌, ◌⊎◌}, proofs.Math.Facts.{Fits-lt-pow, Fits-of_z, sfits_widen}, proofs.Math.ListN.length-set, proofs.Math.Seq.get_or-set_other, proofs.lemmas.Bool.cases_eq, proofs.lemmas.Grind.get_or-set_at, proofs.lemmas.Nat.and_le_l}
 use mir.{Syntax.Width, Val.hbits}
 use Rattle.rv_full.specs.declared.shapes.Sources.TheVariants as sources
 use Rattle.rv_full.specs.declared.shapes.Target.TheVariants as target
@@ -68,11 +65,8 @@ row_comes pc w x y answers r fit = absurd r
 
 -- ---- registers
 
-float_set_fits : (xs : List ℕ) (n m x : ℕ) → length xs ≡ 32 → n < 32 → x < 2 ^ 64 → slice_index xs m < 2 ^ 64 → slice_index (slice_set xs n x) m < 2 ^ 64
-float_set_fits xs n m x long lt small h = grind (arith, get_or-set_at xs n m x 0, get_or-set_other xs n m x 0, cases_eq m n)
-
 pub float_set : (u : Units) (n x : ℕ) → AreUnits u → n < 32 → x < 2 ^ 64 → AreUnits (set_freg u n x)
-float_set u n x h lt small = record { float_count = length-set u.floats n x ∙ h.float_count; float_fits = λ m. float_set_fits u.floats n m x h.float_count lt small (h.float_fits m); vector_count = h.vector_count; vector_fits = h.vector_fits; frm_fits = h.frm_fits; reserved_fits = h.reserved_fits; avl_fits = h.avl_fits; vtype_fits = h.vtype_fits }
+float_set u n x h lt small = record { float_count = length-set u.floats n x ∙ h.float_count; float_fits = λ m. let old = h.float_fits m in let count = h.float_count in grind (arith, get_or-set_at u.floats n m x 0, get_or-set_other u.floats n m x 0, cases_eq m n); vector_count = h.vector_count; vector_fits = h.vector_fits; frm_fits = h.frm_fits; reserved_fits = h.reserved_fits; avl_fits = h.avl_fits; vtype_fits = h.vtype_fits }
 
 -- bits that are moved between the two files
 pub extended_fits : (width : Width) (n : ℕ) → T (leb (hbits width) (hbits w64)) → low64 (cast_signed width n) < 2 ^ 64
@@ -103,30 +97,19 @@ module _ (d : Decoded) (v w : FullValues) (same : SameFull v w) (are_values : Ar
   inputs_same sources.Three low = ap (λ u. freg u d.rs1 ∷ freg u d.rs2 ∷ freg u d.rs3 ∷ []) same.units
 
   -- a number is put into rd, beside units that are equal
-  put_same : (to : Target) (x : ℕ) (t u : Units) → IsUsableTarget to d → x < 2 ^ 64 → t ≡ u → AreUnits u → u.setting ≡ w.units.setting → Agree w (put_number to d x (put_units t v)) (put_number to d x (put_units u w))
-  put_same target.Integer x t u low small equal h setting = search (rules, arith, same_set, are_values_set, same, h, equal, setting)
-  put_same target.Float x t u low small equal h setting = let put = ap (λ y. set_freg y d.rd x) equal in search (rules, same, put, setting, float_set)
-
   put_agree : (to : Target) (x y : ℕ) (t u : Units) → IsUsableTarget to d → x ≡ y → y < 2 ^ 64 → t ≡ u → AreUnits u → u.setting ≡ w.units.setting → Agree w (put_number to d x (put_units t v)) (put_number to d y (put_units u w))
-  put_agree to x y t u low is small equal h setting = subst (λ z. Agree w (put_number to d z (put_units t v)) (put_number to d y (put_units u w))) (sym is) (put_same to y t u low small equal h setting)
+  put_agree target.Integer x y t u low is small equal h setting = subst (λ z. Agree w (put_number target.Integer d z (put_units t v)) (put_number target.Integer d y (put_units u w))) (sym is) (search (rules, arith, same_set, are_values_set, same, h, equal, setting))
+  put_agree target.Float x y t u low is small equal h setting = let put : set_freg t d.rd x ≡ set_freg u d.rd y = λ i. set_freg (equal i) d.rd (is i) in search (rules, same, put, setting, float_set)
 
   -- one answer is taken, noted with what it may depend on, and put
   pub number_agrees : (to : Target) (from : Sources) → IsUsableSource from d → IsUsableTarget to d → RowsAgree w (number_row to (inputs_of from d v) d v) (number_row to (inputs_of from d w) d w)
   number_agrees to from source low = (
     refl,
     λ a fit answer.
-        put_same to (unwrap_or (bits_of a) 0) (noted (entry_of d v.units (inputs_of from d v) [] a) v.units) (noted (entry_of d w.units (inputs_of from d w) [] a) w.units) low ((elim a as (λ a. fits OneNumber a ≡ true → AnswerFits a → unwrap_or (bits_of a) 0 < 2 ^ 64) [ Bits x ↦ λ fit small. small | _ ↦ λ fit small. absurd (cc) ]) fit answer)
+        put_agree to (unwrap_or (bits_of a) 0) (unwrap_or (bits_of a) 0) (noted (entry_of d v.units (inputs_of from d v) [] a) v.units) (noted (entry_of d w.units (inputs_of from d w) [] a) w.units) low refl ((elim a as (λ a. fits OneNumber a ≡ true → AnswerFits a → unwrap_or (bits_of a) 0 < 2 ^ 64) [ Bits x ↦ λ fit small. small | _ ↦ λ fit small. absurd (cc) ]) fit answer)
         (λ i. noted (entry_of d (same.units i) (inputs_same from source i) [] a) (same.units i))
         (search (rules, are_units)) refl,
   )
-
-  -- a sign's operation is a copy where both sources are one register
-  pub sign_agrees : (format : FloatFormat) → d.rd < 32 → RowsAgree w (shape_row Sign format d v) (shape_row Sign format d w)
-  sign_agrees format low =
-      elim (is_move format d) as (λ c. RowsAgree w (if c then Does (put_f d (freg v.units d.rs1) v) else number_row target.Float (inputs_of sources.Two d v) d v) (if c then Does (put_f d (freg w.units d.rs1) w) else number_row target.Float (inputs_of sources.Two d w) d w)) [
-        | true ↦ put_agree target.Float (freg v.units d.rs1) (freg w.units d.rs1) v.units w.units low (ap (λ u. freg u d.rs1) same.units) (are_units.float_fits d.rs1) same.units are_units refl
-        | false ↦ number_agrees target.Float sources.Two tt low
-      ]
 
   -- frm gets the same of what is the same, and its old value goes to an integer register
   frm_agrees : (op : CsrOp) → d.rd < 30 → csr_result op v.units.frm (x_of d v) d.rs1 ≡ csr_result op w.units.frm (x_of d w) d.rs1 → RowsAgree w (csr_row op d v) (csr_row op d w)
@@ -144,7 +127,12 @@ module _ (d : Decoded) (v w : FullValues) (same : SameFull v w) (are_values : Ar
   shape_agrees ToInteger format usable = put_agree target.Integer _ (extended format (freg w.units d.rs1)) v.units w.units usable (ap (λ u. extended format (freg u d.rs1)) same.units) (extended_small format (freg w.units d.rs1) (are_units.float_fits d.rs1)) same.units are_units refl
   shape_agrees ToFloat format usable = put_agree target.Float _ (boxed format (low_part format (x_of d w))) v.units w.units usable.1 (λ i. boxed format (low_part format (same.ints.regs d.rs1 usable.0 i)))
       (let fits = is_values.fits d.rs1 in elim format as (λ x. boxed x (low_part x (x_of d w)) < 2 ^ 64) [ D ↦ fits | _ ↦ omega arith ]) same.units are_units refl
-  shape_agrees Sign format usable = sign_agrees format usable
+  -- a sign's operation is a copy where both sources are one register
+  shape_agrees Sign format usable =
+      elim (is_move format d) as (λ c. RowsAgree w (if c then Does (put_f d (freg v.units d.rs1) v) else number_row target.Float (inputs_of sources.Two d v) d v) (if c then Does (put_f d (freg w.units d.rs1) w) else number_row target.Float (inputs_of sources.Two d w) d w)) [
+        | true ↦ put_agree target.Float (freg v.units d.rs1) (freg w.units d.rs1) v.units w.units usable (ap (λ u. freg u d.rs1) same.units) (are_units.float_fits d.rs1) same.units are_units refl
+        | false ↦ number_agrees target.Float sources.Two tt usable
+      ]
 
 -- Each kind of instruction that is a word of a unit: its operation is none of integers, and does the same with values that are the same,
 -- by its shape; and what such an instruction becomes.
@@ -165,14 +153,6 @@ rr_usable FmvXFmt d to from = to
 rr_usable FmvFmtX d to from = (from, to)
 rr_usable op d to from = (tt, to)
 
-rrr_usable : (op : FpuOPRRR) (d : Decoded) → IsUsableIn (fpu_rrr_result op) d.rd → IsUsableShape (float_shape (fpu_rrr_op op)) d
-rrr_usable Fsgnj d usable = usable
-rrr_usable op d usable = (tt, usable)
-
-rrrr_usable : (op : FpuOPRRRR) (d : Decoded) → d.rd < 32 → IsUsableShape (float_shape (fpu_rrrr_op op)) d
-rrrr_usable Fmadd d usable = (tt, usable)
-rrrr_usable op d usable = (tt, usable)
-
 -- where an instruction is a word of a unit, that word is one of these
 abbrev pub IsOneOf : Option UnitWord → Type 0
 IsOneOf None = Unit {0}
@@ -189,8 +169,8 @@ of_shape places d shape format long none row usable = record {
 kinds : (inst : Inst) → IsOneOf (unit_word inst)
 kinds (Fli width imm rd) = of_shape _ _ (float_shape FloatFli) (format_of width) refl (λ s. refl) (λ v. refl) (λ usable. (tt, usable.0))
 kinds (FpuRR op width frm rd rs) = of_shape _ _ (float_shape (fpu_rr_op op)) (format_of width) refl (λ s. refl) (λ v. refl) (λ usable. rr_usable op _ usable.0 usable.1.0)
-kinds (FpuRRR op width frm rd rs1 rs2) = of_shape _ _ (float_shape (fpu_rrr_op op)) (format_of width) refl (λ s. refl) (λ v. refl) (λ usable. rrr_usable op _ usable.0)
-kinds (FpuRRRR op width frm rd rs1 rs2 rs3) = of_shape _ _ (float_shape (fpu_rrrr_op op)) (format_of width) refl (λ s. refl) (λ v. refl) (λ usable. rrrr_usable op _ usable.0)
+kinds (FpuRRR op width frm rd rs1 rs2) = of_shape _ _ (float_shape (fpu_rrr_op op)) (format_of width) refl (λ s. refl) (λ v. refl) (λ usable. (elim op as (λ o. IsUsableIn (fpu_rrr_result o) (number_of rd.reg) → IsUsableShape (float_shape (fpu_rrr_op o)) (decoded_fpu_rrr op width frm (number_of rd.reg) (number_of rs1) (number_of rs2))) [ Fsgnj ↦ λ u. u | _ ↦ λ u. (tt, u) ]) usable.0)
+kinds (FpuRRRR op width frm rd rs1 rs2 rs3) = of_shape _ _ (float_shape (fpu_rrrr_op op)) (format_of width) refl (λ s. refl) (λ v. refl) (λ usable. elim op as (λ o. IsUsableShape (float_shape (fpu_rrrr_op o)) (decoded_fpu_rrrr op width frm (number_of rd.reg) (number_of rs1) (number_of rs2) (number_of rs3))) [ Fmadd ↦ (tt, usable.0) | _ ↦ (tt, usable.0) ])
 kinds (CsrReg op rd rs csr) =
     let d = decoded_csr_reg op (number_of rd.reg) (number_of rs) in
     record { long = refl; none = λ s. refl; agrees = λ v w same are_values is_values are_units usable. csr_agrees d v w same are_values is_values are_units (csr_reg_op op) (elim op as (λ o. IsUsableCsr (csr_reg_op o) d) [ CsrRW ↦ (usable.0, usable.1.0) | _ ↦ (usable.0, usable.1.0) ]) }

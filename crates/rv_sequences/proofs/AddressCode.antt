@@ -1,10 +1,11 @@
 -- What loads, stores, addresses and numbers put.
+use Rattle.rv_sequences.proofs.Terms.{append-nil, decoded_load, decoded_store, far_load, far_store, Load, Store, access_is, access_pieces, access_short, half_load_pieces, half_store_pieces, load_pieces, Piece, slots_append, store_pieces}
 use Rattle.{rv_code.specs.Pieces.Word64, rv_sequences.proofs.Terms.{Constant, Do, IsFinePlace, Place, Rri, Sh, has_load, has_store, immediate_pieces, load_most, loaded, slots_of}}
 pub use Rattle.rv_inst.proofs.Immediates.{upper_is, lower_is, splits, splits_not}
-use Rattle.rv_sequences.proofs.{SlotsPut.{alone, aim_put_at, none_put, both_alone, alone_long, alone_usable}, Terms.{Ld, Trap, PlaceLabel, ◌≡◌, ◌≢◌, zero, suc, refl, ◌-◌, ◌^◌, ◌<◌, ◌==◌, true, false, ℤ, pos, negsuc, ◌≤ℤ◌, ap, arith, ℕ, ◌+◌, ◌≤◌, List, [], ◌∷◌, ◌++◌, length, Option, Some, sym}}
-use Rattle.rv_sequences.proofs.Terms.{subst, append_assoc, ◌∙◌, cast_unsigned, w16, w32, nat_tests, ints, IsSigned, low64, is_near, Location, AtLabel, AtConstant, if◌then◌else◌, ◌&&◌, IsaFlags, VCodeConstant, MachLabel, TrapCode, value_of, IsSplittable, Decoded, Addi, LabelUse}
+use Rattle.{rv_sequences.proofs.SlotsPut.{alone, aim_put_at, none_put, both_alone, alone_long, alone_usable}, rv_sequences.proofs.Terms.{Trap, PlaceLabel, ◌≡◌, ◌≢◌, zero, suc, refl, ◌-◌, ◌^◌, ◌<◌, ◌==◌, true, false, ℤ, pos, negsuc, ◌≤ℤ◌, ap, arith, ℕ, ◌+◌, ◌≤◌, List, [], ◌∷◌, ◌++◌, length, Option, Some, sym}}
+use Rattle.rv_sequences.proofs.Terms.{subst, ◌∙◌, cast_unsigned, w16, w32, nat_tests, ints, IsSigned, low64, is_near, Location, AtLabel, AtConstant, if◌then◌else◌, ◌&&◌, IsaFlags, VCodeConstant, MachLabel, TrapCode, value_of, IsSplittable, Decoded, Addi, LabelUse}
 use Rattle.rv_sequences.proofs.Terms.{word_bytes, use_at, shape_of, bytes_of, allocated_of, with_bytes, with_use, with_record, with_named, Shape, constant_label, Buffer, IsSoundBuffer, PutsAlone, upper_of, lower_of, short_rri, Slot, Op, Fixup, Names, Label, IsPatchable, Puts, access_slots}
-use Rattle.rv_sequences.proofs.Terms.{immediate_slots, literal_slots, labelled, lower_slots, naming_slots, offset_slots, number_slots, half_load_slots, half_store_slots, load_line_slots, load_slots, moved_to_integer, store_line_slots, store_slots, IsPlain, IsShort, is_low, slots_by, LoadOP, StoreOP}
+use Rattle.rv_sequences.proofs.Terms.{immediate_slots, literal_slots, labelled, lower_slots, naming_slots, offset_slots, number_slots, half_store_slots, load_line_slots, load_slots, moved_to_integer, store_line_slots, store_slots, IsPlain, IsShort, is_low, slots_by, LoadOP, StoreOP}
 
 -- ---- tests of offsets and of their immediates; the immediates that make an offset are its own
 
@@ -38,9 +39,24 @@ access_put flags old new trap code is put sound = subst (λ t. PutsAlone flags (
 pub longer : {flags : IsaFlags} {bound : ℕ} (slots : List Slot) (old new : Buffer) → IsShort bound slots → PutsAlone flags slots old new → length (bytes_of new) ≤ length (bytes_of old) + bound
 longer {flags} slots old new s p = let l = alone_long slots old new p in let h = s.short in omega arith
 
--- slots that allocate no label, and two more pieces after them
-pub before_both : {flags : IsaFlags} (slots more last : List Slot) (old mid new : Buffer) → IsPlain slots → PutsAlone flags slots old mid → PutsAlone flags (more ++ last) mid new → PutsAlone flags (slots ++ more ++ last) old new
-before_both {flags} slots more last old mid new plain p q = subst (λ s. PutsAlone flags s old new) (sym (append_assoc slots more last)) (both_alone slots (more ++ last) old mid new plain p q)
+-- pieces that allocate no label, and others after them
+pub pieces_then : {flags : IsaFlags} (ps qs : List Piece) (old mid new : Buffer) → IsPlain (slots_of flags ps) → PutsAlone flags (slots_of flags ps) old mid → PutsAlone flags (slots_of flags qs) mid new → PutsAlone flags (slots_of flags (ps ++ qs)) old new
+pieces_then {flags} ps qs old mid new plain p q = subst (λ s. PutsAlone flags s old new) (sym (slots_append flags ps qs)) (both_alone (slots_of flags ps) (slots_of flags qs) old mid new plain p q)
+
+-- the record of an access's trap, and pieces after it
+pub access_then : {flags : IsaFlags} (trap : Option TrapCode) (ps : List Piece) (old mid new : Buffer) → PutsAlone flags (access_slots trap) old mid → PutsAlone flags (slots_of flags ps) mid new → PutsAlone flags (slots_of flags (access_pieces trap ++ ps)) old new
+access_then {flags} trap ps old mid new p q = subst (λ s. PutsAlone flags s old new) (sym (access_is flags trap ps)) (both_alone (access_slots trap) (slots_of flags ps) old mid new (access_short trap).plain p q)
+
+-- an access to the address in x31, in its word of 32 bits
+pub far_load_put : {flags : IsaFlags} (op : LoadOP) (rd : ℕ) (old new : Buffer) → PutsAlone flags (Op (decoded_load op rd 31 (pos 0)) ∷ []) old new → PutsAlone flags (slots_of flags (Do (Load op rd 31 (pos 0)) ∷ [])) old new
+far_load_put {flags} op rd old new p = subst (λ d. PutsAlone flags (Op d ∷ []) old new) (sym (far_load flags op rd (pos 0))) p
+
+pub far_store_put : {flags : IsaFlags} (op : StoreOP) (src : ℕ) (old new : Buffer) → PutsAlone flags (Op (decoded_store op 31 src (pos 0)) ∷ []) old new → PutsAlone flags (slots_of flags (Do (Store op 31 src (pos 0)) ∷ [])) old new
+far_store_put {flags} op src old new p = subst (λ d. PutsAlone flags (Op d ∷ []) old new) (sym (far_store flags op src (pos 0))) p
+
+-- one piece alone
+pub piece_put : {flags : IsaFlags} (slots : List Slot) (old new : Buffer) → PutsAlone flags slots old new → PutsAlone flags (slots ++ []) old new
+piece_put {flags} slots old new p = subst (λ s. PutsAlone flags s old new) (sym (append-nil slots)) p
 
 -- ---- by a constant
 
@@ -55,11 +71,11 @@ name_put flags k old new put sound = alone (record { puts = (shape_of new, put, 
 
 -- ---- by an offset
 
-pub near_put : {flags : IsaFlags} (slots : ℤ → List Slot) (others : List Slot) (o n : ℤ) (old new : Buffer) → n ≡ o → negsuc 2047 ≤ℤ n → n ≤ℤ pos 2047 → PutsAlone flags (slots n) old new → PutsAlone flags (if is_near o then slots o else others) old new
-near_put {flags} slots others o n old new e low high p = subst (λ x. PutsAlone flags (if is_near x then slots x else others) old new) e (subst (λ c. PutsAlone flags (if c then slots n else others) old new) (sym (near n low high)) p)
+pub near_put : {flags : IsaFlags} (near_pieces : ℤ → List Piece) (others : List Piece) (o n : ℤ) (old new : Buffer) → n ≡ o → negsuc 2047 ≤ℤ n → n ≤ℤ pos 2047 → PutsAlone flags (slots_of flags (near_pieces n)) old new → PutsAlone flags (slots_of flags (if is_near o then near_pieces o else others)) old new
+near_put {flags} near_pieces others o n old new e low high p = subst (λ x. PutsAlone flags (slots_of flags (if is_near x then near_pieces x else others)) old new) e (subst (λ c. PutsAlone flags (slots_of flags (if c then near_pieces n else others)) old new) (sym (near n low high)) p)
 
-pub far_put : {flags : IsaFlags} (slots others : List Slot) (o : ℤ) (old new : Buffer) → ¬ (IsSigned 12 o) → PutsAlone flags others old new → PutsAlone flags (if is_near o then slots else others) old new
-far_put {flags} slots others o old new h p = subst (λ c. PutsAlone flags (if c then slots else others) old new) (sym (far o h)) p
+pub far_put : {flags : IsaFlags} (near_pieces others : List Piece) (o : ℤ) (old new : Buffer) → ¬ (IsSigned 12 o) → PutsAlone flags (slots_of flags others) old new → PutsAlone flags (slots_of flags (if is_near o then near_pieces else others)) old new
+far_put {flags} near_pieces others o old new h p = subst (λ c. PutsAlone flags (slots_of flags (if c then near_pieces else others)) old new) (sym (far o h)) p
 
 pub lower_zero_put : (flags : IsaFlags) (rd : ℕ) (lower : ℤ) (b : Buffer) → lower ≡ pos 0 → IsSoundBuffer b → PutsAlone flags (lower_slots flags rd lower) b b
 lower_zero_put flags rd lower b e sound = subst (λ c. PutsAlone flags (slots_of flags (if c then [] else Do (Rri Addi rd rd lower) ∷ [])) b b) (sym (ap (λ y. low64 y == 0) e)) (none_put flags b sound)
@@ -137,10 +153,10 @@ half_store_named {flags} src trap at old mid new p q = both_alone [] (half_store
 
 -- the code of a line is put once its constant is named
 pub load_line_named : (flags : IsaFlags) (rd : ℕ) (op : LoadOP) (trap : Option TrapCode) (k : VCodeConstant) → Names k ∷ load_line_slots flags rd op trap (AtLabel (constant_label k)) ≡ load_line_slots flags rd op trap (AtConstant k)
-load_line_named flags rd op trap k = elim (has_load flags op) as (λ has. Names k ∷ (if has then load_slots flags rd op trap (AtLabel (constant_label k)) else half_load_slots flags rd trap (AtLabel (constant_label k))) ≡ (if has then load_slots flags rd op trap (AtConstant k) else half_load_slots flags rd trap (AtConstant k))) [ true ↦ refl | false ↦ refl ]
+load_line_named flags rd op trap k = elim (has_load flags op) as (λ has. Names k ∷ slots_of flags (if has then load_pieces op rd trap (AtLabel (constant_label k)) else half_load_pieces rd trap (AtLabel (constant_label k))) ≡ slots_of flags (if has then load_pieces op rd trap (AtConstant k) else half_load_pieces rd trap (AtConstant k))) [ true ↦ refl | false ↦ refl ]
 
 pub store_line_named : {flags : IsaFlags} (op : StoreOP) (src : ℕ) (trap : Option TrapCode) (at : Location) (old mid new : Buffer) → PutsAlone flags (naming_slots at) old mid → PutsAlone flags (store_line_slots flags op src trap (labelled at)) mid new → PutsAlone flags (store_line_slots flags op src trap at) old new
-store_line_named {flags} op src trap at old mid new p = elim (has_store flags op) as (λ has. PutsAlone flags (if has then store_slots flags op src trap (labelled at) else half_store_slots flags src trap (labelled at)) mid new → PutsAlone flags (if has then store_slots flags op src trap at else half_store_slots flags src trap at) old new) [
+store_line_named {flags} op src trap at old mid new p = elim (has_store flags op) as (λ has. PutsAlone flags (slots_of flags (if has then store_pieces op src trap (labelled at) else half_store_pieces src trap (labelled at))) mid new → PutsAlone flags (slots_of flags (if has then store_pieces op src trap at else half_store_pieces src trap at)) old new) [
   | true ↦ λ q. named_put (store_slots flags op src trap) (λ k. refl) at old mid new p q
   | false ↦ λ q. half_store_named src trap at old mid new p q
 ]

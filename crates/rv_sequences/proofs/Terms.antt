@@ -1,4 +1,5 @@
 -- What the proofs of this crate cite of std, of the crates below and of its own definitions, in one place.
+pub use Rattle.rv_code.{proofs.LineSlots.{access_is, far_load, far_store, slots_append}, specs.{Accesses.{access_pieces, address_pieces, boxing_pieces, half_load_pieces, half_store_pieces, load_pieces, store_pieces}, Pieces.{Load, Store}}}
 pub use Rattle.mach_buffer.{proofs.Laws.{append_each, append_none, few_allocated, lasts_allocated, lasts_bytes, lasts_label, lasts_more, lasts_named, lasts_record, lasts_same, lasts_use}, specs.{Buffer.{allocated_of, bytes_of, named_of, place_of, shape_of}, Growth.Lasts, Shape.{IsUsable, Shape}}}
 pub use Rattle.{mach_buffer.specs.{Shape.{with_bytes, with_named, with_record, with_use}, Windows.AllEnd}, mach_labels.specs.Table.{first_constant, first_inner}, mach_records.specs.declared.records.{Event.TheVariants.Trap, MachRecord.MachRecord}, mach_uses.specs.Labels.{constant_label, inner_count}}
 pub use Rattle.{mach_uses.specs.declared.uses.Use.Use, rv_base.specs.{CondCodes.complement_of, Flags.no_flags, IrType.bits_of, LabelUse.{IsFresh, SameOutside}, Regs.{class_of, number_of}, declared.{constant.VCodeConstant.VCodeConstant, flags.IsaFlags.IsaFlags, ir_type.IrType.IrType}}}
@@ -9,7 +10,7 @@ pub use Rattle.rv_code.specs.InstParts.{half_store_slots, immediate_slots, jump_
 pub use Rattle.rv_code.specs.{InstParts.wide_jump_to, Operations.{decoded_addi, decoded_jump, jump_size, jump_word, short_jump}, Pieces.{Action, Branch, Constant, Do, Piece, Rri, branches, immediate_pieces, number_pieces, pieces_most, slots_for, slots_of}, Probes.probe_pieces}
 pub use Rattle.rv_code.specs.{Sites.BytesAt, Slots.{Address, Fixup, Allocate, CallTo, Data, RelocPair, Here, Label, Names, Records, Op, Slot, address_event, call_event, label_of, lower_event, names_of, own_label, records_of, size_of, slot_size, upper_event, uses_of}, Usable.IsMove}
 pub use Rattle.{rv_compress.specs.{Encoded.{Holds, IsHalf, IsWord, WhereHalf}, declared.compressed.Encoded.{Encoded, TheVariants.{Half, Word}}}, rv_encode.{proofs.{Decoding.{branch_decodes, opcode_decodes}, MemoryDecoding.load_decodes}, specs.Layouts.{IsBType, IsIType, IsUType}}}
-pub use Rattle.{rv_encode.specs.{Operations.{branch_op, decoded, decoded_branch, decoded_fpu_rrr, decoded_load, decoded_rri, decoded_rrr, has_load, has_store, load_of_format, load_op, store_of_format, store_op}, Registers.IsIntRegister}, rv_imms.specs.{Bits.IsSigned, Splitting.IsSplittable}}
+pub use Rattle.{rv_encode.specs.{Operations.{branch_op, decoded, decoded_branch, decoded_fpu_rrr, decoded_load, decoded_store, decoded_rri, decoded_rrr, has_load, has_store, load_of_format, load_op, store_of_format, store_op}, Registers.IsIntRegister}, rv_imms.specs.{Bits.IsSigned, Splitting.IsSplittable}}
 pub use Rattle.{rv_imms.specs.Splitting.value_of, rv_inst.{proofs.Bridges.{decode-patched_branch, decode-patched_compressed_jump, decode-patched_jump, same_byte, same_low}, specs.{Addresses.{AtConstant, AtLabel, Based, Location, is_near}, Context.Context, Forms.{IsAddi16spFirst, IsOwnForm}}}}
 pub use Rattle.rv_inst.specs.Forms.{addi_form, andi_form, chosen, either_form, form_ebreak, form_jalr, form_lui, form_rrr, form_where, is_addi, is_addi16sp, is_addi4spn, is_equal, is_li, is_move, is_scaled, is_short, is_six_bits, move_form, shift_amount, short_ebreak, short_jalr, short_load}
 pub use Rattle.rv_inst.specs.{Forms.{short_lui, short_rri, short_rrr, short_store, sp, zca_rri, zca_rrr, zext_w_form}, Generators.canonical_type, LabelUse.{Aims, label_kinds, marks_of}, LabelUseBridges.with_immediate, LabelUseWords.{AreBytes, half_at, word_at, word_bytes}, Operands.all_of}

@@ -10,16 +10,16 @@ ghost use Rattle.mach_buffer.specs.Shape.{IsUsable};
 ghost use Rattle.rv_machine.specs.Opcodes.{OP_IMM};
 ghost use Rattle.rv_ops.specs.Memory.{is_float_load, load_funct3, load_opcode};
 ghost use Rattle.rv_encode.specs.Layouts.{IsIType};
-ghost use Rattle.rv_encode.specs.Operations.{decoded_load, decoded_store, has_load, has_store};
+ghost use Rattle.rv_encode.specs.Operations.{has_load, has_store};
 ghost use Rattle.rv_encode.specs.Registers.{IsIntRegister, IsRealRegister};
 ghost use Rattle.rv_ops.specs.declared.alu.AluOPRRR.TheVariants.{Add};
-ghost use Rattle.rv_inst.specs.Forms.{short_load, short_rrr, short_store};
 ghost use Rattle.rv_inst.specs.Addresses.{Based, AtLabel, location_of};
 ghost use Rattle.rv_sequences.specs.Parts.{PutsAlone};
 ghost use Rattle.rv_sequences.specs.Emitted.{IsSoundBuffer};
 ghost use Rattle.rv_code.specs.InstParts.{access_slots, address_slots, far_store_slots, immediate_slots, label_base, label_load_slots, labelled, load_slots, lower_slots, naming_slots, offset_slots, store_slots, upper_at};
 ghost use Rattle.rv_sequences.specs.Places.{location_at, IsFinePlace};
-ghost use Rattle.rv_code.specs.Slots.{Op};
+ghost use Rattle.rv_code.specs.Accesses.{access_pieces, far_pieces};
+ghost use Rattle.rv_code.specs.Pieces.{Rrr, Load, Store, Do, offset_pieces, slots_of};
 ghost use Rattle.rv_code.specs.Usable.{IsFineAddress};
 
 use crate::expansions::put_double_constant;
@@ -136,7 +136,7 @@ fn put_near_load(
     requires base { IsIntRegister base }
     requires room { length (bytes_of sink.old) + 4 < code_limit }
     requires sound { IsSoundBuffer sink.old }
-    ensures slots { OnOk result (PutsAlone flags (access_slots trap ++ Op (short_load flags op (number_of rd.reg) (number_of base) offset.value) ∷ []) sink.old sink.new) }
+    ensures slots { OnOk result (PutsAlone flags (slots_of flags (access_pieces trap ++ Do (Load op (number_of rd.reg) (number_of base) offset.value) ∷ [])) sink.old sink.new) }
     ensures refused { OnErr result (spoiled_of sink.new ≡ true) }
 {
     put_access(sink, trap)?;
@@ -159,7 +159,7 @@ fn put_far_load(
     requires base { IsIntRegister base }
     requires room { length (bytes_of sink.old) + 28 < code_limit }
     requires sound { IsSoundBuffer sink.old }
-    ensures slots { OnOk result (PutsAlone flags (address_slots flags 31 (Based (number_of base) offset) ++ access_slots trap ++ Op (decoded_load op (number_of rd.reg) 31 (pos 0)) ∷ []) sink.old sink.new) }
+    ensures slots { OnOk result (PutsAlone flags (slots_of flags (far_pieces (Load op (number_of rd.reg)) trap (Based (number_of base) offset))) sink.old sink.new) }
     ensures refused { OnErr result (spoiled_of sink.new ≡ true) }
 {
     put_based_address(sink, flags, writable_spilltmp_reg(), base, offset)?;
@@ -177,7 +177,7 @@ fn put_spilled_load(
     requires rd { IsRealRegister rd.reg }
     requires room { length (bytes_of sink.old) + 4 < code_limit }
     requires sound { IsSoundBuffer sink.old }
-    ensures slots { OnOk result ((flags : IsaFlags) → has_load flags op ≡ true → PutsAlone flags (access_slots trap ++ Op (decoded_load op (number_of rd.reg) 31 (pos 0)) ∷ []) sink.old sink.new) }
+    ensures slots { OnOk result ((flags : IsaFlags) → has_load flags op ≡ true → PutsAlone flags (slots_of flags (access_pieces trap ++ Do (Load op (number_of rd.reg) 31 (pos 0)) ∷ [])) sink.old sink.new) }
     ensures refused { OnErr result (spoiled_of sink.new ≡ true) }
 {
     put_access(sink, trap)?;
@@ -296,7 +296,7 @@ fn put_near_store(
     requires base { IsIntRegister base }
     requires room { length (bytes_of sink.old) + 4 < code_limit }
     requires sound { IsSoundBuffer sink.old }
-    ensures slots { OnOk result (PutsAlone flags (access_slots trap ++ Op (short_store flags op (number_of base) (number_of src) offset.value) ∷ []) sink.old sink.new) }
+    ensures slots { OnOk result (PutsAlone flags (slots_of flags (access_pieces trap ++ Do (Store op (number_of base) (number_of src) offset.value) ∷ [])) sink.old sink.new) }
     ensures refused { OnErr result (spoiled_of sink.new ≡ true) }
 {
     put_access(sink, trap)?;
@@ -336,7 +336,7 @@ fn put_spilled_store(
     requires src { IsRealRegister src }
     requires room { length (bytes_of sink.old) + 4 < code_limit }
     requires sound { IsSoundBuffer sink.old }
-    ensures slots { OnOk result ((flags : IsaFlags) → has_store flags op ≡ true → PutsAlone flags (access_slots trap ++ Op (decoded_store op 31 (number_of src) (pos 0)) ∷ []) sink.old sink.new) }
+    ensures slots { OnOk result ((flags : IsaFlags) → has_store flags op ≡ true → PutsAlone flags (slots_of flags (access_pieces trap ++ Do (Store op 31 (number_of src) (pos 0)) ∷ [])) sink.old sink.new) }
     ensures refused { OnErr result (spoiled_of sink.new ≡ true) }
 {
     put_access(sink, trap)?;
@@ -396,7 +396,7 @@ fn put_far_address(
     requires base { IsIntRegister base }
     requires room { length (bytes_of sink.old) + 24 < code_limit }
     requires sound { IsSoundBuffer sink.old }
-    ensures slots { OnOk result (PutsAlone flags (offset_slots flags (number_of rd.reg) offset ++ Op (short_rrr flags Add (number_of rd.reg) (number_of rd.reg) (number_of base)) ∷ []) sink.old sink.new) }
+    ensures slots { OnOk result (PutsAlone flags (slots_of flags (offset_pieces (number_of rd.reg) offset ++ Do (Rrr Add (number_of rd.reg) (number_of rd.reg) (number_of base)) ∷ [])) sink.old sink.new) }
     ensures refused { OnErr result (spoiled_of sink.new ≡ true) }
 {
     put_offset(sink, flags, rd, offset)?;

@@ -1,5 +1,5 @@
-use Rattle.{rv_asm.proofs.AssemblyLoop.{can_put, code_short, finished, line_read, ready, returns_so_far, so_far_next, so_far_none, within_line}, rv_asm.proofs.RefusalOrder.constants_few}
-use Rattle.rv_asm.proofs.Words.{ap, arith, CanPut, common_steps, Constant, context_by, FrameLayout, IsaFlags, LinePut, List, subst, sym, ◌∙◌, ◌≡◌}
+use Rattle.rv_asm.{proofs.AssemblyLoop.{can_put, code_short, finished, line_read, ready, returns_so_far, so_far_next, so_far_none, within_line}, proofs.CodeRanges.returns_fit, proofs.RefusalOrder.{all_both, constants_few}}
+use Rattle.rv_asm.proofs.Words.{AllByRecursion, ReturnFits, SpanFits, ap, arith, CanPut, common_steps, Constant, context_by, FrameLayout, IsaFlags, LinePut, List, subst, sym, ◌∙◌, ◌≡◌}
 use Rattle.rv_asm.proofs.assembly.build.Goals as goal
 
 -- the context by what the state and the buffer know is that of the call
@@ -21,6 +21,8 @@ loop-index-init c =
           (ap (λ x. x.allocated) s ∙ new.allocated) (ap (λ x. x.records) s ∙ new.records) (ap (λ x. x.registered) s) (ap (λ x. x.named) s ∙ new.named) (ap (λ x. x.constants) s ∙ new.constants)
           c.in_ok-register_constants.ensures.sound);
       returns = grind (arith, common_steps);
+      spans_fit = subst (AllByRecursion SpanFits) (sym c.in_ok-spans.ensures.items) tt;
+      returns_fit = subst (AllByRecursion ReturnFits) (sym c.new-returns.ensures.items) tt;
     }
 
 pub put_line-requires : goal.put_line-requires
@@ -39,11 +41,15 @@ pub loop-index-preserved : goal.loop-index-preserved
 loop-index-preserved c =
     let known = c.loop-index.invariant in
     let there = line_read c.args.lines.now c.loop-index.index c.index-lines-index.result c.loop-index-test.true c.index-lines-index.is in
+    let put = subst (λ context. LinePut context c.loop-index.state.vstate c.index-lines-index.result c.loop-index.sink c.put_line.new.sink c.in_ok-span.span) (same_context c.new-info.ensures known.frame known.so_far.built.registered) c.in_ok-span.ensures.put in
+    let fits = c.in_ok-span.ensures.fits in
     record {
       frame = grind (arith, common_steps);
-      so_far = so_far_next _ c.loop-index.state.vstate c.args.lines.now _ _ _ _ _ _ _ c.requires.accepted known.so_far there c.in_ok-span.ensures.index
-          (subst (λ context. LinePut context c.loop-index.state.vstate c.index-lines-index.result c.loop-index.sink c.put_line.new.sink c.in_ok-span.span) (same_context c.new-info.ensures known.frame known.so_far.built.registered) c.in_ok-span.ensures.put) c.in_ok-push.ensures.items;
+      so_far = so_far_next _ c.loop-index.state.vstate c.args.lines.now _ _ _ _ _ _ _ c.requires.accepted known.so_far there c.in_ok-span.ensures.index put c.in_ok-push.ensures.items;
       returns = returns_so_far _ c.args.flags c.args.lines.now _ _ _ _ _ _ _ _ known.so_far there c.in_ok-span.ensures.index c.in_ok-push.ensures.items known.returns c.in_ok-add_return.ensures;
+      spans_fit = subst (AllByRecursion SpanFits) (sym c.in_ok-push.ensures.items) (all_both SpanFits _ _ known.spans_fit (fits, tt));
+      returns_fit = subst (AllByRecursion ReturnFits) (sym c.in_ok-add_return.ensures)
+          (all_both ReturnFits _ _ known.returns_fit (returns_fit c.args.flags _ _ fits (within_line _ c.loop-index.state.vstate c.args.lines.now _ _ _ _ _ _ c.requires.accepted known.so_far there put)));
     }
 
 pub finish-requires-clause-ready : goal.finish-requires-clause-ready
@@ -57,3 +63,4 @@ returns c =
     let f = c.in_ok-finished.ensures in
     finished _ c.args.lines.now c.loop-index.index _ c.loop-index.sink c.requires.accepted c.loop-index-test.false (rw c.from_vec.ensures c.loop-index.invariant.so_far) (rw (c.from_vec-2.ensures, c.from_vec.ensures) c.loop-index.invariant.returns)
     f.code.0 f.code.1 f.labels f.relocs f.traps f.call_sites f.try_call_sites f.patchable_call_sites f.stack_maps f.unwinds c.cur_offset-end.ensures
+    f.bytes (rw c.from_vec.ensures c.loop-index.invariant.spans_fit) (rw c.from_vec-2.ensures c.loop-index.invariant.returns_fit) f.fits

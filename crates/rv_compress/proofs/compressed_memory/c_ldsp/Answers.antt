@@ -1,7 +1,4 @@
-use Rattle.std.proofs.Common.{refl}
-use Rattle.rv_base.specs.Regs.{number_of}
-use Rattle.rv_ops.specs.declared.memory.LoadOP.TheVariants.{Ld}
-use Rattle.rv_compress.proofs.ChosenForms.{sp_load_is}
+use Rattle.{rv_base.specs.Regs.number_of, rv_compress.proofs.ChosenForms.sp_load_is, rv_ops.specs.declared.memory.LoadOP.TheVariants.Ld, std.proofs.Common.refl}
 use Rattle.rv_compress.proofs.compressed_memory.c_ldsp.Goals as goal
 
 pub returns-in-Some : goal.returns-in-Some

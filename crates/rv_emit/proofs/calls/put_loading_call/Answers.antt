@@ -1,4 +1,4 @@
-use Rattle.rv_emit.proofs.{CallSlots.call_is, CallsPut.call_begins, CallsPut.loading_put, Terms.ap, Terms.arith, Terms.rules, Terms.on_ok_weaker, Terms.count_by, Terms.is_stacked, Terms.call_slots, Terms.call_given, Terms.context_by, Terms.[]}
+use Rattle.rv_emit.proofs.{CallSlots.call_is, CallsPut.call_begins, CallsPut.loading_put, Terms.ap, Terms.arith, Terms.rules, Terms.on_ok_weaker, Terms.count_by, Terms.is_stacked, Terms.call_pieces, Terms.call_given, Terms.context_by, Terms.[]}
 use Rattle.rv_emit.proofs.calls.put_loading_call.Goals as goal
 
 pub put_results-requires : goal.put_results-requires
@@ -11,4 +11,4 @@ put_results-requires c =
 
 pub returns-clause-parts : goal.returns-clause-parts
 returns-clause-parts c =
-    on_ok_weaker c.put_results.result (loading_put (call_slots c.args.flags c.args.frame.now (call_given c.args.stack_map.now c.args.info.now)) _ _ _ _ _ c.in_ok-begin_call.ensures.slots) (rw c.as_slice.ensures at c.put_results.ensures.parts)
+    on_ok_weaker c.put_results.result (loading_put (call_pieces c.args.flags c.args.frame.now (call_given c.args.stack_map.now c.args.info.now)) _ _ _ _ _ c.in_ok-begin_call.ensures.slots) (rw c.as_slice.ensures at c.put_results.ensures.parts)

@@ -1,5 +1,5 @@
 use Rattle.rv_emit.proofs.{InstSlots.appends, Bounds.emit_bounded, ReachAfterInst.reach_after, StackMaps.can_given, StackMaps.bounded_given}
-use Rattle.rv_emit.proofs.Terms.{◌≡◌, false, Option, Some, None, refl, arith, sym, is_some, on_ok_weaker, registered_of, context_by, Unknown, fine, with_map, Request, Context, Inst, Buffer, CanEmit, Emits, Appends, UserStackMap, IsBounded, CanReach, length, bytes_of, pending}
+use Rattle.rv_emit.proofs.Terms.{◌≡◌, false, Option, Some, None, refl, arith, sym, is_some, on_ok_weaker, registered_of, context_by, Unknown, keeps_rules, with_map, Request, Context, Inst, Buffer, CanEmit, Emits, Appends, UserStackMap, IsBounded, CanReach, length, bytes_of, pending}
 use Rattle.rv_emit.proofs.emit.put.Goals as goal
 
 none_asked : (request : Option Request) → false ≡ is_some request → request ≡ None
@@ -22,18 +22,21 @@ returns-then-asks_for_island-clause-reach c = on_ok_weaker c.put_asking.result (
 pub returns-then-asks_for_island-clause-bounds : goal.returns-then-asks_for_island-clause-bounds
 returns-then-asks_for_island-clause-bounds c = on_ok_weaker c.put_asking.result (bounds _ _ _ _ c.requires) (c.put_asking.ensures.emitted (sym (c.if-asks_for_island.ensures (context_by c.args.flags c.args.frame.now (registered_of c.args.sink.now)))))
 
-pub forgets_setting-requires-clause-fine : goal.forgets_setting-requires-clause-fine
-forgets_setting-requires-clause-fine c = (registered_of c.args.sink.now, fine (context_by c.args.flags c.args.frame.now (registered_of c.args.sink.now)) _ c.requires.rule)
+pub forgets_setting-requires-clause-rule : goal.forgets_setting-requires-clause-rule
+forgets_setting-requires-clause-rule c = (registered_of c.args.sink.now, keeps_rules (context_by c.args.flags c.args.frame.now (registered_of c.args.sink.now)) _ c.requires.rule)
+
+pub put_sequence-requires-clause-rule : goal.put_sequence-requires-clause-rule
+put_sequence-requires-clause-rule c = keeps_rules (context_by c.args.flags c.args.frame.now (registered_of c.args.sink.now)) _ c.requires.rule
 
 pub returns-in_ok-put_sequence-clause-emitted : goal.returns-in_ok-put_sequence-clause-emitted
 returns-in_ok-put_sequence-clause-emitted c =
     c.in_ok-put_sequence.ensures.parts (none_asked _ (c.if-asks_for_island.ensures (context_by c.args.flags c.args.frame.now (registered_of c.args.sink.now))))
 
 pub returns-in_ok-put_sequence-clause-bounds : goal.returns-in_ok-put_sequence-clause-bounds
-returns-in_ok-put_sequence-clause-bounds c = bounds _ _ _ _ c.requires (c.in_ok-put_sequence.ensures.parts (none_asked _ (c.if-asks_for_island.ensures (context_by c.args.flags c.args.frame.now (registered_of c.args.sink.now)))))
+returns-in_ok-put_sequence-clause-bounds c = bounds _ _ _ _ c.requires (returns-in_ok-put_sequence-clause-emitted c)
 
 pub returns-in_ok-put_sequence-clause-reach : goal.returns-in_ok-put_sequence-clause-reach
-returns-in_ok-put_sequence-clause-reach c = reach _ _ _ _ c.requires (c.in_ok-put_sequence.ensures.parts (none_asked _ (c.if-asks_for_island.ensures (context_by c.args.flags c.args.frame.now (registered_of c.args.sink.now)))))
+returns-in_ok-put_sequence-clause-reach c = reach _ _ _ _ c.requires (returns-in_ok-put_sequence-clause-emitted c)
 
 pub returns-in_ok-put_sequence-clause-setting : goal.returns-in_ok-put_sequence-clause-setting
 returns-in_ok-put_sequence-clause-setting c =

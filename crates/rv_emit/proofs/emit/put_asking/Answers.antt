@@ -1,5 +1,5 @@
-use Rattle.rv_emit.proofs.{ReachAfterInst.reach_calm, TableCode.table_kept, TableCode.island_few, TableCode.table_emits, Islands.room_left, Islands.room_sound, CallSlots.loading_emits, CallSlots.loading_ind_emits, StackMaps.space_given}
-use Rattle.rv_emit.proofs.Terms.{inst_sum, no_extra, loads_unless, result_loads, ◌+◌, ◌≡◌, rules, ◌*◌, length, ap, sym, ◌∙◌, subst, refl, arith, context_by, tail_call_of, table_space, registered_of, AreListed, call_asks, call_ind_asks, tail_kept, tail_sum, jump_sum, target_kept, is_some, with_map}
+use Rattle.rv_emit.proofs.{ReachAfterInst.reach_calm, TableCode.island_few, TableCode.table_emits, Islands.room_left, Islands.room_sound, CallSlots.loading_emits, CallSlots.unless_all, CallSlots.call_is, CallSlots.call_ind_is, StackMaps.space_given}
+use Rattle.rv_emit.proofs.Terms.{inst_sum, no_extra, loads_unless, result_loads, ◌+◌, ◌≡◌, rules, ◌*◌, length, ap, sym, ◌∙◌, subst, refl, arith, context_by, tail_call_of, table_space, registered_of, AreListed, call_ind_kept, call_kept, call_usable, keeps_rules, kept, listed_try, table_fine, tail_kept, tail_sum, jump_sum, target_fine, is_some, with_map}
 use Rattle.rv_emit.proofs.emit.put_asking.Goals as goal
 
 pub emit_island_if_needed-requires-clause-reach : goal.emit_island_if_needed-requires-clause-reach
@@ -9,12 +9,12 @@ pub emit_island_if_needed-requires-in-BrTable-clause-reach : goal.emit_island_if
 emit_island_if_needed-requires-in-BrTable-clause-reach c = reach_calm c.args.sink.now c.requires.calm
 
 pub table_space-space-requires-clause-some : goal.table_space-space-requires-clause-some
-table_space-space-requires-clause-some c = omega (arith, (table_kept (context_by c.args.flags c.args.frame.now (registered_of c.args.sink.now)) _ _ _ _ _ c.in-BrTable.is c.requires.rule).4, c.len.ensures ∙ ap length c.as_ref-targets.ensures)
+table_space-space-requires-clause-some c = omega (arith, (table_fine _ _ _ _ (kept c.in-BrTable.is (keeps_rules (context_by c.args.flags c.args.frame.now (registered_of c.args.sink.now)) _ c.requires.rule))).4, c.len.ensures ∙ ap length c.as_ref-targets.ensures)
 
 pub put_table-requires : goal.put_table-requires
 put_table-requires c =
     let context = context_by c.args.flags c.args.frame.now (registered_of c.args.sink.now) in
-    let kept = table_kept context c.args.inst.now _ _ _ _ c.in-BrTable.is c.requires.rule in
+    let fine = table_fine _ _ _ _ (kept c.in-BrTable.is (keeps_rules context c.args.inst.now c.requires.rule)) in
     let sum : inst_sum context c.args.inst.now ≡ 128 + 8 * length c.in-BrTable.targets = ap (inst_sum context) c.in-BrTable.is ∙ omega arith in
     let room = c.requires.room in
     let same = c.as_slice.ensures ∙ c.as_ref-targets.ensures in
@@ -23,11 +23,11 @@ put_table-requires c =
     let left = room_left _ (8 * length c.in-BrTable.targets) c.args.sink.now _ _ (omega arith) made in
     let more = island_few _ c.args.sink.now _ _ made in
     record {
-      index = kept.0;
-      tmp1 = kept.1;
-      tmp2 = kept.2;
-      listed = subst AreListed (sym same) kept.3;
-      some = let some = kept.4 in omega arith;
+      index = fine.0;
+      tmp1 = fine.1;
+      tmp2 = fine.2;
+      listed = subst AreListed (sym same) fine.3;
+      some = let some = fine.4 in omega arith;
       allocated = omega arith;
       room = omega arith;
       sound = room_sound _ c.args.sink.now _ _ made c.requires.sound;
@@ -66,8 +66,8 @@ pub put_tail_jump-requires : goal.put_tail_jump-requires
 put_tail_jump-requires c = record {
   frame = search rules;
   arguments = rw c.as_ref-in-ReturnCallInd.ensures (tail_kept (context_by c.args.flags c.args.frame.now (registered_of c.args.sink.now)) _ _ (ap tail_call_of c.in-ReturnCallInd.is) c.requires.rule);
-  target = rw c.as_ref-in-ReturnCallInd.ensures (target_kept (context_by c.args.flags c.args.frame.now (registered_of c.args.sink.now)) _ _ c.in-ReturnCallInd.is c.requires.rule).0;
-  fifth = rw c.as_ref-in-ReturnCallInd.ensures (target_kept (context_by c.args.flags c.args.frame.now (registered_of c.args.sink.now)) _ _ c.in-ReturnCallInd.is c.requires.rule).1;
+  target = rw c.as_ref-in-ReturnCallInd.ensures (target_fine _ (kept c.in-ReturnCallInd.is (keeps_rules (context_by c.args.flags c.args.frame.now (registered_of c.args.sink.now)) _ c.requires.rule))).0;
+  fifth = rw c.as_ref-in-ReturnCallInd.ensures (target_fine _ (kept c.in-ReturnCallInd.is (keeps_rules (context_by c.args.flags c.args.frame.now (registered_of c.args.sink.now)) _ c.requires.rule))).1;
   reach = reach_calm c.args.sink.now c.requires.calm;
   few = search rules;
   room = let sum = jump_sum (context_by c.args.flags c.args.frame.now (registered_of c.args.sink.now)) c.args.inst.now c.in-ReturnCallInd.info c.in-ReturnCallInd.is in let room = c.requires.room in omega arith;
@@ -81,38 +81,38 @@ pub returns-in_ok-put_tail_jump-in-ReturnCallInd-clause-setting : goal.returns-i
 returns-in_ok-put_tail_jump-in-ReturnCallInd-clause-setting c = λ asks setting. rw c.in-ReturnCallInd.is
 
 pub put_loading_call-requires-clause-fine : goal.put_loading_call-requires-clause-fine
-put_loading_call-requires-clause-fine c = rw c.as_ref.ensures (call_asks (context_by c.args.flags c.args.frame.now (registered_of c.args.sink.now)) _ _ c.in-Call.is c.requires.rule).goes_on
+put_loading_call-requires-clause-fine c = rw c.as_ref.ensures (listed_try c.in-Call.info.try_call_info (kept c.in-Call.is (keeps_rules (context_by c.args.flags c.args.frame.now (registered_of c.args.sink.now)) _ c.requires.rule)).listed_try)
 
 pub put_loading_call-requires-clause-results : goal.put_loading_call-requires-clause-results
-put_loading_call-requires-clause-results c = rw c.as_ref.ensures (call_asks (context_by c.args.flags c.args.frame.now (registered_of c.args.sink.now)) _ _ c.in-Call.is c.requires.rule).results
+put_loading_call-requires-clause-results c = rw c.as_ref.ensures (call_kept _ (kept c.in-Call.is (keeps_rules (context_by c.args.flags c.args.frame.now (registered_of c.args.sink.now)) _ c.requires.rule))).results
 
 pub put_loading_call-requires-clause-room : goal.put_loading_call-requires-clause-room
 put_loading_call-requires-clause-room c = rw c.as_ref.ensures (omega (arith, ap (inst_sum (context_by c.args.flags c.args.frame.now (registered_of c.args.sink.now))) c.in-Call.is, no_extra 8 (loads_unless c.in-Call.info.patchable c.in-Call.info.defs), c.requires.room))
 
 pub returns-in_ok-put_loading_call-in-Call-clause-emitted : goal.returns-in_ok-put_loading_call-in-Call-clause-emitted
 returns-in_ok-put_loading_call-in-Call-clause-emitted c =
-    λ asks. loading_emits (context_by c.args.flags c.args.frame.now (registered_of c.args.sink.now)) _ _ _ _ (ap (with_map c.args.stack_map.now) c.in-Call.is)
-    (ap is_some (space_given c.args.stack_map.now (context_by c.args.flags c.args.frame.now (registered_of c.args.sink.now)) c.args.inst.now) ∙ asks) (rw c.as_ref.ensures at c.in_ok-put_loading_call-in-Call.ensures.parts)
+    λ asks. loading_emits _ (result_loads c.in-Call.info.defs) _ _ (call_is (context_by c.args.flags c.args.frame.now (registered_of c.args.sink.now)) _) (ap (with_map c.args.stack_map.now) c.in-Call.is)
+    (ap is_some (space_given c.args.stack_map.now (context_by c.args.flags c.args.frame.now (registered_of c.args.sink.now)) c.args.inst.now) ∙ asks) (unless_all c.in-Call.info.patchable c.in-Call.info.defs) (rw c.as_ref.ensures at c.in_ok-put_loading_call-in-Call.ensures.parts)
 
 pub returns-in_ok-put_loading_call-in-Call-clause-setting : goal.returns-in_ok-put_loading_call-in-Call-clause-setting
 returns-in_ok-put_loading_call-in-Call-clause-setting c = λ asks setting. rw c.in-Call.is
 
 pub put_loading_call_ind-requires-clause-fine : goal.put_loading_call_ind-requires-clause-fine
-put_loading_call_ind-requires-clause-fine c = rw c.as_ref-in-CallInd.ensures (call_ind_asks (context_by c.args.flags c.args.frame.now (registered_of c.args.sink.now)) _ _ c.in-CallInd.is c.requires.rule).goes_on
+put_loading_call_ind-requires-clause-fine c = rw c.as_ref-in-CallInd.ensures (listed_try c.in-CallInd.info.try_call_info (kept c.in-CallInd.is (keeps_rules (context_by c.args.flags c.args.frame.now (registered_of c.args.sink.now)) _ c.requires.rule)).listed_try)
 
 pub put_loading_call_ind-requires-clause-results : goal.put_loading_call_ind-requires-clause-results
-put_loading_call_ind-requires-clause-results c = rw c.as_ref-in-CallInd.ensures (call_ind_asks (context_by c.args.flags c.args.frame.now (registered_of c.args.sink.now)) _ _ c.in-CallInd.is c.requires.rule).results
+put_loading_call_ind-requires-clause-results c = rw c.as_ref-in-CallInd.ensures (call_ind_kept _ (kept c.in-CallInd.is (keeps_rules (context_by c.args.flags c.args.frame.now (registered_of c.args.sink.now)) _ c.requires.rule))).results
 
 pub put_loading_call_ind-requires-clause-room : goal.put_loading_call_ind-requires-clause-room
 put_loading_call_ind-requires-clause-room c = rw c.as_ref-in-CallInd.ensures (omega (arith, ap (inst_sum (context_by c.args.flags c.args.frame.now (registered_of c.args.sink.now))) c.in-CallInd.is, no_extra 4 (result_loads c.in-CallInd.info.defs), c.requires.room))
 
 pub returns-in_ok-put_loading_call_ind-in-CallInd-clause-emitted : goal.returns-in_ok-put_loading_call_ind-in-CallInd-clause-emitted
 returns-in_ok-put_loading_call_ind-in-CallInd-clause-emitted c =
-    λ asks. loading_ind_emits (context_by c.args.flags c.args.frame.now (registered_of c.args.sink.now)) _ _ _ _ (ap (with_map c.args.stack_map.now) c.in-CallInd.is)
-    (ap is_some (space_given c.args.stack_map.now (context_by c.args.flags c.args.frame.now (registered_of c.args.sink.now)) c.args.inst.now) ∙ asks) (rw c.as_ref-in-CallInd.ensures at c.in_ok-put_loading_call_ind-in-CallInd.ensures.parts)
+    λ asks. loading_emits _ (result_loads c.in-CallInd.info.defs) _ _ (call_ind_is (context_by c.args.flags c.args.frame.now (registered_of c.args.sink.now)) _) (ap (with_map c.args.stack_map.now) c.in-CallInd.is)
+    (ap is_some (space_given c.args.stack_map.now (context_by c.args.flags c.args.frame.now (registered_of c.args.sink.now)) c.args.inst.now) ∙ asks) (λ some. refl) (rw c.as_ref-in-CallInd.ensures at c.in_ok-put_loading_call_ind-in-CallInd.ensures.parts)
 
 pub returns-in_ok-put_loading_call_ind-in-CallInd-clause-setting : goal.returns-in_ok-put_loading_call_ind-in-CallInd-clause-setting
 returns-in_ok-put_loading_call_ind-in-CallInd-clause-setting c = λ asks setting. rw c.in-CallInd.is
 
 pub put_loading_call_ind-requires-clause-dest : goal.put_loading_call_ind-requires-clause-dest
-put_loading_call_ind-requires-clause-dest c = rw c.as_ref-in-CallInd.ensures (call_ind_asks (context_by c.args.flags c.args.frame.now (registered_of c.args.sink.now)) _ _ c.in-CallInd.is c.requires.rule).dest
+put_loading_call_ind-requires-clause-dest c = rw c.as_ref-in-CallInd.ensures (call_usable _ (kept c.in-CallInd.is (keeps_rules (context_by c.args.flags c.args.frame.now (registered_of c.args.sink.now)) _ c.requires.rule))).0

@@ -4,5 +4,5 @@ use Rattle.rv_emit.proofs.results.put_typed.Goals as goal
 pub returns-clause-slots : goal.returns-clause-slots
 returns-clause-slots c =
     let f : FitsSigned w64 c.from.result = search rules in
-    on_ok_weaker c.put_stack_load.result (λ p. typed_put _ _ _ _ _ _ (typed_is _ c.requires.typed ∙ c.from_type.ensures) (rw c.from.ensures at p))
+    on_ok_weaker c.put_stack_load.result (λ p. typed_put _ _ _ _ _ _ (typed_is _ ∙ c.from_type.ensures) (rw c.from.ensures at p))
     (rw (to_z-of_z w64 c.from.result f) at c.put_stack_load.ensures.slots)

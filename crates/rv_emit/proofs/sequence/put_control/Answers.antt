@@ -1,4 +1,4 @@
-use Rattle.rv_emit.proofs.{StackMaps.put_as, Terms.context_by, Terms.Emits, Terms.alone, Terms.real_number}
+use Rattle.rv_emit.proofs.{StackMaps.put_as, Terms.context_by, Terms.Emits, Terms.alone, Terms.arith, Terms.refl, Terms.ints_kept, Terms.kept, Terms.listed, Terms.listed_targets, Terms.real_number}
 use Rattle.rv_emit.proofs.sequence.put_control.Goals as goal
 
 pub returns-in-Jal-clause-parts : goal.returns-in-Jal-clause-parts
@@ -19,3 +19,15 @@ returns-in-Jalr-clause-parts c = λ family frame constants asks. put_as _ (λ i.
 
 pub returns-in-Udf-clause-parts : goal.returns-in-Udf-clause-parts
 returns-in-Udf-clause-parts c = λ family frame constants asks. put_as _ (λ i. Emits (context_by c.args.flags frame constants) i c.args.sink.now c.put_trap.new.sink) c.in-Udf.is (λ p setting. p) c.put_trap.ensures.slots
+
+pub put_trap_if-requires : goal.put_trap_if-requires
+put_trap_if-requires c = let all = ints_kept c.in-TrapIf.is c.requires.rule refl in record { rs1 = all.0.0; rs2 = all.1.0.0; few = c.requires.few; room = omega (arith, c.requires.room); sound = c.requires.sound }
+
+pub put_jump-requires-clause-label : goal.put_jump-requires-clause-label
+put_jump-requires-clause-label c = listed _ _ (kept c.in-Jal.is c.requires.rule).listed
+
+pub put_branch-requires-clause-fine : goal.put_branch-requires-clause-fine
+put_branch-requires-clause-fine c = let all = ints_kept c.in-CondBr.is c.requires.rule refl in let both = listed_targets _ _ (kept c.in-CondBr.is c.requires.rule).listed in (all.0.0, all.1.0.0, both.0, both.1)
+
+pub put_jalr-requires-in-Jalr : goal.put_jalr-requires-in-Jalr
+put_jalr-requires-in-Jalr c = let all = ints_kept c.in-Jalr.is c.requires.rule refl in record { rd = all.0.0; base = all.1.0.0; room = omega (arith, c.requires.room); sound = c.requires.sound }

@@ -1,4 +1,4 @@
-use Rattle.rv_emit.proofs.{StackMaps.put_as, Terms.sym, Terms.subst, Terms.ap, Terms.◌∙◌, Terms.Select, Terms.registered_of, Terms.IsFine, Terms.EmitsAnyhow, Terms.int_class}
+use Rattle.rv_emit.proofs.{StackMaps.put_as, Terms.sym, Terms.arith, Terms.refl, Terms.rules, Terms.ap, Terms.◌∙◌, Terms.Select, Terms.EmitsAnyhow, Terms.extend_kept, Terms.int_class, Terms.ints_kept, Terms.kept, Terms.move_kept, Terms.preg_usable, Terms.select_fine}
 use Rattle.rv_emit.proofs.sequence.put_integer.Goals as goal
 
 pub returns-in-AluRRR-clause-parts : goal.returns-in-AluRRR-clause-parts
@@ -9,7 +9,7 @@ returns-in-Mov-clause-parts c = λ family. put_as _ (λ i. EmitsAnyhow c.args.fl
 
 pub returns-in-MovFromPReg-clause-parts : goal.returns-in-MovFromPReg-clause-parts
 returns-in-MovFromPReg-clause-parts c =
-    let int = int_class _ (subst (IsFine (registered_of c.args.sink.now)) c.in-MovFromPReg.is c.requires.fine).0 in
+    let int = int_class _ (preg_usable _ _ (kept c.in-MovFromPReg.is c.requires.rule)).0.0 in
     λ family. put_as _ (λ i. EmitsAnyhow c.args.flags i c.args.sink.now c.put_move-in-MovFromPReg.new.sink) c.in-MovFromPReg.is (λ p frame constants setting. rw int at p) c.put_move-in-MovFromPReg.ensures.slots
 
 pub returns-in-LoadInlineConst-clause-parts : goal.returns-in-LoadInlineConst-clause-parts
@@ -26,3 +26,32 @@ returns-in-Extend-clause-parts c = λ family. put_as _ (λ i. EmitsAnyhow c.args
 
 pub returns-in-Select-clause-parts : goal.returns-in-Select-clause-parts
 returns-in-Select-clause-parts c = λ family. put_as _ (λ i. EmitsAnyhow c.args.flags i c.args.sink.now c.put_select.new.sink) (c.in-Select.is ∙ sym (ap Select c.as_ref-info.ensures)) (λ p frame constants setting. p) c.put_select.ensures.slots
+
+pub put_lui-requires-clause-rd : goal.put_lui-requires-clause-rd
+put_lui-requires-clause-rd c = (ints_kept c.in-Lui.is c.requires.rule refl).0.0
+
+pub enc_auipc-requires : goal.enc_auipc-requires
+enc_auipc-requires c = search (rules, (ints_kept c.in-Auipc.is c.requires.rule refl))
+
+pub put_constant-requires-clause-rd : goal.put_constant-requires-clause-rd
+put_constant-requires-clause-rd c = (ints_kept c.in-LoadInlineConst.is c.requires.rule refl).0.0
+
+pub put_rrr-requires : goal.put_rrr-requires
+put_rrr-requires c = let all = ints_kept c.in-AluRRR.is c.requires.rule refl in record { rd = all.0.0; rs1 = all.1.0.0; rs2 = all.1.1.0.0; room = omega (arith, c.requires.room); sound = c.requires.sound }
+
+pub put_rri-requires : goal.put_rri-requires
+put_rri-requires c = let all = ints_kept c.in-AluRRImm12.is c.requires.rule refl in record { rd = all.0.0; rs = all.1.0.0; room = omega (arith, c.requires.room); sound = c.requires.sound }
+
+pub put_move-requires-clause-fine : goal.put_move-requires-clause-fine
+put_move-requires-clause-fine c = move_kept _ _ _ (kept c.in-Mov.is c.requires.rule)
+
+pub put_move-requires-in-MovFromPReg-clause-fine : goal.put_move-requires-in-MovFromPReg-clause-fine
+put_move-requires-in-MovFromPReg-clause-fine c = search (rules, (preg_usable _ _ (kept c.in-MovFromPReg.is c.requires.rule)))
+
+pub put_extend-requires : goal.put_extend-requires
+put_extend-requires c =
+    let h = extend_kept _ _ _ _ _ (kept c.in-Extend.is c.requires.rule) in
+    record { rd = h.0.0; rn = h.1.0; some = h.2; few = h.3; allocated = omega (arith, c.requires.few); room = omega (arith, c.requires.room); sound = c.requires.sound }
+
+pub put_select-requires-clause-fine : goal.put_select-requires-clause-fine
+put_select-requires-clause-fine c = rw c.as_ref-info.ensures (select_fine _ _ _ _ (kept c.in-Select.is c.requires.rule))

@@ -1,11 +1,6 @@
-use Rattle.{std.specs.Prelude.IfSome, std.specs.Prelude.Some, std.specs.Prelude.List, std.proofs.Common.rules, std.proofs.Common.◌≡◌, std.proofs.Common.refl, std.proofs.Common.subst}
-use Rattle.rv_emit.proofs.{StackMaps.put_as, Terms.sym, Terms.◌∙◌, Terms.arith, Terms.Context, Terms.EmitVState, Terms.EmitsAnyhow, Terms.Inst, Terms.Nop0, Terms.PutsParts, Terms.parts_of, Terms.slots_alone, Terms.slots_of, Terms.context_by}
-use Rattle.{rv_base.specs.declared.constant.Constant.Constant, rv_inst.specs.Descriptions.sequence_of, rv_inst.specs.declared.sequence.Sequence.Sequence, rv_code.specs.Sequences.sequence_pieces, rv_code.specs.Usable.IsFine, rv_code.specs.Usable.IsFineSequence}
+use Rattle.{rv_code.{specs.Sequences.sequence_pieces, specs.Usable.IsFineSequence}, rv_emit.{proofs.StackMaps.put_as, proofs.Terms.{sym, ints_kept, kept, sequence_fine, ◌∙◌, arith, Context, EmitVState, EmitsAnyhow, Inst, Nop0, PutsParts, parts_of, slots_alone, slots_of, context_by}}}
+use Rattle.{rv_inst.{specs.Descriptions.sequence_of, specs.declared.sequence.Sequence.Sequence}, std.{proofs.Common.{◌≡◌, refl, subst}, specs.Prelude.{IfSome, Some}}}
 use Rattle.rv_emit.proofs.sequence.put_loop.Goals as goal
-
-sequence_fine : (constants : List Constant) (inst : Inst) → IsFine constants inst → IfSome (sequence_of inst) (λ (s : Sequence). IsFineSequence s)
-sequence_fine constants Nop0 h = tt
-sequence_fine constants inst h = search rules
 
 sequence_parts : (context : Context) (setting : EmitVState) (inst : Inst) (s : Sequence) → sequence_of inst ≡ Some s → slots_alone (slots_of context.flags (sequence_pieces s)) ≡ parts_of context setting inst
 sequence_parts context setting Nop0 s e = absurd (cc)
@@ -14,8 +9,11 @@ sequence_parts context setting inst s e = cc
 pub returns-in-StackProbeLoop-clause-parts : goal.returns-in-StackProbeLoop-clause-parts
 returns-in-StackProbeLoop-clause-parts c = λ family. put_as _ (λ i. EmitsAnyhow c.args.flags i c.args.sink.now c.put_probe_loop.new.sink) c.in-StackProbeLoop.is (λ p frame constants setting. p) c.put_probe_loop.ensures.slots
 
+pub put_probe_loop-requires-clause-tmp : goal.put_probe_loop-requires-clause-tmp
+put_probe_loop-requires-clause-tmp c = (ints_kept c.in-StackProbeLoop.is c.requires.rule refl).0.0
+
 pub put_computation-requires : goal.put_computation-requires
-put_computation-requires c = record { fine = subst (λ o. IfSome o (λ (s : Sequence). IsFineSequence s)) (sym c.sequence.ensures ∙ c.in-Some.is) (sequence_fine _ _ c.requires.fine); few = c.requires.few; room = omega (arith, c.requires.room); sound = c.requires.sound }
+put_computation-requires c = record { fine = subst (λ o. IfSome o (λ (s : Sequence). IsFineSequence s)) (sym c.sequence.ensures ∙ c.in-Some.is) (sequence_fine _ (kept refl c.requires.rule)); few = c.requires.few; room = omega (arith, c.requires.room); sound = c.requires.sound }
 
 pub returns-in-Some-clause-parts : goal.returns-in-Some-clause-parts
 returns-in-Some-clause-parts c = λ family. put_as {inst = c.args.inst.now} c.put_computation.result (λ i. EmitsAnyhow c.args.flags i c.args.sink.now c.put_computation.new.sink) refl

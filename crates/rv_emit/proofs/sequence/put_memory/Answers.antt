@@ -1,4 +1,4 @@
-use Rattle.rv_emit.proofs.{StackMaps.put_as, Terms.refl, Terms.number_of, Terms.context_by, Terms.registered_of, Terms.Emits, Terms.address_slots, Terms.load_line_slots, Terms.named_put, Terms.load_line_named, Terms.store_line_named}
+use Rattle.rv_emit.proofs.{StackMaps.put_as, Terms.arith, Terms.false, Terms.refl, Terms.rules, Terms.ints_kept, Terms.kept, Terms.listed, Terms.load_addr_fine, Terms.load_fine, Terms.store_fine, Terms.number_of, Terms.context_by, Terms.registered_of, Terms.Emits, Terms.address_slots, Terms.load_line_slots, Terms.named_put, Terms.load_line_named, Terms.store_line_named}
 use Rattle.rv_emit.proofs.sequence.put_memory.Goals as goal
 
 pub returns-in_ok-place-in-Load-clause-parts : goal.returns-in_ok-place-in-Load-clause-parts
@@ -19,3 +19,26 @@ returns-in_ok-place-in-LoadAddr-clause-parts c =
 
 pub returns-in-LabelAddress-clause-parts : goal.returns-in-LabelAddress-clause-parts
 returns-in-LabelAddress-clause-parts c = λ family. put_as _ (λ i. Emits (context_by c.args.flags c.args.frame.now (registered_of c.args.sink.now)) i c.args.sink.now c.put_label_address.new.sink) c.in-LabelAddress.is (λ p setting. p c.args.flags) c.put_label_address.ensures.slots
+
+pub resolved_address-requires-clause-fine : goal.resolved_address-requires-clause-fine
+resolved_address-requires-clause-fine c = (load_fine c.in-Load.is c.requires.rule).2
+
+pub resolved_address-requires-in-Store-clause-fine : goal.resolved_address-requires-in-Store-clause-fine
+resolved_address-requires-in-Store-clause-fine c = (store_fine c.in-Store.is c.requires.rule).1
+
+pub resolved_address-requires-in-LoadAddr-clause-fine : goal.resolved_address-requires-in-LoadAddr-clause-fine
+resolved_address-requires-in-LoadAddr-clause-fine c = (load_addr_fine c.in-LoadAddr.is c.requires.rule).1
+
+pub put_load_line-requires : goal.put_load_line-requires
+put_load_line-requires c = let h = load_fine c.in-Load.is c.requires.rule in record { rd = h.0; base = h.1; fine = search rules; room = search rules; sound = search rules }
+
+pub put_store_line-requires-clause-src : goal.put_store_line-requires-clause-src
+put_store_line-requires-clause-src c = (store_fine c.in-Store.is c.requires.rule).0
+
+pub put_address-requires-clause-rd : goal.put_address-requires-clause-rd
+put_address-requires-clause-rd c = (load_addr_fine c.in-LoadAddr.is c.requires.rule).0
+
+pub put_label_address-requires : goal.put_label_address-requires
+put_label_address-requires c =
+    let label = listed c.in-LabelAddress.label false (kept c.in-LabelAddress.is c.requires.rule).listed in
+    record { rd = (ints_kept c.in-LabelAddress.is c.requires.rule refl).0.0; label = search (rules, label); room = omega (arith, c.requires.room); sound = c.requires.sound }

@@ -1,4 +1,4 @@
-use Rattle.rv_emit.proofs.{StackMaps.put_as, Terms.Emits, Terms.context_by}
+use Rattle.rv_emit.proofs.{StackMaps.put_as, Terms.Emits, Terms.data_kept, Terms.kept, Terms.context_by}
 use Rattle.rv_emit.proofs.sequence.put_pseudo.Goals as goal
 
 pub returns-in-RawData-clause-parts : goal.returns-in-RawData-clause-parts
@@ -10,3 +10,6 @@ returns-in-EBreak-clause-parts c = λ family frame constants asks. put_as _ (λ 
 
 pub returns-in-Unwind-clause-parts : goal.returns-in-Unwind-clause-parts
 returns-in-Unwind-clause-parts c = λ family frame constants asks. put_as _ (λ i. Emits (context_by c.args.flags frame constants) i c.args.sink.now c.put_unwind.new.sink) c.in-Unwind.is (λ p setting. p c.args.flags) c.put_unwind.ensures.slots
+
+pub put_bytes-requires-clause-size : goal.put_bytes-requires-clause-size
+put_bytes-requires-clause-size c = rw c.as_slice.ensures (data_kept _ (kept c.in-RawData.is c.requires.rule))

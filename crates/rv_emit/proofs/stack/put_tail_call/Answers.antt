@@ -7,13 +7,11 @@ overflow_add-size c = record { fits = omega (arith, return_most c.args.flags c.a
 
 pub put_call_to-requires : goal.put_call_to-requires
 put_call_to-requires c =
-    let most = return_most c.args.flags c.args.frame.now c.args.info.now.new_stack_arg_size in
     let island = rw c.in_ok-size.ensures.same at c.in_ok-emit_island_if_needed.ensures.made in
-    let long = alone_long _ c.emit_island_if_needed.new.sink c.put_return.new.sink c.in_ok-put_return.ensures.slots in
     record {
       link = real_int _ _ c.writable_zero_reg.ensures;
       tmp = real_int _ _ c.writable_spilltmp_reg.ensures;
-      room = omega (arith, room_left (c.in_ok-size.size + 8) (32 * length c.args.frame.now.clobbered_callee_saves + 96) c.args.sink.now c.emit_island_if_needed.new.sink c.in_ok-emit_island_if_needed.field-0 (omega (arith, c.requires.room)) island, alone_long {flags = no_flags} (Records event.CallSite ∷ []) c.put_return.new.sink c.put_call_site.new.sink (c.in_ok-put_call_site.ensures.slots no_flags));
+      room = omega (arith, return_most c.args.flags c.args.frame.now c.args.info.now.new_stack_arg_size, alone_long _ c.emit_island_if_needed.new.sink c.put_return.new.sink c.in_ok-put_return.ensures.slots, room_left (c.in_ok-size.size + 8) (32 * length c.args.frame.now.clobbered_callee_saves + 96) c.args.sink.now c.emit_island_if_needed.new.sink c.in_ok-emit_island_if_needed.field-0 (omega (arith, c.requires.room)) island, alone_long {flags = no_flags} (Records event.CallSite ∷ []) c.put_return.new.sink c.put_call_site.new.sink (c.in_ok-put_call_site.ensures.slots no_flags));
       sound = alone_sound {flags = no_flags} _ _ _ (c.in_ok-put_call_site.ensures.slots no_flags);
     }
 

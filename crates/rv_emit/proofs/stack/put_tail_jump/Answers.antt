@@ -9,9 +9,8 @@ put_jalr-requires-clause-rd c = real_int _ _ c.writable_zero_reg.ensures
 
 pub put_jalr-requires-clause-room : goal.put_jalr-requires-clause-room
 put_jalr-requires-clause-room c =
-    let most = return_most c.args.flags c.args.frame.now c.args.info.now.new_stack_arg_size in
     let island = rw c.in_ok-size.ensures.same at c.in_ok-emit_island_if_needed.ensures.made in
-    omega (arith, room_left (c.in_ok-size.size + 4) (32 * length c.args.frame.now.clobbered_callee_saves + 96) c.args.sink.now c.emit_island_if_needed.new.sink c.in_ok-emit_island_if_needed.field-0 (omega (arith, c.requires.room)) island, alone_long _ c.emit_island_if_needed.new.sink c.put_return.new.sink c.in_ok-put_return.ensures.slots)
+    omega (arith, return_most c.args.flags c.args.frame.now c.args.info.now.new_stack_arg_size, room_left (c.in_ok-size.size + 4) (32 * length c.args.frame.now.clobbered_callee_saves + 96) c.args.sink.now c.emit_island_if_needed.new.sink c.in_ok-emit_island_if_needed.field-0 (omega (arith, c.requires.room)) island, alone_long _ c.emit_island_if_needed.new.sink c.put_return.new.sink c.in_ok-put_return.ensures.slots)
 
 pub returns-clause-parts : goal.returns-clause-parts
 returns-clause-parts c =

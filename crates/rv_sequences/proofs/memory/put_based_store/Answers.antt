@@ -1,10 +1,10 @@
-use Rattle.rv_sequences.proofs.{AddressCode.{near_put, far_put}, Terms.{[], ◌∷◌, ◌++◌, ◌∙◌, on_ok_weaker, w64, to_z-of_z, number_of, short_store, Op, access_slots}}
+use Rattle.rv_sequences.proofs.{AddressCode.{near_put, far_put}, Terms.{[], ◌∷◌, ◌++◌, ◌∙◌, on_ok_weaker, w64, to_z-of_z, number_of, Do, Store, access_pieces}}
 use Rattle.rv_sequences.proofs.memory.put_based_store.Goals as goal
 
 pub returns-in-Some-clause-slots : goal.returns-in-Some-clause-slots
 returns-in-Some-clause-slots c =
     let n = c.in-Some.offset in
-    on_ok_weaker c.put_near_store.result (λ p. near_put (λ x. access_slots c.args.trap ++ Op (short_store c.args.flags c.args.op (number_of c.args.base) (number_of c.args.src) x) ∷ []) _ _ _ _ _
+    on_ok_weaker c.put_near_store.result (λ p. near_put (λ x. access_pieces c.args.trap ++ Do (Store c.args.op (number_of c.args.base) (number_of c.args.src) x) ∷ []) _ _ _ _ _
     (c.in-Some.ensures ∙ to_z-of_z w64 c.args.offset c.ranges.offset) n.low n.high p) c.put_near_store.ensures.slots
 
 pub returns-in-None-clause-slots : goal.returns-in-None-clause-slots

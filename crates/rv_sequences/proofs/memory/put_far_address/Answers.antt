@@ -1,4 +1,4 @@
-use Rattle.rv_sequences.proofs.{AddressCode.longer, SlotsPut.{both_alone, alone_sound}, Terms.{arith, to_z-of_z, w64, number_of, offset_short}}
+use Rattle.rv_sequences.proofs.{AddressCode.{longer, pieces_then}, SlotsPut.alone_sound, Terms.{arith, to_z-of_z, w64, number_of, offset_short}}
 use Rattle.rv_sequences.proofs.memory.put_far_address.Goals as goal
 
 pub put_rrr-requires-clause-room : goal.put_rrr-requires-clause-room
@@ -11,4 +11,4 @@ put_rrr-requires-clause-sound c = alone_sound _ _ _ (rw (to_z-of_z w64 c.args.of
 
 pub returns-clause-slots : goal.returns-clause-slots
 returns-clause-slots c =
-    both_alone _ _ _ _ _ (offset_short c.args.flags (number_of c.args.rd.reg) c.args.offset).plain (rw (to_z-of_z w64 c.args.offset c.ranges.offset) at c.in_ok-put_offset.ensures.slots) c.in_ok-put_rrr.ensures.slots
+    pieces_then _ _ _ _ _ (offset_short c.args.flags (number_of c.args.rd.reg) c.args.offset).plain (rw (to_z-of_z w64 c.args.offset c.ranges.offset) at c.in_ok-put_offset.ensures.slots) c.in_ok-put_rrr.ensures.slots

@@ -1,4 +1,4 @@
-use Rattle.rv_sequences.proofs.{AddressCode.{longer, before_both}, SlotsPut.alone_sound, Terms.{arith, number_of, PutsAlone, location_at, address_slots, address_short, real_number}}
+use Rattle.rv_sequences.proofs.{AddressCode.{longer, pieces_then}, SlotsPut.alone_sound, Terms.{arith, number_of, PutsAlone, location_at, address_pieces, address_slots, address_short, real_number}}
 use Rattle.rv_sequences.proofs.memory.put_far_store.Goals as goal
 
 pub put_spilled_store-requires : goal.put_spilled_store-requires
@@ -8,4 +8,4 @@ pub returns-clause-slots : goal.returns-clause-slots
 returns-clause-slots c =
     let flags = c.args.flags in
     let at : PutsAlone flags (address_slots flags 31 (location_at c.args.place)) c.args.sink.now c.put_address.new.sink = rw (real_number _ _ _ c.writable_spilltmp_reg.ensures) at c.in_ok-put_address.ensures.slots in
-    before_both _ _ _ _ _ _ (address_short flags 31 (location_at c.args.place)).plain at (c.in_ok-put_spilled_store.ensures.slots flags c.requires.has)
+    pieces_then (address_pieces 31 (location_at c.args.place)) _ _ _ _ (address_short flags 31 (location_at c.args.place)).plain at (c.in_ok-put_spilled_store.ensures.slots flags c.requires.has)

@@ -1,4 +1,4 @@
-use Rattle.rv_sequences.proofs.{AddressCode.longer, SlotsPut.{both_alone, alone_sound}, Terms.{refl, arith, no_flags, access_short, real_number}}
+use Rattle.rv_sequences.proofs.{AddressCode.{access_then, far_load_put, longer}, SlotsPut.alone_sound, Terms.{refl, arith, no_flags, access_short, real_number}}
 use Rattle.rv_sequences.proofs.memory.put_spilled_load.Goals as goal
 
 pub put_word-requires : goal.put_word-requires
@@ -6,5 +6,5 @@ put_word-requires c = record { room = omega (arith, longer _ _ _ (access_short c
 
 pub returns-clause-slots : goal.returns-clause-slots
 returns-clause-slots c = λ flags has.
-    both_alone _ _ _ _ _ (access_short c.args.trap).plain (c.in_ok-put_access.ensures.slots flags)
-    (rw (← (real_number _ _ _ c.spilltmp_reg.ensures)) (c.in_ok-put_word.ensures.slot flags _ refl (c.encode_load.ensures flags has)))
+    access_then c.args.trap _ _ _ _ (c.in_ok-put_access.ensures.slots flags)
+    (far_load_put _ _ _ _ (rw (real_number _ _ _ c.spilltmp_reg.ensures) at (c.in_ok-put_word.ensures.slot flags _ refl (c.encode_load.ensures flags has))))

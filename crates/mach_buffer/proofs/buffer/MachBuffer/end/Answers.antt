@@ -1,4 +1,5 @@
-use Rattle.std.proofs.Common.{◌≡◌, ◌∙◌, ap, length, ℕ}
+use Rattle.std.proofs.Common.{◌≡◌, ◌∙◌, ap, length, ℕ, subst}
+use Rattle.mach_records.specs.Ranges.{RecordedFits}
 use Rattle.mach_records.specs.declared.records.Recorded.{Recorded}
 use Rattle.mach_labels.specs.Table.{entry_of}
 use Rattle.mach_records.specs.Records.{by_kind}
@@ -23,8 +24,8 @@ returns g c =
     let same_length : length final ≡ length (bytes_of now) = q.same_length ∙ ap (length {A = ℕ}) c.deref_mut.ensures.value in
     let kept = rw (c.deref-2.ensures.value, c.deref_mut.ensures.value) at q.kept in
     let others = rw (c.deref-2.ensures.value, c.deref_mut.ensures.value) at q.others in
-    let whole : c.from_vec.result ≡ final = c.from_vec.ensures ∙ take_at final _ _ (q.same_length ∙ c.deref_mut.ensures.len) in
-    let recorded = c.in_ok-recorded.ensures ∙ (λ i. by_kind (entry_of (c.places.ensures i)) (c.deref.ensures.value i)) in
+    let whole : c.list_of.result ≡ final = c.list_of.ensures.list ∙ take_at final _ _ (q.same_length ∙ c.deref_mut.ensures.len) in
+    let recorded = c.in_ok-recorded.ensures.found ∙ (λ i. by_kind (entry_of (c.places.ensures i)) (c.deref.ensures.value i)) in
     let finishes : Finishes g.L.MachInstLabelUse.kinds (shape_of c.args.self) final = record {
       order = e.order;
       in_order = e.in_order;
@@ -44,8 +45,8 @@ returns g c =
       offsets = d.offsets;
     } in
     record {
-      code = rw whole (finishes, c.from_vec-3.ensures);
-      labels = c.from_vec-2.ensures ∙ (λ i. (c.into_bound.ensures i).items) ∙ ap (λ (x : Shape g.row.L.Denot). x.labels) d.same;
+      code = rw whole (finishes, c.from_vec-2.ensures);
+      labels = c.from_vec.ensures ∙ (λ i. (c.into_bound.ensures i).items) ∙ ap (λ (x : Shape g.row.L.Denot). x.labels) d.same;
       relocs = ap (λ (r : Recorded). r.relocs) recorded;
       traps = ap (λ (r : Recorded). r.traps) recorded;
       call_sites = ap (λ (r : Recorded). r.call_sites) recorded;
@@ -53,4 +54,6 @@ returns g c =
       patchable_call_sites = ap (λ (r : Recorded). r.patchable_call_sites) recorded;
       stack_maps = ap (λ (r : Recorded). r.stack_maps) recorded;
       unwinds = ap (λ (r : Recorded). r.unwinds) recorded;
+      bytes = c.list_of.ensures.fits;
+      fits = subst RecordedFits recorded c.in_ok-recorded.ensures.fits;
     }
