@@ -5,6 +5,7 @@ ghost use Rattle.std.specs.Prelude.{◌≡◌, map, IfOk};
 ghost use Rattle.mach_labels.specs.Table.{entry_of};
 ghost use Rattle.std.specs.List.{AllByRecursion};
 ghost use Rattle.mach_records.specs.Ranges.{TargetFits, RelocFits, TrapFits, CallFits, FrameFits, HandlerFits, TryFits, EntryFits, MapFits, PatchFits, StepRanged, UnwindRanged, RecordedFits};
+ghost use Rattle.mach_records.specs.Collected.{both, collected, reported};
 ghost use Rattle.mach_records.specs.Records as records_of;
 
 use crate::records::{
@@ -44,40 +45,12 @@ fn reloc_at(offset: u32, kind: Reloc, target: &FinalizedRelocTarget, addend: i64
     }
 }
 
-/// The relocations among records, in their order.
-fn relocs_in(records: &[MachRecord], alloc: Global) -> Result<Vec<MachReloc>, OutOfMemory>
-    ensures found { IfOk result (λ found. found.items ≡ records_of.relocs_in records.now) }
-    ensures fits { IfOk result (λ found. AllByRecursion RelocFits found.items) }
-{
-    let mut found = Vec::new(alloc);
-    for r in records {
-        if let Event::Reloc(kind, target, addend) = &r.event {
-            found.push(reloc_at(r.offset, *kind, target, *addend))?;
-        }
-    }
-    Ok(found)
-}
-
 /// A trap at an offset.
 fn trap_at(offset: u32, code: TrapCode) -> MachTrap
     ensures made { result ≡ record { offset = offset; code = code } }
     ensures fits { TrapFits result }
 {
     MachTrap { offset, code }
-}
-
-/// The traps.
-fn traps_in(records: &[MachRecord], alloc: Global) -> Result<Vec<MachTrap>, OutOfMemory>
-    ensures found { IfOk result (λ found. found.items ≡ records_of.traps_in records.now) }
-    ensures fits { IfOk result (λ found. AllByRecursion TrapFits found.items) }
-{
-    let mut found = Vec::new(alloc);
-    for r in records {
-        if let Event::Trap(code) = &r.event {
-            found.push(trap_at(r.offset, *code))?;
-        }
-    }
-    Ok(found)
 }
 
 /// A copy of a step in the making of the frame.
@@ -120,54 +93,12 @@ fn unwind_at(offset: u32, inst: &UnwindInst) -> MachUnwind
     }
 }
 
-/// The steps in the making of the frame.
-fn unwinds_in(records: &[MachRecord], alloc: Global) -> Result<Vec<MachUnwind>, OutOfMemory>
-    ensures found { IfOk result (λ found. found.items ≡ records_of.unwinds_in records.now) }
-    ensures fits { IfOk result (λ found. AllByRecursion UnwindRanged found.items) }
-{
-    let mut found = Vec::new(alloc);
-    for r in records {
-        if let Event::Unwind(inst) = &r.event {
-            found.push(unwind_at(r.offset, inst))?;
-        }
-    }
-    Ok(found)
-}
-
-/// The offsets of the call sites.
-fn calls_in(records: &[MachRecord], alloc: Global) -> Result<Vec<u32>, OutOfMemory>
-    ensures found { IfOk result (λ found. found.items ≡ records_of.calls_in records.now) }
-    ensures fits { IfOk result (λ found. AllByRecursion CallFits found.items) }
-{
-    let mut found = Vec::new(alloc);
-    for r in records {
-        if let Event::CallSite = &r.event {
-            found.push(r.offset)?;
-        }
-    }
-    Ok(found)
-}
-
 /// A call that may be patched.
 fn patch_at(offset: u32, len: u32) -> MachPatchable
     ensures made { result ≡ record { offset = offset; len = len } }
     ensures fits { PatchFits result }
 {
     MachPatchable { offset, len }
-}
-
-/// The calls that may be patched.
-fn patches_in(records: &[MachRecord], alloc: Global) -> Result<Vec<MachPatchable>, OutOfMemory>
-    ensures found { IfOk result (λ found. found.items ≡ records_of.patches_in records.now) }
-    ensures fits { IfOk result (λ found. AllByRecursion PatchFits found.items) }
-{
-    let mut found = Vec::new(alloc);
-    for r in records {
-        if let Event::PatchableCallSite(len) = &r.event {
-            found.push(patch_at(r.offset, *len))?;
-        }
-    }
-    Ok(found)
 }
 
 /// A label's place, or 0 where it has none.
@@ -251,25 +182,6 @@ fn try_at(
     }
 }
 
-/// The call sites of calls that may throw, with labels by their places, or by 0 where they have none.
-fn tries_in(
-    records: &[MachRecord],
-    places: &LabelTable<u32>,
-    alloc: Global,
-) -> Result<Vec<MachTryCallSite>, OutOfMemory>
-    ensures found { IfOk result (λ found. found.items ≡ records_of.tries_in (records_of.offset_or_zero (entry_of places.now)) records.now) }
-    ensures fits { IfOk result (λ found. AllByRecursion TryFits found.items) }
-{
-    let mut found = Vec::new(alloc);
-    for r in records {
-        if let Event::TryCallSite(frame_offset, handlers) = &r.event {
-            let handlers = finalized_handlers(handlers.as_slice(), places, alloc)?;
-            found.push(try_at(r.offset, frame_offset, handlers))?;
-        }
-    }
-    Ok(found)
-}
-
 /// The values on the stack where a call returns.
 fn map_at(offset: u32, span: u32, map: UserStackMap) -> MachStackMap
     requires { AllByRecursion EntryFits map.entries }
@@ -277,21 +189,6 @@ fn map_at(offset: u32, span: u32, map: UserStackMap) -> MachStackMap
     ensures fits { MapFits result }
 {
     MachStackMap { offset, span, map }
-}
-
-/// The values on the stack where calls return.
-fn maps_in(records: &[MachRecord], alloc: Global) -> Result<Vec<MachStackMap>, OutOfMemory>
-    ensures found { IfOk result (λ found. found.items ≡ records_of.maps_in records.now) }
-    ensures fits { IfOk result (λ found. AllByRecursion MapFits found.items) }
-{
-    let mut found = Vec::new(alloc);
-    for r in records {
-        if let Event::StackMap(span, map) = &r.event {
-            let map = copy_of_map(map, alloc)?;
-            found.push(map_at(r.offset, *span, map))?;
-        }
-    }
-    Ok(found)
 }
 
 /// A copy of an entry of a map.
@@ -317,6 +214,84 @@ pub fn copy_of_map(map: &UserStackMap, alloc: Global) -> Result<UserStackMap, Ou
     })
 }
 
+/// What is collected of records, a list for each kind.
+#[derive(Drop)]
+struct Collected {
+    relocs: Vec<MachReloc>,
+    traps: Vec<MachTrap>,
+    call_sites: Vec<u32>,
+    try_call_sites: Vec<MachTryCallSite>,
+    patchable_call_sites: Vec<MachPatchable>,
+    stack_maps: Vec<MachStackMap>,
+    unwinds: Vec<MachUnwind>,
+}
+
+impl Collected {
+    /// Nothing yet. No list allocates before it has an element.
+    fn new(alloc: Global) -> Self
+        ensures { collected result ≡ records_of.nothing }
+    {
+        Collected {
+            relocs: Vec::new(alloc),
+            traps: Vec::new(alloc),
+            call_sites: Vec::new(alloc),
+            try_call_sites: Vec::new(alloc),
+            patchable_call_sites: Vec::new(alloc),
+            stack_maps: Vec::new(alloc),
+            unwinds: Vec::new(alloc),
+        }
+    }
+
+    /// Adds what a record reports to the list of its kind.
+    fn add(
+        &mut self,
+        r: &MachRecord,
+        places: &LabelTable<u32>,
+        alloc: Global,
+    ) -> Result<(), OutOfMemory>
+        ensures added { IfOk result (λ done. collected self.new ≡ both (collected self.old) (reported (entry_of places.now) r.now)) }
+        ensures fits { IfOk result (λ done. RecordedFits (reported (entry_of places.now) r.now)) }
+    {
+        let offset = r.offset;
+        match &r.event {
+            Event::Trap(code) => self.traps.push(trap_at(offset, *code))?,
+            Event::Reloc(kind, target, addend) => {
+                self.relocs.push(reloc_at(offset, *kind, target, *addend))?;
+            }
+            Event::Unwind(inst) => self.unwinds.push(unwind_at(offset, inst))?,
+            Event::CallSite => self.call_sites.push(offset)?,
+            Event::TryCallSite(frame_offset, handlers) => {
+                let handlers = finalized_handlers(handlers.as_slice(), places, alloc)?;
+                self.try_call_sites
+                    .push(try_at(offset, frame_offset, handlers))?;
+            }
+            Event::PatchableCallSite(len) => {
+                self.patchable_call_sites.push(patch_at(offset, *len))?;
+            }
+            Event::StackMap(span, map) => {
+                let map = copy_of_map(map, alloc)?;
+                self.stack_maps.push(map_at(offset, *span, map))?;
+            }
+        }
+        Ok(())
+    }
+
+    /// The lists as they stand.
+    fn into_recorded(self) -> Recorded
+        ensures { result ≡ collected self }
+    {
+        Recorded {
+            relocs: List::from_vec(self.relocs),
+            traps: List::from_vec(self.traps),
+            call_sites: List::from_vec(self.call_sites),
+            try_call_sites: List::from_vec(self.try_call_sites),
+            patchable_call_sites: List::from_vec(self.patchable_call_sites),
+            stack_maps: List::from_vec(self.stack_maps),
+            unwinds: List::from_vec(self.unwinds),
+        }
+    }
+}
+
 /// The records, by what they report. The labels of handlers are by their places, or by 0 where they have none.
 pub fn by_kind(
     records: &[MachRecord],
@@ -326,20 +301,9 @@ pub fn by_kind(
     ensures found { IfOk result (λ found. found ≡ records_of.by_kind (entry_of places.now) records.now) }
     ensures fits { IfOk result RecordedFits }
 {
-    let relocs = relocs_in(records, alloc)?;
-    let traps = traps_in(records, alloc)?;
-    let call_sites = calls_in(records, alloc)?;
-    let try_call_sites = tries_in(records, places, alloc)?;
-    let patchable_call_sites = patches_in(records, alloc)?;
-    let stack_maps = maps_in(records, alloc)?;
-    let unwinds = unwinds_in(records, alloc)?;
-    Ok(Recorded {
-        relocs: List::from_vec(relocs),
-        traps: List::from_vec(traps),
-        call_sites: List::from_vec(call_sites),
-        try_call_sites: List::from_vec(try_call_sites),
-        patchable_call_sites: List::from_vec(patchable_call_sites),
-        stack_maps: List::from_vec(stack_maps),
-        unwinds: List::from_vec(unwinds),
-    })
+    let mut found = Collected::new(alloc);
+    for r in records {
+        found.add(r, places, alloc)?;
+    }
+    Ok(found.into_recorded())
 }
