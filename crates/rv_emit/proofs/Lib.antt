@@ -17,4 +17,5 @@ mod TailCallCode
 mod CallSlots
 mod CallsPut
 mod EmitRuns
+mod Forgetting
 mod Terms

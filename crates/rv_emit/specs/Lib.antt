@@ -1,3 +1,4 @@
+pub mod Forgetting
 pub mod State
 pub mod Emission
 pub mod Standing

@@ -10,7 +10,8 @@ ghost use Rattle.rv_inst.specs.Sizes.{request_of};
 ghost use Rattle.rv_inst.specs.declared.inst.Family.TheVariants.{Integer, Memory, Control, Loop, Symbols};
 ghost use Rattle.rv_code.specs.declared.state.EmitVState.{EmitVState as Setting};
 ghost use Rattle.rv_sequences.specs.Emitted.{Buffer};
-ghost use Rattle.rv_emit.specs.State.{setting_after, setting_beyond, is_inline, jumps};
+ghost use Rattle.rv_emit.specs.Forgetting.{is_inline, jumps};
+ghost use Rattle.rv_emit.specs.State.{setting_after, setting_beyond};
 ghost use Rattle.rv_code.specs.Usable.{IsFineAddress, KeepsRules};
 
 use rv_base::{AMode, FrameLayout, IsaFlags};
@@ -19,6 +20,7 @@ use rv_inst::{CondBrTarget, Family, Inst};
 
 /// Returns whether nothing is known of the setting after the sequence of an instruction that asks for no island: a `jalr` stands
 /// in it, or a `jal` of four bytes.
+#[tactic(auto, using(crate::proofs::Forgetting::calls_forget, crate::proofs::Forgetting::loops_forget))]
 pub(crate) fn forgets_setting(flags: IsaFlags, frame: &FrameLayout, inst: &Inst) -> bool
     requires frame { sp_to_args_end frame.now < 2 ^ 31 }
     requires rule { (constants : List Constant) × KeepsRules constants inst.now }
@@ -38,6 +40,7 @@ pub(crate) fn forgets_setting(flags: IsaFlags, frame: &FrameLayout, inst: &Inst)
 }
 
 /// A constant that stands among the code is jumped over.
+#[tactic(auto, using(crate::proofs::Forgetting::integers_stay))]
 fn integer_forgets(flags: IsaFlags, inst: &Inst) -> bool
     ensures { family_of inst.now ≡ Integer → (frame : FrameLayout) (constants : List Constant) (b : Buffer) (setting : Setting) → setting_after (context_by flags frame constants) b inst.now setting ≡ setting_beyond result setting }
 {
@@ -47,22 +50,30 @@ fn integer_forgets(flags: IsaFlags, inst: &Inst) -> bool
     }
 }
 
-/// So is an offset.
 fn memory_forgets(flags: IsaFlags, frame: &FrameLayout, inst: &Inst) -> bool
     requires frame { sp_to_args_end frame.now < 2 ^ 31 }
     requires rule { (constants : List Constant) × KeepsRules constants inst.now }
     ensures { family_of inst.now ≡ Memory → (constants : List Constant) (b : Buffer) (setting : Setting) → setting_after (context_by flags frame.now constants) b inst.now setting ≡ setting_beyond result setting }
 {
     match inst {
-        Inst::Load { from, .. } => has_inline_offset(frame, *from) && !flags.has_zca,
-        Inst::Store { to, .. } => has_inline_offset(frame, *to) && !flags.has_zca,
-        Inst::LoadAddr { mem, .. } => has_inline_offset(frame, *mem) && !flags.has_zca,
+        Inst::Load { from, .. } => offset_forgets(flags, frame, *from),
+        Inst::Store { to, .. } => offset_forgets(flags, frame, *to),
+        Inst::LoadAddr { mem, .. } => offset_forgets(flags, frame, *mem),
         _ => false,
     }
 }
 
+/// An offset that stands there is jumped over, too.
+fn offset_forgets(flags: IsaFlags, frame: &FrameLayout, mode: AMode) -> bool
+    requires frame { sp_to_args_end frame.now < 2 ^ 31 }
+    requires fine { (constants : List Constant) × IsFineAddress constants mode }
+    ensures { result ≡ (is_inline (location_of frame.now mode) && not flags.has_zca) }
+{
+    has_inline_offset(frame, mode) && !flags.has_zca
+}
+
 fn control_forgets(flags: IsaFlags, inst: &Inst) -> bool
-    ensures { family_of inst.now ≡ Control → (frame : FrameLayout) (constants : List Constant) (b : Buffer) (setting : Setting) → setting_after (context_by flags frame constants) b inst.now setting ≡ setting_beyond result setting }
+    ensures { family_of inst.now ≡ Control → (frame : FrameLayout) (constants : List Constant) → request_of (context_by flags frame constants) inst.now ≡ None → (b : Buffer) (setting : Setting) → setting_after (context_by flags frame constants) b inst.now setting ≡ setting_beyond result setting }
 {
     match inst {
         Inst::Ret | Inst::BrTable { .. } | Inst::Jalr { .. } => true,

@@ -1,5 +1,6 @@
-use Rattle.rv_emit.proofs.{ReachAfterInst.reach_calm, TableCode.island_few, TableCode.table_emits, Islands.room_left, Islands.room_sound, CallSlots.loading_emits, CallSlots.unless_all, CallSlots.call_is, CallSlots.call_ind_is, StackMaps.space_given}
-use Rattle.rv_emit.proofs.Terms.{inst_sum, no_extra, loads_unless, result_loads, ◌+◌, ◌≡◌, rules, ◌*◌, length, ap, sym, ◌∙◌, subst, refl, arith, context_by, tail_call_of, table_space, registered_of, AreListed, call_ind_kept, call_kept, call_usable, keeps_rules, kept, listed_try, table_fine, tail_kept, tail_sum, jump_sum, target_fine, is_some, with_map}
+use Rattle.rv_emit.proofs.{ReachAfterInst.reach_calm, TableCode.island_few, TableCode.table_emits, Islands.room_left, Islands.room_sound, CallSlots.loading_emits, CallSlots.unless_all, CallSlots.call_is, CallSlots.call_ind_is, StackMaps.space_given, Forgetting.calls_forget, Forgetting.table_forgets}
+use Rattle.rv_emit.proofs.Terms.{inst_sum, no_extra, loads_unless, result_loads, ◌+◌, ◌≡◌, rules, ◌*◌, length, ap, sym, ◌∙◌, subst, refl, arith, context_by, tail_call_of, table_space, registered_of, AreListed, call_ind_kept, call_kept, call_usable, keeps_rules, kept, listed_try, table_fine, tail_kept, tail_sum, jump_sum, target_fine, is_some, with_map, family_of, setting_beyond}
+use mathlib.Core.Bool.{or-false}
 use Rattle.rv_emit.proofs.emit.put_asking.Goals as goal
 
 pub emit_island_if_needed-requires-clause-reach : goal.emit_island_if_needed-requires-clause-reach
@@ -37,7 +38,7 @@ pub returns-in_ok-made-in-EmitIsland-clause-emitted : goal.returns-in_ok-made-in
 returns-in_ok-made-in-EmitIsland-clause-emitted c = λ asks. rw c.in-EmitIsland.is (λ setting. (_, _, c.in_ok-made-in-EmitIsland.ensures.made, refl))
 
 pub returns-in_ok-made-in-EmitIsland-clause-setting : goal.returns-in_ok-made-in-EmitIsland-clause-setting
-returns-in_ok-made-in-EmitIsland-clause-setting c = λ asks setting. rw (c.in-EmitIsland.is, c.in_ok-made-in-EmitIsland.ensures.made.asked)
+returns-in_ok-made-in-EmitIsland-clause-setting c = λ asks setting. rw (c.in-EmitIsland.is, c.in_ok-made-in-EmitIsland.ensures.made.asked) (ap (λ c. setting_beyond c setting) (or-false _))
 
 pub returns-in_ok-put_table-in-BrTable-clause-emitted : goal.returns-in_ok-put_table-in-BrTable-clause-emitted
 returns-in_ok-put_table-in-BrTable-clause-emitted c =
@@ -45,7 +46,10 @@ returns-in_ok-put_table-in-BrTable-clause-emitted c =
     (c.table_space-space.ensures ∙ ap table_space (c.len.ensures ∙ ap length c.as_ref-targets.ensures)) c.in_ok-emit_island_if_needed-in-BrTable.ensures.made _ (c.as_slice.ensures ∙ c.as_ref-targets.ensures) c.in_ok-put_table-in-BrTable.ensures.slots
 
 pub returns-in_ok-put_table-in-BrTable-clause-setting : goal.returns-in_ok-put_table-in-BrTable-clause-setting
-returns-in_ok-put_table-in-BrTable-clause-setting c = λ asks setting. rw c.in-BrTable.is
+returns-in_ok-put_table-in-BrTable-clause-setting c =
+    let context = (context_by c.args.flags c.args.frame.now (registered_of c.args.sink.now)) in
+    let fine = table_fine _ _ _ _ (kept c.in-BrTable.is (keeps_rules context c.args.inst.now c.requires.rule)) in
+    λ asks setting. rw c.in-BrTable.is (table_forgets context c.in-BrTable.index c.in-BrTable.tmp1 c.in-BrTable.tmp2 c.in-BrTable.targets fine.4 c.args.sink.now setting)
 
 pub put_tail_call-requires-clause-arguments : goal.put_tail_call-requires-clause-arguments
 put_tail_call-requires-clause-arguments c = rw c.as_ref-in-ReturnCall.ensures (tail_kept (context_by c.args.flags c.args.frame.now (registered_of c.args.sink.now)) _ _ (ap tail_call_of c.in-ReturnCall.is) c.requires.rule)
@@ -60,7 +64,7 @@ pub returns-in_ok-put_tail_call-in-ReturnCall-clause-emitted : goal.returns-in_o
 returns-in_ok-put_tail_call-in-ReturnCall-clause-emitted c = λ asks. rw (c.in-ReturnCall.is, ← c.as_ref-in-ReturnCall.ensures) (λ setting. c.in_ok-put_tail_call-in-ReturnCall.ensures.parts)
 
 pub returns-in_ok-put_tail_call-in-ReturnCall-clause-setting : goal.returns-in_ok-put_tail_call-in-ReturnCall-clause-setting
-returns-in_ok-put_tail_call-in-ReturnCall-clause-setting c = λ asks setting. rw c.in-ReturnCall.is
+returns-in_ok-put_tail_call-in-ReturnCall-clause-setting c = λ asks. calls_forget (context_by c.args.flags c.args.frame.now (registered_of c.args.sink.now)) c.args.inst.now (ap family_of c.in-ReturnCall.is) c.args.sink.now
 
 pub put_tail_jump-requires : goal.put_tail_jump-requires
 put_tail_jump-requires c = record {
@@ -78,7 +82,7 @@ pub returns-in_ok-put_tail_jump-in-ReturnCallInd-clause-emitted : goal.returns-i
 returns-in_ok-put_tail_jump-in-ReturnCallInd-clause-emitted c = λ asks. rw (c.in-ReturnCallInd.is, ← c.as_ref-in-ReturnCallInd.ensures) (λ setting. c.in_ok-put_tail_jump-in-ReturnCallInd.ensures.parts)
 
 pub returns-in_ok-put_tail_jump-in-ReturnCallInd-clause-setting : goal.returns-in_ok-put_tail_jump-in-ReturnCallInd-clause-setting
-returns-in_ok-put_tail_jump-in-ReturnCallInd-clause-setting c = λ asks setting. rw c.in-ReturnCallInd.is
+returns-in_ok-put_tail_jump-in-ReturnCallInd-clause-setting c = λ asks. calls_forget (context_by c.args.flags c.args.frame.now (registered_of c.args.sink.now)) c.args.inst.now (ap family_of c.in-ReturnCallInd.is) c.args.sink.now
 
 pub put_loading_call-requires-clause-fine : goal.put_loading_call-requires-clause-fine
 put_loading_call-requires-clause-fine c = rw c.as_ref.ensures (listed_try c.in-Call.info.try_call_info (kept c.in-Call.is (keeps_rules (context_by c.args.flags c.args.frame.now (registered_of c.args.sink.now)) _ c.requires.rule)).listed_try)
@@ -95,7 +99,7 @@ returns-in_ok-put_loading_call-in-Call-clause-emitted c =
     (ap is_some (space_given c.args.stack_map.now (context_by c.args.flags c.args.frame.now (registered_of c.args.sink.now)) c.args.inst.now) ∙ asks) (unless_all c.in-Call.info.patchable c.in-Call.info.defs) (rw c.as_ref.ensures at c.in_ok-put_loading_call-in-Call.ensures.parts)
 
 pub returns-in_ok-put_loading_call-in-Call-clause-setting : goal.returns-in_ok-put_loading_call-in-Call-clause-setting
-returns-in_ok-put_loading_call-in-Call-clause-setting c = λ asks setting. rw c.in-Call.is
+returns-in_ok-put_loading_call-in-Call-clause-setting c = λ asks. calls_forget (context_by c.args.flags c.args.frame.now (registered_of c.args.sink.now)) c.args.inst.now (ap family_of c.in-Call.is) c.args.sink.now
 
 pub put_loading_call_ind-requires-clause-fine : goal.put_loading_call_ind-requires-clause-fine
 put_loading_call_ind-requires-clause-fine c = rw c.as_ref-in-CallInd.ensures (listed_try c.in-CallInd.info.try_call_info (kept c.in-CallInd.is (keeps_rules (context_by c.args.flags c.args.frame.now (registered_of c.args.sink.now)) _ c.requires.rule)).listed_try)
@@ -112,7 +116,7 @@ returns-in_ok-put_loading_call_ind-in-CallInd-clause-emitted c =
     (ap is_some (space_given c.args.stack_map.now (context_by c.args.flags c.args.frame.now (registered_of c.args.sink.now)) c.args.inst.now) ∙ asks) (λ some. refl) (rw c.as_ref-in-CallInd.ensures at c.in_ok-put_loading_call_ind-in-CallInd.ensures.parts)
 
 pub returns-in_ok-put_loading_call_ind-in-CallInd-clause-setting : goal.returns-in_ok-put_loading_call_ind-in-CallInd-clause-setting
-returns-in_ok-put_loading_call_ind-in-CallInd-clause-setting c = λ asks setting. rw c.in-CallInd.is
+returns-in_ok-put_loading_call_ind-in-CallInd-clause-setting c = λ asks. calls_forget (context_by c.args.flags c.args.frame.now (registered_of c.args.sink.now)) c.args.inst.now (ap family_of c.in-CallInd.is) c.args.sink.now
 
 pub put_loading_call_ind-requires-clause-dest : goal.put_loading_call_ind-requires-clause-dest
 put_loading_call_ind-requires-clause-dest c = rw c.as_ref-in-CallInd.ensures (call_usable _ (kept c.in-CallInd.is (keeps_rules (context_by c.args.flags c.args.frame.now (registered_of c.args.sink.now)) _ c.requires.rule))).0

@@ -1,11 +1,21 @@
-use Rattle.rv_emit.proofs.Terms.{load_addr_fine, load_fine, store_fine}
+use Rattle.rv_emit.proofs.Forgetting.{addresses_forget, loads_forget, stores_forget}
+use Rattle.rv_emit.proofs.Terms.{context_by, load_addr_fine, load_fine, store_fine}
 use Rattle.rv_emit.proofs.setting.memory_forgets.Goals as goal
 
-pub has_inline_offset-requires-clause-fine : goal.has_inline_offset-requires-clause-fine
-has_inline_offset-requires-clause-fine c = (c.requires.rule.0, (load_fine c.in-Load.is c.requires.rule.1).2)
+pub offset_forgets-requires-clause-fine : goal.offset_forgets-requires-clause-fine
+offset_forgets-requires-clause-fine c = (c.requires.rule.0, (load_fine c.in-Load.is c.requires.rule.1).2)
 
-pub has_inline_offset-requires-in-Store-clause-fine : goal.has_inline_offset-requires-in-Store-clause-fine
-has_inline_offset-requires-in-Store-clause-fine c = (c.requires.rule.0, (store_fine c.in-Store.is c.requires.rule.1).1)
+pub offset_forgets-requires-in-Store-clause-fine : goal.offset_forgets-requires-in-Store-clause-fine
+offset_forgets-requires-in-Store-clause-fine c = (c.requires.rule.0, (store_fine c.in-Store.is c.requires.rule.1).1)
 
-pub has_inline_offset-requires-in-LoadAddr-clause-fine : goal.has_inline_offset-requires-in-LoadAddr-clause-fine
-has_inline_offset-requires-in-LoadAddr-clause-fine c = (c.requires.rule.0, (load_addr_fine c.in-LoadAddr.is c.requires.rule.1).1)
+pub offset_forgets-requires-in-LoadAddr-clause-fine : goal.offset_forgets-requires-in-LoadAddr-clause-fine
+offset_forgets-requires-in-LoadAddr-clause-fine c = (c.requires.rule.0, (load_addr_fine c.in-LoadAddr.is c.requires.rule.1).1)
+
+pub returns-in-Load : goal.returns-in-Load
+returns-in-Load c = λ family constants. loads_forget (context_by c.args.flags c.args.frame.now constants) c.in-Load.is c.offset_forgets.ensures
+
+pub returns-in-Store : goal.returns-in-Store
+returns-in-Store c = λ family constants. stores_forget (context_by c.args.flags c.args.frame.now constants) c.in-Store.is c.offset_forgets-in-Store.ensures
+
+pub returns-in-LoadAddr : goal.returns-in-LoadAddr
+returns-in-LoadAddr c = λ family constants. addresses_forget (context_by c.args.flags c.args.frame.now constants) c.in-LoadAddr.is c.offset_forgets-in-LoadAddr.ensures

@@ -1,0 +1,56 @@
+-- Operations after which nothing is known of the vector unit's setting: a `jalr`, and a `jal` of four bytes.
+use Rattle.std.specs.Prelude.{ℕ, Bool, true, false, not, ◌==◌}
+use Rattle.rv_machine.specs.declared.decoding.Decoded.{Decoded}
+use Rattle.rv_machine.specs.declared.ops.BaseOp.{BaseOp}
+use Rattle.rv_machine.specs.declared.ops.BaseOp.TheVariants.{Lui, Auipc, Jal, Jalr, Beq, Bne, Blt, Bge, Bltu, Bgeu, Fence, Ebreak}
+use Rattle.rv_machine.specs.declared.ops.MOp.{MOp}
+use Rattle.rv_machine.specs.declared.ops.MOp.TheVariants.{Base, Load, Store, Alu, Carry, Atomic, Csr, FloatLoad, FloatStore, Float, VecMem, Vec}
+use Rattle.rv_inst.specs.Addresses.{Location, Based, AtLabel, AtConstant, is_splittable}
+use Rattle.rv_inst.specs.declared.inst.CondBrTarget.{CondBrTarget}
+use Rattle.rv_inst.specs.declared.inst.CondBrTarget.TheVariants.{Label, Fallthrough}
+
+-- one of so many bytes
+abbrev pub base_forgets : ℕ → BaseOp → Bool
+base_forgets bytes Lui = false
+base_forgets bytes Auipc = false
+base_forgets bytes Jal = bytes == 4
+base_forgets bytes Jalr = true
+base_forgets bytes Beq = false
+base_forgets bytes Bne = false
+base_forgets bytes Blt = false
+base_forgets bytes Bge = false
+base_forgets bytes Bltu = false
+base_forgets bytes Bgeu = false
+base_forgets bytes Fence = false
+base_forgets bytes Ebreak = false
+
+abbrev pub op_forgets : ℕ → MOp → Bool
+op_forgets bytes (Base op) = base_forgets bytes op
+op_forgets bytes (Load op) = false
+op_forgets bytes (Store op) = false
+op_forgets bytes (Alu op) = false
+op_forgets bytes (Carry op) = false
+op_forgets bytes (Atomic op width) = false
+op_forgets bytes (Csr op) = false
+op_forgets bytes (FloatLoad format) = false
+op_forgets bytes (FloatStore format) = false
+op_forgets bytes (Float format op) = false
+op_forgets bytes (VecMem op) = false
+op_forgets bytes (Vec funct6 funct3) = false
+
+abbrev pub forgets : Decoded → Bool
+forgets d = op_forgets d.len d.op
+
+-- ---- where an instruction's code jumps within itself: links of the proof
+
+-- whether the offset of an address stands among the code, which jumps over it: no two immediates make it
+abbrev pub is_inline : Location → Bool
+is_inline (Based r o) = not (is_splittable o)
+is_inline (AtLabel l) = false
+is_inline (AtConstant k) = false
+
+-- whether a branch has a jump after it
+abbrev pub jumps : CondBrTarget → CondBrTarget → Bool
+jumps Fallthrough not_taken = false
+jumps (Label t) Fallthrough = false
+jumps (Label t) (Label f) = true
