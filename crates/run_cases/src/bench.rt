@@ -7,7 +7,7 @@ use crate::linked::Placing;
 use crate::numbers::pair;
 use rv_asm::assemble;
 use rv_base::{IsaFlags, OutOfMemory};
-use rv_inst::{Code, Job};
+use rv_inst::{Code, Context, Job};
 use rv_listing::{read_job, report};
 use rv_machine::{IntMachine, Step};
 use std::alloc::Global;
@@ -15,13 +15,12 @@ use std::alloc::Global;
 /// The job of a listing, and its code.
 pub(crate) fn code_of(alloc: Global, text: &str) -> Result<(Job, Code), RunError> {
     let job = read_job(alloc, text.as_bytes())?;
-    let code = assemble(
-        alloc,
-        job.lines.as_slice(),
-        job.flags,
-        &job.frame,
-        job.constants.as_slice(),
-    )?;
+    let context = Context {
+        flags: job.flags,
+        frame: &job.frame,
+        constants: job.constants.as_slice(),
+    };
+    let code = assemble(alloc, job.lines.as_slice(), &context)?;
     Ok((job, code))
 }
 

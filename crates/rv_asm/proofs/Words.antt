@@ -8,7 +8,7 @@ pub use Rattle.mach_buffer.proofs.Words.{or_parts, or_place, padded_for, padding
 pub use Rattle.mach_buffer.{proofs.Words.{slice_get, slice_get_read, slice_get_within, slice_index_or, take-append-le, take_all, take_more, traps_in, tries_in, true≢false, unplaced_of, unwinds_in, Use, uses_of, VCodeConstant, window, zeros}, specs.Buffer.{constants_of, labels_of, records_of}}
 pub use Rattle.{mach_buffer.specs.Islands.island_end, mach_records.{proofs.OfRecords.{record_relocs, record_traps, record_unwinds}, specs.Records.{event_recorded, no_offsets}, specs.declared.records.MachReloc.MachReloc}, mach_uses.specs.Labels.listed}
 pub use Rattle.rv_asm.{specs.AfterLastIsland.{AfterLastIsland, EndsIn, passing}, specs.BoundLabels.is_in, specs.FinishedCode.IsFinished}
-pub use Rattle.rv_asm.{specs.FullSimulation.{environment_at, FullRuns, HasFullOperations, IsEntry, IsExit, IsOn, LineAt, Lines, meaning_of, OneFullLine, Overwrites, Placing, Reached, RunsOn, StandsAt, Stops}, specs.Job.job_of}
+pub use Rattle.rv_asm.{specs.FullSimulation.{environment_at, FullRuns, HasFullOperations, IsEntry, IsExit, IsOn, LineAt, Lines, meaning_of, OneFullLine, Overwrites, Placing, Reached, RunsOn, StandsAt, Stops}}
 pub use Rattle.rv_asm.{specs.LinesInBuffer.{BindPut, CanPut, GapAsked, is_stuck, IsNamed, LinePut, LinesStand, LineStands, Named, ReturnsWithin, Sized, SpansIn, StandsAfter}, specs.Placed.{address_of_name, Addresses, bytes_from, distance_to, IsFilledAt, IsPlaced}}
 pub use Rattle.rv_asm.specs.Reach.{bound_by, constants_taken, constants_waiting, HasTail, InReach, IsDue, island_after, NotEarly, uses_after_island, uses_from, veneers_end, waiting}
 pub use Rattle.rv_asm.specs.Refusal.{bad_frame, binds, broken_from, constants_sum, Finds, has_bad_frame, is_bound, is_unfit, lines_sum, malformed, size_limit, size_sum, too_large, twice_from, twice_in, unbound_among, unbound_in}

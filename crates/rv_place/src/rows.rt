@@ -4,20 +4,19 @@ use crate::placing::{Image, place};
 use rv_asm::{assemble, read_job};
 use rv_base::ExternalName;
 use rv_fill::PlaceError;
-use rv_inst::Code;
+use rv_inst::{Code, Context};
 use std::alloc::Global;
 use std::test::Fail;
 
 /// The code of a listing.
 fn code_of(alloc: Global, listing: &[u8]) -> Result<Code, Fail> {
     let job = read_job(alloc, listing)?;
-    Ok(assemble(
-        alloc,
-        job.lines.as_slice(),
-        job.flags,
-        &job.frame,
-        job.constants.as_slice(),
-    )?)
+    let context = Context {
+        flags: job.flags,
+        frame: &job.frame,
+        constants: job.constants.as_slice(),
+    };
+    Ok(assemble(alloc, job.lines.as_slice(), &context)?)
 }
 
 fn refusal(placed: Result<Image, PlaceError>) -> Option<PlaceError> {

@@ -2,7 +2,7 @@
 
 use rv_asm::assemble;
 use rv_base::{FrameLayout, IntCC, IrType, IsaFlags, MachLabel, a0, a1, writable_a0};
-use rv_inst::{CondBrTarget, Inst, Line};
+use rv_inst::{CondBrTarget, Context, Inst, Line};
 use rv_ops::IntegerCompare;
 use std::alloc::{AllocError, Global};
 use std::test::Fail;
@@ -35,7 +35,12 @@ fn greater(alloc: Global) -> Result<Vec<Line>, AllocError> {
 fn lines_become_code(rt: HostRuntime) -> Result<(), Fail> {
     let lines = greater(rt.alloc())?;
     let frame = FrameLayout::none(rt.alloc());
-    let code = assemble(rt.alloc(), &lines, IsaFlags::none(), &frame, &[])?;
+    let context = Context {
+        flags: IsaFlags::none(),
+        frame: &frame,
+        constants: &[],
+    };
+    let code = assemble(rt.alloc(), &lines, &context)?;
     let words = [
         0x63, 0x54, 0xb5, 0x00, 0x13, 0x85, 0x05, 0x00, 0x67, 0x80, 0x00, 0x00,
     ];

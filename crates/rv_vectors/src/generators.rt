@@ -8,7 +8,7 @@ use rv_base::{
     fa1, writable_a0, writable_a2, writable_fa1, writable_link_reg,
 };
 use rv_imms::{Imm12, imm_max, imm_min};
-use rv_inst::{Inst, Line, SmallInstVec, gen_moves};
+use rv_inst::{Context, Inst, Line, SmallInstVec, gen_moves};
 use std::alloc::Global;
 use std::process::Abort;
 use std::test::Fail;
@@ -77,7 +77,12 @@ fn assert_codes(
         lines.push(Line::Inst(inst))?;
     }
     let frame = FrameLayout::none(alloc);
-    let code = assemble(alloc, &lines, IsaFlags::none(), &frame, &[])?;
+    let context = Context {
+        flags: IsaFlags::none(),
+        frame: &frame,
+        constants: &[],
+    };
+    let code = assemble(alloc, &lines, &context)?;
     assert_eq!(rt; code.bytes.as_slice(), bytes);
     Ok(())
 }

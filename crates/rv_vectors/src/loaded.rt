@@ -6,7 +6,7 @@ ghost use Rattle.rv_vectors.specs.Loaded.{IsBefore};
 
 use rv_asm::assemble;
 use rv_base::{FrameLayout, IsaFlags};
-use rv_inst::{Code, Inst, Line};
+use rv_inst::{Code, Context, Inst, Line};
 use rv_machine::{IntMachine, Step};
 use std::alloc::Global;
 use std::test::Fail;
@@ -33,7 +33,12 @@ fn started(alloc: Global, lines: &[Line], base: u64) -> Result<IntMachine, Fail>
     requires room { base + 2 ^ 32 ≤ 2 ^ 64 }
 {
     let frame = FrameLayout::none(alloc);
-    let code = assemble(alloc, lines, IsaFlags::none(), &frame, &[])?;
+    let context = Context {
+        flags: IsaFlags::none(),
+        frame: &frame,
+        constants: &[],
+    };
+    let code = assemble(alloc, lines, &context)?;
     loaded(alloc, &code, base)
 }
 
