@@ -92,7 +92,7 @@ slots_forget : (flags : IsaFlags) (ps : List Piece) → list_any slot_forgets (s
 slots_forget flags [] = refl
 slots_forget flags (p ∷ ps) = list_any-append slot_forgets (slots_for flags p) (slots_of flags ps) ∙ (λ i. piece_is flags p i || slots_forget flags ps i)
 
--- the last of a list is such, or none is
+-- two lists, of which the second has one that is such, or none
 last_any : {A : Type 0} (test : A → Bool) (xs ys : List A) → list_any test ys ≡ true → list_any test (xs ++ ys) ≡ true
 last_any test xs ys e = list_any-append test xs ys ∙ ap (λ c. list_any test xs || c) e ∙ or_true (list_any test xs)
 
