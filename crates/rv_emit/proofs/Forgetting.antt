@@ -1,7 +1,7 @@
 -- Which instructions' code forgets the vector unit's setting: none does by its actions, so it is a matter of jumps and calls among its pieces.
 use Rattle.rv_emit.proofs.Terms.{Bind, AMode, ◌≢◌, bits_of, cast_signed, w64, ◌*◌, ◌≡◌, refl, sym, ap, ◌∙◌, arith, ints, rules, Bool, true, false, not, ◌&&◌, ◌||◌, if◌then◌else◌, nat_eq, ℕ, ℤ, pos, List, [], ◌∷◌, ◌++◌, Option, Some, None, length, map, ◌≤◌, IsaFlags, TrapCode, IrType, I64, Reg}
-use Rattle.rv_emit.proofs.Terms.{Int, number_of, Writable, MachLabel, TryCallInfo, Decoded, Base, at, decoded, low_word, LoadOP, StoreOP, Add, Addi, decoded_rri, decoded_rrr, has_load, has_store, Based, AtLabel, is_near, is_splittable, location_of, Context, Inst, Calls, family_of, loads_unless}
-use Rattle.rv_emit.proofs.Terms.{result_loads, StackLoad, AluRRImm12, AluRRR, BrTable, Call, CallInd, Extend, Jal, Jalr, Load, LoadAddr, LoadInlineConst, Lui, Mov, MovFromPReg, ReturnCall, ReturnCallInd, Select, StackProbeLoop, Store, decoded_jump, Piece, Do, Branch, Jump, Go, op_of, slots_for}
+use Rattle.rv_emit.proofs.Terms.{Int, number_of, Writable, MachLabel, TryCallInfo, Decoded, Base, decoded, low_word, LoadOP, StoreOP, Add, Addi, decoded_rri, decoded_rrr, has_load, has_store, Based, AtLabel, is_near, is_splittable, location_of, Context, Inst, Calls, family_of, loads_unless}
+use Rattle.rv_emit.proofs.Terms.{result_loads, StackLoad, AluRRImm12, AluRRR, BrTable, Call, CallInd, Extend, Load, LoadAddr, LoadInlineConst, Lui, Mov, MovFromPReg, ReturnCall, ReturnCallInd, Select, StackProbeLoop, Store, decoded_jump, Piece, Do, Branch, Jump, Go, op_of, slots_for}
 use Rattle.rv_emit.proofs.Terms.{slots_of, Slot, Slots, Ask, SlotOf, EmitVState, parts_of, slots_alone, call_parts, number_slots, call_pieces, call_ind_pieces, try_pieces, extend_pieces, jump_slots, Buffer, bytes_of, pending, is_needed}
 use mathlib.Core.Bool.{or-false, or_self}
 use Rattle.{rv_base.{specs.Regs.class_of, specs.declared.condcodes.IntCC.IntCC, specs.declared.mem_flags.MemFlagsData.MemFlagsData}, rv_code.{proofs.LineSlots.offset_by, proofs.MadeOfPieces.{moves_keep, number_keeps}, proofs.OperationActs.{short_load_either, short_store_either}}}
@@ -92,7 +92,7 @@ slots_forget : (flags : IsaFlags) (ps : List Piece) → list_any slot_forgets (s
 slots_forget flags [] = refl
 slots_forget flags (p ∷ ps) = list_any-append slot_forgets (slots_for flags p) (slots_of flags ps) ∙ (λ i. piece_is flags p i || slots_forget flags ps i)
 
--- the last of a list is such, or none is
+-- two lists, of which the second has one that is such, or none
 last_any : {A : Type 0} (test : A → Bool) (xs ys : List A) → list_any test ys ≡ true → list_any test (xs ++ ys) ≡ true
 last_any test xs ys e = list_any-append test xs ys ∙ ap (λ c. list_any test xs || c) e ∙ or_true (list_any test xs)
 

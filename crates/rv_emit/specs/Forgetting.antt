@@ -6,8 +6,6 @@ use Rattle.rv_machine.specs.declared.ops.BaseOp.TheVariants.{Lui, Auipc, Jal, Ja
 use Rattle.rv_machine.specs.declared.ops.MOp.{MOp}
 use Rattle.rv_machine.specs.declared.ops.MOp.TheVariants.{Base, Load, Store, Alu, Carry, Atomic, Csr, FloatLoad, FloatStore, Float, VecMem, Vec}
 use Rattle.rv_inst.specs.Addresses.{Location, Based, AtLabel, AtConstant, is_splittable}
-use Rattle.rv_inst.specs.declared.inst.CondBrTarget.{CondBrTarget}
-use Rattle.rv_inst.specs.declared.inst.CondBrTarget.TheVariants.{Label, Fallthrough}
 
 -- one of so many bytes
 abbrev pub base_forgets : ℕ → BaseOp → Bool
@@ -41,16 +39,10 @@ op_forgets bytes (Vec funct6 funct3) = false
 abbrev pub forgets : Decoded → Bool
 forgets d = op_forgets d.len d.op
 
--- ---- where an instruction's code jumps within itself: links of the proof
+-- ---- a link of the proof
 
 -- whether the offset of an address stands among the code, which jumps over it: no two immediates make it
 abbrev pub is_inline : Location → Bool
 is_inline (Based r o) = not (is_splittable o)
 is_inline (AtLabel l) = false
 is_inline (AtConstant k) = false
-
--- whether a branch has a jump after it
-abbrev pub jumps : CondBrTarget → CondBrTarget → Bool
-jumps Fallthrough not_taken = false
-jumps (Label t) Fallthrough = false
-jumps (Label t) (Label f) = true

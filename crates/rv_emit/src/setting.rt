@@ -10,7 +10,7 @@ ghost use Rattle.rv_inst.specs.Sizes.{request_of};
 ghost use Rattle.rv_inst.specs.declared.inst.Family.TheVariants.{Integer, Memory, Control, Loop, Symbols};
 ghost use Rattle.rv_code.specs.declared.state.EmitVState.{EmitVState as Setting};
 ghost use Rattle.rv_sequences.specs.Emitted.{Buffer};
-ghost use Rattle.rv_emit.specs.Forgetting.{is_inline, jumps};
+ghost use Rattle.rv_emit.specs.Forgetting.{is_inline};
 ghost use Rattle.rv_emit.specs.State.{setting_after, setting_beyond};
 ghost use Rattle.rv_code.specs.Usable.{IsFineAddress, KeepsRules};
 
@@ -79,10 +79,10 @@ fn control_forgets(flags: IsaFlags, inst: &Inst) -> bool
         Inst::Ret | Inst::BrTable { .. } | Inst::Jalr { .. } => true,
         Inst::Jal { label: _ } => !flags.has_zca,
         Inst::CondBr {
-            taken,
-            not_taken,
+            taken: CondBrTarget::Label(_),
+            not_taken: CondBrTarget::Label(_),
             ..
-        } => branch_jumps(*taken, *not_taken) && !flags.has_zca,
+        } => !flags.has_zca,
         _ => false,
     }
 }
@@ -94,17 +94,6 @@ fn symbol_forgets(flags: IsaFlags, inst: &Inst) -> bool
     match inst {
         Inst::LoadExtNameFar { .. } => !flags.has_zca,
         _ => false,
-    }
-}
-
-/// Returns whether a branch has a jump after it.
-fn branch_jumps(taken: CondBrTarget, not_taken: CondBrTarget) -> bool
-    ensures { result ≡ jumps taken not_taken }
-{
-    match (taken, not_taken) {
-        (CondBrTarget::Fallthrough, _) => false,
-        (CondBrTarget::Label(_), CondBrTarget::Fallthrough) => false,
-        (CondBrTarget::Label(_), CondBrTarget::Label(_)) => true,
     }
 }
 
