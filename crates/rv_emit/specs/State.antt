@@ -1,6 +1,6 @@
 -- What emission knows of the vector unit's setting after an instruction. Nothing is known where a new basic block begins, and after
 -- code in which a `jalr` stands, or a `jal` of four bytes, that over an island among them; other code leaves what was known.
-use Rattle.std.specs.Prelude.{Bool, true, false, not, ◌&&◌, length}
+use Rattle.std.specs.Prelude.{◌≡◌, Bool, true, false, not, ◌&&◌, length}
 use Rattle.std.proofs.Common.{refl}
 use Rattle.rv_base.specs.declared.flags.IsaFlags.{IsaFlags}
 use Rattle.mach_buffer.specs.Buffer.{bytes_of}
@@ -9,7 +9,7 @@ use Rattle.rv_inst.specs.Addresses.{Location, Based, AtLabel, AtConstant, locati
 use Rattle.rv_inst.specs.Context.{Context}
 use Rattle.rv_inst.specs.declared.inst.CondBrTarget.{CondBrTarget}
 use Rattle.rv_inst.specs.declared.inst.CondBrTarget.TheVariants.{Label, Fallthrough}
-use Rattle.rv_inst.specs.Descriptions.{Description, Word, Computes, description_of}
+use Rattle.rv_inst.specs.Descriptions.{Description, Word, Computes, Gives, description_of, is_made, none_is_some}
 use Rattle.rv_inst.specs.declared.inst.Inst.{Inst}
 use Rattle.rv_inst.specs.declared.inst.Inst.TheVariants.{Nop0, Nop4, EBreak, SequencePoint, Args, Rets, DummyUse, EmitIsland, RawData, Lui, Auipc, LoadInlineConst, AluRRR, AluRRImm12, Mov, MovFromPReg, Extend, Select, Load, Store, LoadAddr, LabelAddress, Ret, TrapIf, Jal, CondBr, BrTable, Udf, Jalr, StackProbeLoop, LoadExtNameGot, LoadExtNameNear, LoadExtNameFar, Call, CallInd, ReturnCall, ReturnCallInd, Unwind}
 use Rattle.rv_sequences.specs.Emitted.{Buffer, pending}
@@ -37,10 +37,11 @@ jumps Fallthrough not_taken = false
 jumps (Label t) Fallthrough = false
 jumps (Label t) (Label f) = true
 
--- a word of a unit leaves it, and each sequence has a loop
-abbrev pub described_setting : IsaFlags → Description → EmitVState → EmitVState
-described_setting flags (Word w) setting = setting
-described_setting flags (Computes s with) setting = setting_beyond (is_wide flags) setting
+-- a word of a unit leaves it, and each sequence has a loop; all others have rows of their own
+abbrev pub described_setting : IsaFlags → (d : Description) → is_made d ≡ true → EmitVState → EmitVState
+described_setting flags (Word w) e setting = setting
+described_setting flags (Computes s with) e setting = setting_beyond (is_wide flags) setting
+described_setting flags (Gives g) e setting = absurd (none_is_some e)
 
 -- by the buffer and the setting known before an instruction, that known after it
 abbrev pub setting_after : Context → Buffer → Inst → EmitVState → EmitVState
@@ -82,4 +83,4 @@ setting_after context b (CallInd info) setting = Unknown
 setting_after context b (ReturnCall info) setting = Unknown
 setting_after context b (ReturnCallInd info) setting = Unknown
 setting_after context b (Unwind inst) setting = setting
-setting_after context b inst setting = described_setting context.flags (description_of inst refl) setting
+setting_after context b inst setting = described_setting context.flags (description_of inst refl) refl setting
