@@ -1,5 +1,5 @@
 -- The parts of each instruction's code: links of the proof.
-use Rattle.std.specs.Prelude.{ℕ, ◌+◌, ◌==◌, false, if◌then◌else◌, List, ◌∷◌, ◌++◌, length, Option, ℤ, pos}
+use Rattle.std.specs.Prelude.{ℕ, ◌≡◌, ◌+◌, ◌==◌, true, false, if◌then◌else◌, List, ◌∷◌, ◌++◌, length, Option, ℤ, pos}
 use Rattle.std.proofs.Common.{refl, []}
 use Rattle.rv_base.specs.declared.call.CallInfo.{CallInfo}
 use Rattle.rv_base.specs.declared.call.TryCallInfo.{TryCallInfo}
@@ -25,7 +25,7 @@ use Rattle.rv_inst.specs.Context.{Context}
 use Rattle.rv_inst.specs.Returns.{StackLoad, result_loads, loads_unless}
 use Rattle.rv_inst.specs.Limits.{table_space}
 use Rattle.rv_inst.specs.Sizes.{fall, results_space}
-use Rattle.rv_inst.specs.Descriptions.{Description, UnitWord, Word, Computes, description_of}
+use Rattle.rv_inst.specs.Descriptions.{Description, UnitWord, Word, Computes, Gives, description_of, is_made, none_is_some}
 use Rattle.rv_inst.specs.declared.inst.Inst.{Inst}
 use Rattle.rv_inst.specs.declared.inst.Inst.TheVariants.{Nop0, Nop4, EBreak, SequencePoint, Args, Rets, DummyUse, EmitIsland, RawData, Lui, Auipc, LoadInlineConst, AluRRR, AluRRImm12, Mov, MovFromPReg, Extend, Select, Load, Store, LoadAddr, LabelAddress, Ret, TrapIf, Jal, CondBr, BrTable, Udf, Jalr, StackProbeLoop, LoadExtNameGot, LoadExtNameNear, LoadExtNameFar, Call, CallInd, ReturnCall, ReturnCallInd, Unwind}
 use Rattle.rv_inst.specs.declared.inst.CondBrTarget.{CondBrTarget}
@@ -214,9 +214,11 @@ call_parts flags call (l ∷ loads) t = loading_parts flags call (l ∷ loads) t
 abbrev pub unit_parts : UnitWord → List Part
 unit_parts w = slots_alone (access_slots w.trap ++ Op w.operation ∷ [])
 
-abbrev pub described_parts : IsaFlags → Description → List Part
-described_parts flags (Word w) = unit_parts w
-described_parts flags (Computes s with) = slots_alone (slots_of flags (sequence_pieces s))
+-- of either; all others have rows of their own
+abbrev pub described_parts : IsaFlags → (d : Description) → is_made d ≡ true → List Part
+described_parts flags (Word w) e = unit_parts w
+described_parts flags (Computes s with) e = slots_alone (slots_of flags (sequence_pieces s))
+described_parts flags (Gives g) e = absurd (none_is_some e)
 
 -- by the context, and the vector unit's setting known before the instruction
 abbrev pub parts_of : Context → EmitVState → Inst → List Part
@@ -258,4 +260,4 @@ parts_of context setting (CallInd info) = call_parts context.flags (call_ind_pie
 parts_of context setting (ReturnCall info) = Ask (return_size context.flags context.frame info.new_stack_arg_size + 8) ∷ Slots (tail_slots context.flags context.frame info.new_stack_arg_size info.dest) ∷ []
 parts_of context setting (ReturnCallInd info) = Ask (return_size context.flags context.frame info.new_stack_arg_size + 4) ∷ Slots (t0_slots context.flags context.frame info.new_stack_arg_size) ∷ []
 parts_of context setting (Unwind inst) = slots_alone (slots_of context.flags (Note (event.Unwind inst) ∷ []))
-parts_of context setting inst = described_parts context.flags (description_of inst refl)
+parts_of context setting inst = described_parts context.flags (description_of inst refl) refl

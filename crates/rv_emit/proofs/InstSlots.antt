@@ -1,7 +1,7 @@
 -- How the code of an instruction is made: what it adds to a buffer, and that its parts are self-contained.
 use Rattle.{rv_code.{proofs.LineSlots.size_both, proofs.MadeOfPieces.{constant_made, far_made, got_made, near_made}, specs.Accesses.return_pieces, specs.InstParts.described_parts, specs.Slots.{uses_of, records_of}}, rv_emit.proofs.CallSlots.{IsCall, call_adds, call_blocks, call_is, call_ind_is}}
 use Rattle.rv_emit.{proofs.Islands.{KeepsLow, asked_keeps, room_named, room_records, room_sound}, proofs.OwnPieces.{Each, each_none, made_appends}, proofs.TableSlots.table_adds}
-use Rattle.rv_emit.proofs.Terms.{none_put, ◌≡◌, ◌⊎◌, inl, ℕ, ◌+◌, ◌*◌, ◌^◌, ◌≤◌, List, [], ◌∷◌, ◌++◌, length, Option, Some, None, pos, refl, ap, sym, ◌∙◌, arith, lit≤, subst, same_Some, number_of, TrapCode, code_limit, IntegerCompare, Context, inst_rule, UnitWord, Inst}
+use Rattle.rv_emit.proofs.Terms.{none_put, ◌≡◌, true, ◌⊎◌, inl, ℕ, ◌+◌, ◌*◌, ◌^◌, ◌≤◌, List, [], ◌∷◌, ◌++◌, length, Option, Some, None, pos, refl, ap, sym, ◌∙◌, arith, lit≤, subst, same_Some, number_of, TrapCode, code_limit, IntegerCompare, Context, inst_rule, UnitWord, Inst}
 use Rattle.rv_emit.proofs.Terms.{Nop0, Nop4, EBreak, SequencePoint, Args, Rets, DummyUse, EmitIsland, RawData, Lui, Auipc, LoadInlineConst, AluRRR, AluRRImm12, Mov, MovFromPReg, Extend, Select, Load, Store, LoadAddr, LabelAddress, Ret, TrapIf, Jal, CondBr, BrTable, Udf}
 use Rattle.rv_emit.proofs.Terms.{Jalr, StackProbeLoop, LoadExtNameGot, LoadExtNameNear, LoadExtNameFar, Call, CallInd, ReturnCall, ReturnCallInd, Unwind, CondBrTarget, Fallthrough, TryCallInfo, StackLoad, Exactly, AtMost, IsOfSize, Request, first_in, space_in, request_of}
 use Rattle.rv_emit.proofs.Terms.{inst_size, inst_sum, inst_records, uses_in, return_of, filled_last, is_some, VCodeConstant, inst_constant, named_by, table_of, EmitVState, Decoded, Buffer, IsSoundBuffer, Appends, AppendsCode, HasReturn, IsFarUse, IslandAsked, bytes_of}
@@ -9,7 +9,7 @@ use Rattle.rv_emit.proofs.Terms.{allocated_of, named_of, PutsParts, EmitsIn, Par
 use Rattle.rv_emit.proofs.Terms.{slots_of, Piece, HasSize, rrr_sized, rri_sized, lui_sized, jalr_sized, ebreak_sized, window_long, IsPlain, IsSummed, summed, plain_put, put_long, code_none, no_own, low_kept, IsMadeOf, made_contained, mov_made, mov_from_preg_made}
 use Rattle.rv_emit.proofs.Terms.{extend_made, select_made, trap_if_made, udf_made, sequence_made, load_summed, store_summed, load_contained, store_contained, load_addr_summed, address_contained, location_of, probe_made, unwind_summed, table_contained, table_short}
 use Rattle.rv_emit.proofs.Terms.{tail_contained, tail_contents, t0_contained, t0_contents, return_short, AreShortLoads, unless_short, results_short, table_fine, call_kept, call_ind_kept, constant_kept, data_kept, keeps}
-use Rattle.rv_inst.{specs.Descriptions.{Description, Word, Computes, description_of, most_words}, specs.declared.inst.CondBrTarget.TheVariants.{Label as ToLabel}}
+use Rattle.rv_inst.{specs.Descriptions.{Description, Word, Computes, Gives, description_of, is_made, most_words, none_is_some}, specs.declared.inst.CondBrTarget.TheVariants.{Label as ToLabel}}
 use Rattle.rv_code.specs.Pieces as piece
 use Rattle.mach_records.specs.declared.records.Event.TheVariants as event
 use Rattle.rv_ops.specs.declared.memory.LoadOP.TheVariants as loads
@@ -108,22 +108,26 @@ unit {context} {inst} w four most asks uses records names = on w.trap records
     on None records = plain (record { plain = tt; fits = few _ (omega arith); uses = λ allocated start. uses start _; records = λ start. records start _; names = names }) asks (omega arith, tt)
     on (Some code) records = plain (record { plain = tt; fits = few _ (omega arith); uses = λ allocated start. uses start _; records = λ start. records start _; names = names }) asks (omega arith, tt)
 
--- of either description: how long a word of it is, and how many bytes it has at most
-abbrev word_length : Description → ℕ
-word_length (Word w) = w.operation.len
-word_length (Computes s with) = 4
+-- of a word or a sequence: how long a word of it is, how many bytes it has at most, and its trap
+abbrev word_length : (d : Description) → is_made d ≡ true → ℕ
+word_length (Word w) e = w.operation.len
+word_length (Computes s with) e = 4
+word_length (Gives g) e = absurd (none_is_some e)
 
-abbrev most_in : Description → ℕ
-most_in (Word w) = 4
-most_in (Computes s with) = 4 * most_words s.computation
+abbrev most_in : (d : Description) → is_made d ≡ true → ℕ
+most_in (Word w) e = 4
+most_in (Computes s with) e = 4 * most_words s.computation
+most_in (Gives g) e = absurd (none_is_some e)
 
-abbrev trap_of : Description → Option TrapCode
-trap_of (Word w) = w.trap
-trap_of (Computes s with) = None
+abbrev trap_of : (d : Description) → is_made d ≡ true → Option TrapCode
+trap_of (Word w) e = w.trap
+trap_of (Computes s with) e = None
+trap_of (Gives g) e = absurd (none_is_some e)
 
-described : {context : Context} {inst : Inst} (d : Description) → word_length d ≡ 4 → inst_size context inst ≡ AtMost (most_in d) → request_of context inst ≡ None → ((start end : ℕ) → [] ≡ uses_in context start end inst) → ((start end : ℕ) → access_records start (trap_of d) ≡ inst_records context start end inst) → inst_constant inst ≡ None → IsCode context inst (described_parts context.flags d)
-described (Word w) four most asks uses records none = unit w four most asks uses records (λ named. sym (ap (λ k. named_by k named) none))
-described {context} {inst} (Computes s with) four most asks uses records none = made (sequence_made context inst s most asks uses records none)
+described : {context : Context} {inst : Inst} (d : Description) (e : is_made d ≡ true) → word_length d e ≡ 4 → inst_size context inst ≡ AtMost (most_in d e) → request_of context inst ≡ None → ((start end : ℕ) → [] ≡ uses_in context start end inst) → ((start end : ℕ) → access_records start (trap_of d e) ≡ inst_records context start end inst) → inst_constant inst ≡ None → IsCode context inst (described_parts context.flags d e)
+described (Word w) e four most asks uses records none = unit w four most asks uses records (λ named. sym (ap (λ k. named_by k named) none))
+described {context} {inst} (Computes s with) e four most asks uses records none = made (sequence_made context inst s most asks uses records none)
+described (Gives g) e four most asks uses records none = absurd (none_is_some e)
 
 -- a branch, and a jump or none
 branches : (context : Context) (kind : IntegerCompare) (taken not_taken : CondBrTarget) → IsCode context (CondBr taken not_taken kind) (Slots (branch_slots context.flags kind taken not_taken) ∷ [])
@@ -186,7 +190,7 @@ inst_is_code context setting (ReturnCallInd info) rule =
     after refl (omega (arith, long)) refl refl (omega (arith, long)) (λ small. omega (arith, long)) c.plain (t0_contained context.flags context.frame info.new_stack_arg_size)
     (λ small. omega (arith, long, return_short context.flags context.frame info.new_stack_arg_size)) (λ allocated at. subst (Each (IsFarUse _)) (sym (c.uses allocated at)) (each_none _)) (λ start end. refl) (λ first at. c.records at) c.names
 inst_is_code context setting (Unwind inst) rule = plain (unwind_summed context inst) refl tt
-inst_is_code context setting inst rule = described (description_of inst refl) refl refl refl (λ start end. refl) (λ start end. refl) refl
+inst_is_code context setting inst rule = described (description_of inst refl) refl refl refl refl (λ start end. refl) (λ start end. refl) refl
 
 -- each part of an instruction is self-contained
 pub parts_are_self_contained : (context : Context) (setting : EmitVState) (inst : Inst) → inst_rule context inst ≡ None → PartsAreSelfContained (parts_of context setting inst)

@@ -1,4 +1,4 @@
--- What holds of every instruction that is one word of a unit, or a sequence, since all tables over instructions go by its description.
+-- What holds of every instruction that is described, since all tables over instructions go by its description.
 use Rattle.std.proofs.Common.{◌≡◌, false, List, [], ◌∷◌, Some, refl, ap}
 use Rattle.std.specs.Prelude.{◌||◌, option_map}
 use Rattle.std.specs.List.{list_any}
@@ -11,7 +11,7 @@ use Rattle.rv_inst.specs.RegisterTests.{place_test, test_of}
 use Rattle.rv_inst.specs.Faults.{is_misplaced}
 use Rattle.rv_inst.specs.Rules.{faults_of, unit_faults}
 use Rattle.rv_inst.specs.Sizes.{inst_code, unit_code}
-use Rattle.rv_inst.specs.Descriptions.{UnitWord, all_replaced, given, places_in, registers_in, replaced_by, sequence_of, unit_regs, unit_word, with_registers, with_sequence}
+use Rattle.rv_inst.specs.Descriptions.{UnitWord, all_replaced, described_regs, given, places_in, registers_in, replaced_by, sequence_of, unit_word, with_registers, with_sequence}
 use Rattle.rv_inst.specs.declared.inst.Family.TheVariants.{Float}
 use Rattle.rv_inst.specs.declared.inst.Inst.{Inst}
 use Rattle.rv_inst.specs.declared.inst.Inst.TheVariants.{Nop0}
@@ -19,7 +19,7 @@ use Rattle.rv_inst.specs.declared.registers.RegisterTest.{RegisterTest}
 use Rattle.rv_inst.specs.declared.sequence.Sequence.{Sequence}
 use Rattle.rv_inst.specs.declared.units.PlacedReg.{PlacedReg}
 use Rattle.rv_inst.specs.declared.units.PlaceTest.TheVariants.{Register, OutOfPlace}
-use Rattle.rv_inst.specs.declared.units.UnitRegs.{UnitRegs}
+use Rattle.rv_inst.specs.declared.units.InstRegs.{InstRegs}
 
 -- a test of registers, wherever they stand
 pub places_have : (test : RegisterTest) (places : List PlacedReg) → list_any (place_test (Register test)) places ≡ list_any (test_of test) (registers_in places)
@@ -51,15 +51,15 @@ is_unit inst e = record { word = given (unit_word inst) (cc); is = cc; family = 
 
 -- ---- registers put back
 
-pub own_put_back : (inst : Inst) → with_registers inst (unit_regs inst) ≡ inst
+pub own_put_back : (inst : Inst) → with_registers inst (described_regs inst) ≡ inst
 own_put_back Nop0 = refl
 own_put_back inst = cc
 
-pub registers_after : (inst : Inst) (registers : UnitRegs) → unit_regs (with_registers inst registers) ≡ all_replaced registers (unit_regs inst)
+pub registers_after : (inst : Inst) (registers : InstRegs) → described_regs (with_registers inst registers) ≡ all_replaced registers (described_regs inst)
 registers_after Nop0 registers = refl
 registers_after inst registers = cc
 
-pub family_after : (inst : Inst) (registers : UnitRegs) → family_of (with_registers inst registers) ≡ family_of inst
+pub family_after : (inst : Inst) (registers : InstRegs) → family_of (with_registers inst registers) ≡ family_of inst
 family_after Nop0 registers = refl
 family_after inst registers = cc
 

@@ -1,7 +1,8 @@
 -- Instructions of which one row says all that there is to know. Some are one word of a unit, of the machine's operations that the integer
--- machine has not; others compute one register of another by a sequence of words with a loop. All tables over instructions have one row for
--- all of these, which goes by `description_of`. So an instruction that is neither here nor in a table has no row there, and fails to check.
-use Rattle.std.specs.Prelude.{◌≡◌, ℕ, Bool, true, false, is_some, List, [], ◌∷◌, ◌++◌, Option, Some, None, map, option_map, slice_get, unwrap_or}
+-- machine has not; others compute one register of another by a sequence of words with a loop; and of others, of integer registers, the row
+-- itself gives what they mean and their code. All tables over instructions have one row for all of these, which goes by
+-- `description_of`. So an instruction that is neither here nor in a table has no row there, and fails to check.
+use Rattle.std.specs.Prelude.{◌≡◌, ℕ, Bool, true, false, is_some, not, ◌&&◌, nat_le, if◌then◌else◌, List, [], ◌∷◌, ◌++◌, ◌+◌, ◌-◌, Option, Some, None, pos, map, option_map, slice_get, unwrap_or}
 use Rattle.std.proofs.Common.{cond, subst}
 use Rattle.rv_base.specs.Regs.{class_of, number_of}
 use Rattle.rv_base.specs.declared.regs.Reg.{Reg}
@@ -15,17 +16,33 @@ use Rattle.rv_ops.specs.FloatFields.{is_width, takes_frm}
 use Rattle.rv_ops.specs.Fpu.{fpu_rr_files, fpu_rr_numbers, fpu_rr_widths, fpu_rrr_numbers, fpu_rrr_result, is_to_integer, takes_width}
 use Rattle.rv_encode.specs.Operations.{decoded_csr_imm, decoded_csr_reg, decoded_fli, decoded_fpu_rr, decoded_fpu_rrr, decoded_fpu_rrrr}
 use Rattle.rv_encode.specs.Registers.{IsRealRegister}
+use Rattle.mach_records.specs.declared.records.Event.TheVariants as event
+use Rattle.mach_records.specs.declared.records.FinalizedRelocTarget.TheVariants.{ExternalName as ToName}
+use Rattle.rv_base.specs.declared.reloc.Reloc.TheVariants.{RiscvGotHi20, RiscvPCRelHi20, Abs8}
+use Rattle.rv_encode.specs.Operations.{load_op}
+use Rattle.rv_inst.specs.Addresses.{inline_size}
+use Rattle.rv_inst.specs.Bits.{extended}
+use Rattle.rv_inst.specs.Context.{Context}
+use Rattle.rv_inst.specs.Effects.{Environment, Meaning, Next, Trap, compares, goes, symbol_at}
+use Rattle.rv_inst.specs.InstCode.{AtMost, Exactly, InstCode, extend_operation, trap_size, words}
+use Rattle.rv_inst.specs.Records.{noted, part_records}
+use Rattle.rv_machine.specs.Memory.{load_result}
+use Rattle.rv_machine.specs.State.{Values, reg, set_reg}
+use Rattle.rv_ops.specs.declared.memory.LoadOP.TheVariants.{Ld}
 use Rattle.rv_inst.specs.declared.inst.Brev8Info.{Brev8Info}
 use Rattle.rv_inst.specs.declared.inst.CountInfo.{CountInfo}
 use Rattle.rv_inst.specs.declared.inst.Family.{Family}
-use Rattle.rv_inst.specs.declared.inst.Family.TheVariants.{Float}
+use Rattle.rv_inst.specs.declared.inst.Family.TheVariants.{Integer, Memory, Control, Symbols, Float}
 use Rattle.rv_inst.specs.declared.inst.Inst.{Inst}
 use Rattle.rv_inst.specs.declared.inst.Inst.TheVariants.{Nop0, Nop4, EBreak, SequencePoint, Args, Rets, DummyUse, Unwind, EmitIsland, RawData, Lui, Auipc, LoadInlineConst, AluRRR, AluRRImm12, Mov, MovFromPReg, Extend, Select, Load, Store, LoadAddr, LabelAddress, Ret, TrapIf, Jal, CondBr, BrTable, Udf, Jalr, Popcnt, Cltz, Brev8, StackProbeLoop, LoadExtNameGot, LoadExtNameNear, LoadExtNameFar, Call, CallInd, ReturnCall, ReturnCallInd, Fli, FpuRR, FpuRRR, FpuRRRR, CsrReg, CsrImm}
 use Rattle.rv_inst.specs.declared.sequence.Computation.{Computation}
 use Rattle.rv_inst.specs.declared.sequence.Computation.TheVariants.{Ones, Zeros, ReversedBytes}
 use Rattle.rv_inst.specs.declared.sequence.Sequence.{Sequence}
+use Rattle.rv_inst.specs.declared.targets.Targets.{Targets}
+use Rattle.rv_inst.specs.declared.targets.Targets.TheVariants.{Nowhere, Refers}
 use Rattle.rv_inst.specs.declared.units.PlacedReg.{PlacedReg}
-use Rattle.rv_inst.specs.declared.units.UnitRegs.{UnitRegs}
+use Rattle.rv_inst.specs.declared.units.InstRegs.{InstRegs}
+use Rattle.rv_inst.specs.declared.units.Facts.{Facts}
 
 -- its family; the operation that the machine decodes; its registers, in the order of its fields, each with the class that its place asks;
 -- the instruction with other registers, where these are given; whether its rounding mode, and its format, are ones that the operation
@@ -34,7 +51,7 @@ pub record UnitWord : Type 0 where
   pub family : Family
   pub operation : Decoded
   pub places : List PlacedReg
-  pub with_registers : UnitRegs → Inst
+  pub with_registers : InstRegs → Inst
   pub rounding : Bool
   pub width : Bool
   pub trap : Option TrapCode
@@ -43,7 +60,7 @@ abbrev pub place : RegClass → Reg → PlacedReg
 place class reg = record { class = class; reg = reg }
 
 -- of floating-point numbers, or of their control register
-abbrev pub float_word : Decoded → List PlacedReg → (UnitRegs → Inst) → UnitWord
+abbrev pub float_word : Decoded → List PlacedReg → (InstRegs → Inst) → UnitWord
 float_word d places with = record { family = Float; operation = d; places = places; with_registers = with; rounding = true; width = true; trap = None }
 
 -- a number that no integer of the type asked for is near to
@@ -73,33 +90,60 @@ most_words Ones = 11
 most_words (Zeros leading) = 11
 most_words ReversedBytes = 19
 
+-- ---- what a row itself gives
+
+-- its family; what the rules and a register allocator ask of it; the instruction with other registers, where these are given; what it means
+-- among an environment; and its code in a context
+pub record Given : Type 0 where
+  pub family : Family
+  pub facts : Facts
+  pub with_registers : InstRegs → Inst
+  pub meaning : Environment → Values → Meaning
+  pub code : Context → InstCode
+
+abbrev pub regs : Option (Writable Reg) → Option Reg → Option Reg → Option Reg → InstRegs
+regs rd rs1 rs2 rs3 = record { rd = rd; rs1 = rs1; rs2 = rs2; rs3 = rs3 }
+
+-- these registers, of which any may be x0, and no number that may be out of its range, nor any label
+abbrev pub only_regs : InstRegs → Facts
+only_regs r = record { regs = r; in_steps = false; beyond = false; targets = Nowhere }
+
+-- a result that is computed in steps, of no other register
+abbrev pub stepwise : Writable Reg → Facts
+stepwise rd = record (only_regs (regs (Some rd) None None None)) { in_steps = true }
+
+-- it sets its result and goes on
+abbrev pub sets : Values → Writable Reg → ℕ → Meaning
+sets v rd n = goes Next (set_reg v (number_of rd.reg) n)
+
 -- ---- the table
 
--- a word of a unit, or a sequence, and the instruction with another one
+-- a word of a unit; a sequence, and the instruction with another one; or what the row itself gives
 pub data Description : Type 0 where
   Word : UnitWord → Description
   Computes : Sequence → (Sequence → Inst) → Description
+  Gives : Given → Description
 
 abbrev pub described : Inst → Option Description
 described (Fli width imm rd) = Some (Word (record (float_word (decoded_fli width (number_of rd.reg) imm.value) (place FloatReg rd.reg ∷ [])
-    (λ (r : UnitRegs). Fli width imm (unwrap_or r.rd rd))) { width = is_width width }))
+    (λ (r : InstRegs). Fli width imm (unwrap_or r.rd rd))) { width = is_width width }))
 described (FpuRR op width frm rd rs) = Some (Word (record (float_word (decoded_fpu_rr op width frm (number_of rd.reg) (number_of rs)) (place (fpu_rr_files op).result rd.reg ∷ place (fpu_rr_files op).source rs ∷ [])
-    (λ (r : UnitRegs). FpuRR op width frm (unwrap_or r.rd rd) (unwrap_or r.rs1 rs))) {
+    (λ (r : InstRegs). FpuRR op width frm (unwrap_or r.rd rd) (unwrap_or r.rs1 rs))) {
       rounding = takes_frm (fpu_rr_numbers op).rounding frm;
       width = takes_width (fpu_rr_widths op) width;
       trap = conversion_trap (is_to_integer op);
     }))
 described (FpuRRR op width frm rd rs1 rs2) = Some (Word (record (float_word (decoded_fpu_rrr op width frm (number_of rd.reg) (number_of rs1) (number_of rs2)) (place (fpu_rrr_result op) rd.reg ∷ place FloatReg rs1 ∷ place FloatReg rs2 ∷ [])
-    (λ (r : UnitRegs). FpuRRR op width frm (unwrap_or r.rd rd) (unwrap_or r.rs1 rs1) (unwrap_or r.rs2 rs2))) {
+    (λ (r : InstRegs). FpuRRR op width frm (unwrap_or r.rd rd) (unwrap_or r.rs1 rs1) (unwrap_or r.rs2 rs2))) {
       rounding = takes_frm (fpu_rrr_numbers op).rounding frm;
       width = is_width width;
     }))
 described (FpuRRRR op width frm rd rs1 rs2 rs3) = Some (Word (record (float_word (decoded_fpu_rrrr op width frm (number_of rd.reg) (number_of rs1) (number_of rs2) (number_of rs3)) (place FloatReg rd.reg ∷ place FloatReg rs1 ∷ place FloatReg rs2 ∷ place FloatReg rs3 ∷ [])
-    (λ (r : UnitRegs). FpuRRRR op width frm (unwrap_or r.rd rd) (unwrap_or r.rs1 rs1) (unwrap_or r.rs2 rs2) (unwrap_or r.rs3 rs3))) { width = is_width width }))
+    (λ (r : InstRegs). FpuRRRR op width frm (unwrap_or r.rd rd) (unwrap_or r.rs1 rs1) (unwrap_or r.rs2 rs2) (unwrap_or r.rs3 rs3))) { width = is_width width }))
 described (CsrReg op rd rs csr) = Some (Word (float_word (decoded_csr_reg op (number_of rd.reg) (number_of rs)) (place Int rd.reg ∷ place Int rs ∷ [])
-    (λ (r : UnitRegs). CsrReg op (unwrap_or r.rd rd) (unwrap_or r.rs1 rs) csr)))
+    (λ (r : InstRegs). CsrReg op (unwrap_or r.rd rd) (unwrap_or r.rs1 rs) csr)))
 described (CsrImm op rd csr imm) = Some (Word (float_word (decoded_csr_imm op (number_of rd.reg) imm.value) (place Int rd.reg ∷ [])
-    (λ (r : UnitRegs). CsrImm op (unwrap_or r.rd rd) csr imm)))
+    (λ (r : InstRegs). CsrImm op (unwrap_or r.rd rd) csr imm)))
 described Nop0 = None
 described Nop4 = None
 described EBreak = None
@@ -117,14 +161,32 @@ described (AluRRR op rd rs1 rs2) = None
 described (AluRRImm12 op rd rs imm) = None
 described (Mov rd rm type) = None
 described (MovFromPReg rd rm) = None
-described (Extend rd rn signed from_bits to_bits) = None
+described (Extend rd rn signed from_bits to_bits) = Some (Gives (record {
+  family = Integer;
+  facts = record (only_regs (regs (Some rd) (Some rn) None None)) { beyond = not (nat_le 1 from_bits && nat_le from_bits 64) };
+  with_registers = λ (r : InstRegs). Extend (unwrap_or r.rd rd) (unwrap_or r.rs1 rn) signed from_bits to_bits;
+  meaning = λ env v. sets v rd (extended signed from_bits (reg v (number_of rn)));
+  code = λ context. record (words (AtMost 8)) { operation = extend_operation context.flags (number_of rd.reg) (number_of rn) signed from_bits };
+}))
 described (Select info) = None
 described (Load rd op flags from) = None
 described (Store src op flags to) = None
 described (LoadAddr rd mem) = None
-described (LabelAddress dst label) = None
+described (LabelAddress dst label) = Some (Gives (record {
+  family = Memory;
+  facts = record (stepwise dst) { targets = Refers label };
+  with_registers = λ (r : InstRegs). LabelAddress (unwrap_or r.rd dst) label;
+  meaning = λ env v. sets v dst (env.label label.number);
+  code = λ context. words (Exactly 8);
+}))
 described Ret = None
-described (TrapIf cmp code) = None
+described (TrapIf cmp code) = Some (Gives (record {
+  family = Control;
+  facts = only_regs (regs None (Some cmp.rs1) (Some cmp.rs2) None);
+  with_registers = λ (r : InstRegs). TrapIf (record cmp { rs1 = unwrap_or r.rs1 cmp.rs1; rs2 = unwrap_or r.rs2 cmp.rs2 }) code;
+  meaning = λ env v. goes (if compares cmp v then Trap code else Next) v;
+  code = λ context. record (words (Exactly (4 + trap_size context.flags))) { records = λ start end. noted (start + 4) (event.Trap code) };
+}))
 described (Jal label) = None
 described (CondBr taken not_taken kind) = None
 described (BrTable index tmp1 tmp2 targets) = None
@@ -134,9 +196,27 @@ described (Popcnt info) = Some (Computes (counts Ones info) (λ (s : Sequence). 
 described (Cltz leading info) = Some (Computes (counts (Zeros leading) info) (λ (s : Sequence). Cltz leading (count_info s)))
 described (Brev8 info) = Some (Computes (reverses info) (λ (s : Sequence). Brev8 (brev8_info info.tmp2 s)))
 described (StackProbeLoop guard_size probe_count tmp) = None
-described (LoadExtNameGot rd name) = None
-described (LoadExtNameNear rd name offset) = None
-described (LoadExtNameFar rd name offset) = None
+described (LoadExtNameGot rd name) = Some (Gives (record {
+  family = Symbols;
+  facts = stepwise rd;
+  with_registers = λ (r : InstRegs). LoadExtNameGot (unwrap_or r.rd rd) name;
+  meaning = λ env v. sets v rd (load_result (load_op Ld) v.mem (env.slot name.number));
+  code = λ context. record (words (Exactly 8)) { records = λ start end. part_records start RiscvGotHi20 name (pos 0) };
+}))
+described (LoadExtNameNear rd name offset) = Some (Gives (record {
+  family = Symbols;
+  facts = stepwise rd;
+  with_registers = λ (r : InstRegs). LoadExtNameNear (unwrap_or r.rd rd) name offset;
+  meaning = λ env v. sets v rd (symbol_at env name offset);
+  code = λ context. record (words (Exactly 8)) { records = λ start end. part_records start RiscvPCRelHi20 name offset };
+}))
+described (LoadExtNameFar rd name offset) = Some (Gives (record {
+  family = Symbols;
+  facts = stepwise rd;
+  with_registers = λ (r : InstRegs). LoadExtNameFar (unwrap_or r.rd rd) name offset;
+  meaning = λ env v. sets v rd (symbol_at env name offset);
+  code = λ context. record (words (Exactly (inline_size context.flags 8))) { records = λ start end. noted (end - 8) (event.Reloc Abs8 (ToName name) offset) };
+}))
 described (Call info) = None
 described (CallInd info) = None
 described (ReturnCall info) = None
@@ -153,12 +233,20 @@ given (Some a) e = a
 abbrev pub description_of : (inst : Inst) → is_some (described inst) ≡ true → Description
 description_of inst e = given (described inst) e
 
+-- A word or a sequence, of which the description makes parts, too. In tables of parts and of what follows from them each instruction whose
+-- description gives its code has a row of its own.
+abbrev pub is_made : Description → Bool
+is_made (Word w) = true
+is_made (Computes s with) = true
+is_made (Gives g) = false
+
 -- ---- words of units
 
 abbrev pub word_in : Option Description → Option UnitWord
 word_in None = None
 word_in (Some (Word w)) = Some w
 word_in (Some (Computes s with)) = None
+word_in (Some (Gives g)) = None
 
 abbrev pub unit_word : Inst → Option UnitWord
 unit_word inst = word_in (described inst)
@@ -179,30 +267,35 @@ trap_in (Some w) = w.trap
 abbrev pub writable : Reg → Writable Reg
 writable r = record { reg = r }
 
-abbrev pub regs : Option (Writable Reg) → Option Reg → Option Reg → Option Reg → UnitRegs
-regs rd rs1 rs2 rs3 = record { rd = rd; rs1 = rs1; rs2 = rs2; rs3 = rs3 }
-
 -- that of the result is the first, and the others are read
-abbrev pub in_order : List Reg → UnitRegs
+abbrev pub in_order : List Reg → InstRegs
 in_order registers = regs (option_map writable (slice_get registers 0)) (slice_get registers 1) (slice_get registers 2) (slice_get registers 3)
 
-abbrev pub unit_regs : Inst → UnitRegs
-unit_regs inst = in_order (registers_in (places_in (unit_word inst)))
+abbrev pub regs_in : Option Description → InstRegs
+regs_in None = in_order []
+regs_in (Some (Word w)) = in_order (registers_in w.places)
+regs_in (Some (Computes s with)) = in_order []
+regs_in (Some (Gives g)) = g.facts.regs
 
-abbrev pub remade : Inst → Option UnitWord → UnitRegs → Inst
+abbrev pub described_regs : Inst → InstRegs
+described_regs inst = regs_in (described inst)
+
+abbrev pub remade : Inst → Option Description → InstRegs → Inst
 remade inst None registers = inst
-remade inst (Some w) registers = w.with_registers registers
+remade inst (Some (Word w)) registers = w.with_registers registers
+remade inst (Some (Computes s with)) registers = inst
+remade inst (Some (Gives g)) registers = g.with_registers registers
 
--- an instruction with other registers, where these are given; one of no unit is as it was
-abbrev pub with_registers : Inst → UnitRegs → Inst
-with_registers inst registers = remade inst (unit_word inst) registers
+-- an instruction with other registers, where these are given; one that isn't described by such is as it was
+abbrev pub with_registers : Inst → InstRegs → Inst
+with_registers inst registers = remade inst (described inst) registers
 
 -- one that it has is replaced where another is given
 abbrev pub replaced : {A : Type 0} → Option A → Option A → Option A
 replaced other None = None
 replaced other (Some own) = Some (unwrap_or other own)
 
-abbrev pub all_replaced : UnitRegs → UnitRegs → UnitRegs
+abbrev pub all_replaced : InstRegs → InstRegs → InstRegs
 all_replaced other own = regs (replaced other.rd own.rd) (replaced other.rs1 own.rs1) (replaced other.rs2 own.rs2) (replaced other.rs3 own.rs3)
 
 -- ---- what its word asks: registers of the machine, each of the class that its place asks, and fields that its operation takes
@@ -224,6 +317,7 @@ abbrev pub sequence_in : Option Description → Option Sequence
 sequence_in None = None
 sequence_in (Some (Word w)) = None
 sequence_in (Some (Computes s with)) = Some s
+sequence_in (Some (Gives g)) = None
 
 abbrev pub sequence_of : Inst → Option Sequence
 sequence_of inst = sequence_in (described inst)
@@ -232,6 +326,7 @@ abbrev pub recomputed : Inst → Option Description → Sequence → Inst
 recomputed inst None s = inst
 recomputed inst (Some (Word w)) s = inst
 recomputed inst (Some (Computes own with)) s = with s
+recomputed inst (Some (Gives g)) s = inst
 
 -- an instruction with another sequence; one that is none is as it was
 abbrev pub with_sequence : Inst → Sequence → Inst
@@ -258,3 +353,41 @@ sequence_registers s = s.rs ∷ changed_by s
 abbrev pub registers_by : Option Sequence → List Reg
 registers_by None = []
 registers_by (Some s) = sequence_registers s
+
+-- ---- what is asked of an instruction whose description gives it
+
+abbrev pub facts_in : Option Description → Option Facts
+facts_in None = None
+facts_in (Some (Word w)) = None
+facts_in (Some (Computes s with)) = None
+facts_in (Some (Gives g)) = Some g.facts
+
+abbrev pub facts_of : Inst → Option Facts
+facts_of inst = facts_in (described inst)
+
+abbrev pub result_in : Option (Writable Reg) → List Reg
+result_in None = []
+result_in (Some w) = w.reg ∷ []
+
+abbrev pub source_in : Option Reg → List Reg
+source_in None = []
+source_in (Some r) = r ∷ []
+
+abbrev pub sources_in : InstRegs → List Reg
+sources_in r = source_in r.rs1 ++ (source_in r.rs2 ++ source_in r.rs3)
+
+-- its registers, the result's first
+abbrev pub all_in : InstRegs → List Reg
+all_in r = result_in r.rd ++ sources_in r
+
+abbrev pub registers_by_facts : Option Facts → List Reg
+registers_by_facts None = []
+registers_by_facts (Some f) = all_in f.regs
+
+abbrev pub targets_by_facts : Option Facts → Targets
+targets_by_facts None = Nowhere
+targets_by_facts (Some f) = f.targets
+
+abbrev pub is_beyond_by : Option Facts → Bool
+is_beyond_by None = false
+is_beyond_by (Some f) = f.beyond

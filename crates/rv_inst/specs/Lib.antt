@@ -1,3 +1,5 @@
+pub mod Effects
+pub mod InstCode
 pub mod Descriptions
 pub mod Core
 pub mod Records

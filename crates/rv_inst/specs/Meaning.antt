@@ -1,36 +1,31 @@
 -- What a line means: what it makes of the values, and how it is left.
-use Rattle.std.specs.Prelude.{◌⊎◌, ℕ, zero, suc, ◌+◌, ◌-◌, ◌*◌, ◌/◌, ◌^◌, ◌<◌, ◌≤◌, ◌==◌, Bool, if◌then◌else◌, List, [], ◌∷◌, length, slice_index, slice_get, unwrap_or, map, Option, Some, None, ℤ, pos}
+use Rattle.std.specs.Prelude.{◌⊎◌, ℕ, zero, suc, ◌+◌, ◌-◌, ◌*◌, ◌/◌, ◌^◌, ◌<◌, ◌≤◌, ◌==◌, if◌then◌else◌, List, [], ◌∷◌, length, slice_index, slice_get, unwrap_or, map, Option, Some, None, ℤ, pos}
 use Rattle.std.proofs.Common.{refl}
 use Rattle.rv_base.specs.declared.amode.AMode.{AMode}
 use Rattle.rv_base.specs.declared.call.TryCallInfo.{TryCallInfo}
-use Rattle.rv_base.specs.declared.external_name.ExternalName.{ExternalName}
-use Rattle.rv_base.specs.declared.flags.IsaFlags.{IsaFlags}
 use Rattle.rv_base.specs.declared.frame.FrameLayout.{FrameLayout}
 use Rattle.rv_base.specs.declared.ir_type.IrType.{IrType}
 use Rattle.rv_base.specs.declared.label.MachLabel.{MachLabel}
-use Rattle.rv_base.specs.declared.trap.TrapCode.{TrapCode}
 use Rattle.rv_base.specs.IrType.{bits_of}
 use Rattle.rv_base.specs.Regs.{number_of}
 use Rattle.rv_base.specs.declared.regs.Reg.{Reg}
-use Rattle.rv_base.specs.CondCodes.{holds}
 use Rattle.rv_ops.specs.declared.alu.AluOPRRR.{AluOPRRR}
 use Rattle.rv_ops.specs.declared.alu.AluOPRRI.{AluOPRRI}
-use Rattle.rv_ops.specs.declared.compare.IntegerCompare.{IntegerCompare}
 use Rattle.rv_ops.specs.declared.memory.LoadOP.{LoadOP}
-use Rattle.rv_ops.specs.declared.memory.LoadOP.TheVariants.{Ld}
 use Rattle.rv_ops.specs.declared.memory.StoreOP.{StoreOP}
 use Rattle.rv_ops.specs.Operations.{is_exchanged, rrr_op, rri_op}
 use Rattle.rv_encode.specs.Operations.{load_op, store_op}
 use Rattle.rv_inst.specs.Addresses.{Location, Based, AtLabel, AtConstant, location_of}
 use Rattle.rv_ops.specs.Memory.{is_float_load, is_float_store, store_size}
 use Rattle.rv_inst.specs.Bits.{computed, extended}
+pub use Rattle.rv_inst.specs.Effects.{Environment, Exit, Next, To, Leave, Break, Trap, Data, Meaning, compares, goes, symbol_at}
 use Rattle.rv_inst.specs.Operands.{all_of, written_in, Return, inst_temporaries, try_call_of, return_of}
 use Rattle.rv_inst.specs.Returns.{StackLoad, restores, frame_above}
-use Rattle.rv_inst.specs.Descriptions.{Description, UnitWord, Word, Computes, description_of}
+use Rattle.rv_inst.specs.Descriptions.{Description, UnitWord, Word, Computes, Gives, description_of}
 use Rattle.rv_inst.specs.declared.inst.Line.{Line}
 use Rattle.rv_inst.specs.declared.inst.Line.TheVariants.{Inst as Put, Bind}
 use Rattle.rv_inst.specs.declared.inst.Inst.{Inst}
-use Rattle.rv_inst.specs.declared.inst.Inst.TheVariants.{Nop0, Nop4, EBreak, SequencePoint, Args, Rets, DummyUse, Unwind, EmitIsland, RawData, Lui, Auipc, LoadInlineConst, AluRRR, AluRRImm12, Mov, MovFromPReg, Extend, Select, Load, Store, LoadAddr, LabelAddress, Ret, TrapIf, Jal, CondBr, BrTable, Udf, Jalr, StackProbeLoop, LoadExtNameGot, LoadExtNameNear, LoadExtNameFar, Call, CallInd, ReturnCall, ReturnCallInd}
+use Rattle.rv_inst.specs.declared.inst.Inst.TheVariants.{Nop0, Nop4, EBreak, SequencePoint, Args, Rets, DummyUse, Unwind, EmitIsland, RawData, Lui, Auipc, LoadInlineConst, AluRRR, AluRRImm12, Mov, MovFromPReg, Select, Load, Store, LoadAddr, Ret, Jal, CondBr, BrTable, Udf, Jalr, StackProbeLoop, Call, CallInd, ReturnCall, ReturnCallInd}
 use Rattle.rv_inst.specs.declared.inst.CondBrTarget.{CondBrTarget}
 use Rattle.rv_inst.specs.declared.inst.CondBrTarget.TheVariants.{Label, Fallthrough}
 use Rattle.rv_machine.specs.State.{Values, reg, set_reg, store, wrap, low64}
@@ -52,18 +47,6 @@ alu_rri op x n = alu_result (rri_op op) x 0 (low64 n)
 abbrev pub constant_of : IrType → ℕ → ℕ
 constant_of type n = if bits_of type == 32 then extend_word n else wrap n
 
--- What a line is read among: the addresses of its first byte, of the byte after its last, of labels, constants and symbols by their
--- numbers, and of the slots that hold the addresses of symbols; the flags, and the frame.
-pub record Environment : Type 0 where
-  pub start : ℕ
-  pub after : ℕ
-  pub label : ℕ → ℕ
-  pub constant : ℕ → ℕ
-  pub symbol : ℕ → ℕ
-  pub slot : ℕ → ℕ
-  pub flags : IsaFlags
-  pub frame : FrameLayout
-
 -- the address of a location
 abbrev pub address_at : Environment → Values → Location → ℕ
 address_at env v (Based r o) = wrap (reg v r + low64 o)
@@ -73,10 +56,6 @@ address_at env v (AtConstant k) = env.constant k.number
 -- the address of a load or a store
 abbrev pub address_of : Environment → AMode → Values → ℕ
 address_of env mode v = address_at env v (location_of env.frame mode)
-
--- the address of a symbol plus an offset
-abbrev pub symbol_at : Environment → ExternalName → ℤ → ℕ
-symbol_at env name offset = wrap (env.symbol name.number + low64 offset)
 
 -- so many addresses, one after the other, from one on
 abbrev pub addresses_from : ℕ → ℕ → List ℕ
@@ -121,26 +100,12 @@ stack_loaded sp (l ∷ loads) v = stack_loaded sp loads (loaded l.op l.register 
 abbrev pub frame_left : FrameLayout → ℕ → Values → Values
 frame_left frame arguments v = set_reg (stack_loaded (reg v 2) (restores frame) v) 2 (wrap (reg v 2 + frame_above frame arguments))
 
--- whether a comparison of two registers holds
-abbrev pub compares : IntegerCompare → Values → Bool
-compares cmp v = holds cmp.kind (reg v (number_of cmp.rs1)) (reg v (number_of cmp.rs2))
-
 -- a call leaves in ra, which is x1, where it returns to
 abbrev pub linked : ℕ → Option Return → Values → Values
 linked start None v = v
 linked start (Some r) v = set_reg v 1 (wrap (start + r.offset))
 
 -- ---- ways on
-
--- how a line is left: to the next one, to a label of this number, to an address, or not at all, where it breaks, traps for a
--- cause, or is data and no code
-pub data Exit : Type 0 where
-  Next : Exit
-  To : ℕ → Exit
-  Leave : ℕ → Exit
-  Break : Exit
-  Trap : TrapCode → Exit
-  Data : Exit
 
 -- a table's labels are the default, and those of the indices from 0 on
 abbrev pub table_exit : List MachLabel → ℕ → Exit
@@ -153,24 +118,15 @@ target_exit Fallthrough = Next
 
 -- ---- instructions
 
--- what an instruction makes of the values; the addresses of the bytes that it writes; and how it is left
-pub record Meaning : Type 0 where
-  pub effect : Values
-  pub writes : List ℕ
-  pub exit : Exit
-
--- it is left so with these values, and writes no byte
-abbrev pub goes : Exit → Values → Meaning
-goes exit v = record { effect = v; writes = []; exit = exit }
-
 -- An operation of a unit has no meaning on integers alone, and is said to leave them; what it does is said of the machine with all units.
 abbrev pub unit_meaning : UnitWord → Values → Meaning
 unit_meaning w v = goes Next v
 
 -- a sequence changes its result alone, its temporaries apart
-abbrev pub described_meaning : Description → Values → Meaning
-described_meaning (Word w) v = unit_meaning w v
-described_meaning (Computes s with) v = goes Next (set_reg v (number_of s.rd.reg) (computed s.computation (bits_of s.ty) (reg v (number_of s.rs))))
+abbrev pub described_meaning : Environment → Description → Values → Meaning
+described_meaning env (Word w) v = unit_meaning w v
+described_meaning env (Gives g) v = g.meaning env v
+described_meaning env (Computes s with) v = goes Next (set_reg v (number_of s.rd.reg) (computed s.computation (bits_of s.ty) (reg v (number_of s.rs))))
 
 -- Nor has a store of a floating-point register, which is said to leave them, too; yet the bytes that it writes are said.
 abbrev pub stored : StoreOP → ℕ → ℕ → Values → Values
@@ -196,28 +152,22 @@ inst_meaning env (AluRRR op rd rs1 rs2) v = goes Next (set_reg v (number_of rd.r
 inst_meaning env (AluRRImm12 op rd rs imm) v = goes Next (set_reg v (number_of rd.reg) (alu_rri op (reg v (number_of rs)) imm.value))
 inst_meaning env (Mov rd rm type) v = goes Next (set_reg v (number_of rd.reg) (reg v (number_of rm)))
 inst_meaning env (MovFromPReg rd rm) v = goes Next (set_reg v (number_of rd.reg) (reg v rm.number))
-inst_meaning env (Extend rd rn signed from_bits to_bits) v = goes Next (set_reg v (number_of rd.reg) (extended signed from_bits (reg v (number_of rn))))
 inst_meaning env (Select info) v = goes Next (set_regs v (map number_of (written_in info.dst)) (map (λ (r : Reg). reg v (number_of r)) (if compares info.condition v then all_of info.x else all_of info.y)))
 inst_meaning env (Load rd op flags from) v = goes Next (loaded op (number_of rd.reg) (address_of env from v) v)
 inst_meaning env (Store src op flags to) v = record (goes Next (stored op (number_of src) (address_of env to v) v)) { writes = addresses_from (address_of env to v) (store_size op) }
 inst_meaning env (LoadAddr rd mem) v = goes Next (set_reg v (number_of rd.reg) (address_of env mem v))
-inst_meaning env (LabelAddress dst label) v = goes Next (set_reg v (number_of dst.reg) (env.label label.number))
 inst_meaning env Ret v = goes (Leave (reg v 1 / 2 * 2)) v
-inst_meaning env (TrapIf cmp code) v = goes (if compares cmp v then Trap code else Next) v
 inst_meaning env (Jal label) v = goes (To label.number) v
 inst_meaning env (CondBr taken not_taken kind) v = goes (if compares kind v then target_exit taken else target_exit not_taken) v
 inst_meaning env (BrTable index tmp1 tmp2 targets) v = goes (table_exit targets (low_word (reg v (number_of index)))) v
 inst_meaning env (Udf code) v = goes (Trap code) v
 inst_meaning env (Jalr rd base offset) v = goes (Leave (wrap (reg v (number_of base) + low64 offset.value) / 2 * 2)) (set_reg v (number_of rd.reg) env.after)
 inst_meaning env (StackProbeLoop guard_size probe_count tmp) v = record (goes Next (zero_bytes v (probes_of (reg v 2) (low_word guard_size) (low_word probe_count)))) { writes = probes_of (reg v 2) (low_word guard_size) (low_word probe_count) }
-inst_meaning env (LoadExtNameGot rd name) v = goes Next (set_reg v (number_of rd.reg) (load_result (load_op Ld) v.mem (env.slot name.number)))
-inst_meaning env (LoadExtNameNear rd name offset) v = goes Next (set_reg v (number_of rd.reg) (symbol_at env name offset))
-inst_meaning env (LoadExtNameFar rd name offset) v = goes Next (set_reg v (number_of rd.reg) (symbol_at env name offset))
 inst_meaning env (Call info) v = goes (Leave (symbol_at env info.dest (pos 0) / 2 * 2)) (linked env.start (return_of env.flags (Call info)) v)
 inst_meaning env (CallInd info) v = goes (Leave (reg v (number_of info.dest) / 2 * 2)) (linked env.start (return_of env.flags (CallInd info)) v)
 inst_meaning env (ReturnCall info) v = goes (Leave (symbol_at env info.dest (pos 0) / 2 * 2)) (frame_left env.frame info.new_stack_arg_size v)
 inst_meaning env (ReturnCallInd info) v = goes (Leave (reg v (number_of info.dest) / 2 * 2)) (frame_left env.frame info.new_stack_arg_size v)
-inst_meaning env inst v = described_meaning (description_of inst refl) v
+inst_meaning env inst v = described_meaning env (description_of inst refl) v
 
 abbrev pub inst_effect : Environment → Inst → Values → Values
 inst_effect env inst v = (inst_meaning env inst v).effect

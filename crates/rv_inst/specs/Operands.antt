@@ -34,10 +34,10 @@ use Rattle.rv_inst.specs.Returns.{StackLoad, result_loads, loads_unless}
 use Rattle.rv_inst.specs.declared.inst.Line.{Line}
 use Rattle.rv_inst.specs.declared.inst.Line.TheVariants.{Inst as Put, Bind}
 use Rattle.rv_inst.specs.declared.inst.Family.{Family}
-use Rattle.rv_inst.specs.declared.inst.Family.TheVariants.{Pseudo, Integer, Memory, Control, Loop, Symbols, Calls}
+use Rattle.rv_inst.specs.declared.inst.Family.TheVariants.{Pseudo, Integer, Memory, Control, Loop, Calls}
 use Rattle.rv_inst.specs.declared.inst.Inst.{Inst}
-use Rattle.rv_inst.specs.declared.inst.Inst.TheVariants.{Nop0, Nop4, EBreak, SequencePoint, Args, Rets, DummyUse, Unwind, EmitIsland, RawData, Lui, Auipc, LoadInlineConst, AluRRR, AluRRImm12, Mov, MovFromPReg, Extend, Select, Load, Store, LoadAddr, LabelAddress, Ret, TrapIf, Jal, CondBr, BrTable, Udf, Jalr, StackProbeLoop, LoadExtNameGot, LoadExtNameNear, LoadExtNameFar, Call, CallInd, ReturnCall, ReturnCallInd}
-use Rattle.rv_inst.specs.Descriptions.{Description, Word, Computes, description_of, registers_in, sequence_registers, temporaries_in}
+use Rattle.rv_inst.specs.declared.inst.Inst.TheVariants.{Nop0, Nop4, EBreak, SequencePoint, Args, Rets, DummyUse, Unwind, EmitIsland, RawData, Lui, Auipc, LoadInlineConst, AluRRR, AluRRImm12, Mov, MovFromPReg, Select, Load, Store, LoadAddr, Ret, Jal, CondBr, BrTable, Udf, Jalr, StackProbeLoop, Call, CallInd, ReturnCall, ReturnCallInd}
+use Rattle.rv_inst.specs.Descriptions.{Description, Word, Computes, Gives, all_in, description_of, registers_in, sequence_registers, temporaries_in}
 use Rattle.rv_inst.specs.declared.tail_calls.TailCall.{TailCall}
 use Rattle.rv_inst.specs.declared.targets.Targets.{Targets}
 use Rattle.rv_inst.specs.declared.targets.Targets.TheVariants.{Nowhere, Jumps, Branches, Refers, RefersConstant}
@@ -145,6 +145,7 @@ only family registers = record { family = family; registers = registers; targets
 abbrev pub described_operands : Description → Operands
 described_operands (Word w) = only w.family (registers_in w.places)
 described_operands (Computes s with) = record (only Loop (sequence_registers s)) { temporaries = map number_of (temporaries_in s) }
+described_operands (Gives g) = record (only g.family (all_in g.facts.regs)) { targets = g.facts.targets }
 
 -- a call returns after an auipc and a jalr, or after a jalr alone
 abbrev pub operands_of : Inst → Operands
@@ -165,23 +166,17 @@ operands_of (AluRRR op rd rs1 rs2) = only Integer (rd.reg ∷ rs1 ∷ rs2 ∷ []
 operands_of (AluRRImm12 op rd rs imm) = only Integer (rd.reg ∷ rs ∷ [])
 operands_of (Mov rd rm type) = record (only Integer (rd.reg ∷ rm ∷ [])) { floats = is_float rd.reg }
 operands_of (MovFromPReg rd rm) = only Integer (rd.reg ∷ Real rm ∷ [])
-operands_of (Extend rd rn signed from_bits to_bits) = only Integer (rd.reg ∷ rn ∷ [])
 operands_of (Select info) = record (only Integer (written_in info.dst ++ info.condition.rs1 ∷ info.condition.rs2 ∷ all_of info.x ++ all_of info.y)) { floats = list_any is_float (written_in info.dst ++ all_of info.x ++ all_of info.y) }
 operands_of (Load rd op flags from) = record (only Memory (rd.reg ∷ registers_of from)) { targets = address_targets (load_size op) from; floats = is_float_load op }
 operands_of (Store src op flags to) = record (only Memory (src ∷ registers_of to)) { targets = address_targets 0 to; floats = is_float_store op }
 operands_of (LoadAddr rd mem) = record (only Memory (rd.reg ∷ registers_of mem)) { targets = address_targets 0 mem }
-operands_of (LabelAddress dst label) = record (only Memory (dst.reg ∷ [])) { targets = Refers label }
 operands_of Ret = only Control []
-operands_of (TrapIf cmp code) = only Control (cmp.rs1 ∷ cmp.rs2 ∷ [])
 operands_of (Jal label) = record (only Control []) { targets = Jumps label }
 operands_of (CondBr taken not_taken kind) = record (only Control (kind.rs1 ∷ kind.rs2 ∷ [])) { targets = Branches taken not_taken }
 operands_of (BrTable index tmp1 tmp2 targets) = record (only Control (index ∷ tmp1.reg ∷ tmp2.reg ∷ [])) { table = targets; temporaries = number_of tmp1.reg ∷ number_of tmp2.reg ∷ [] }
 operands_of (Udf code) = only Control []
 operands_of (Jalr rd base offset) = only Control (rd.reg ∷ base ∷ [])
 operands_of (StackProbeLoop guard_size probe_count tmp) = record (only Loop (tmp.reg ∷ [])) { temporaries = number_of tmp.reg ∷ [] }
-operands_of (LoadExtNameGot rd name) = only Symbols (rd.reg ∷ [])
-operands_of (LoadExtNameNear rd name offset) = only Symbols (rd.reg ∷ [])
-operands_of (LoadExtNameFar rd name offset) = only Symbols (rd.reg ∷ [])
 operands_of (Call info) = record (only Calls (use_registers info.uses ++ def_registers info.defs)) { floats = loads_float (loads_unless info.patchable info.defs); results = info.defs; try_call = info.try_call_info; returns = λ flags. returns_at 8 info.callee_pop_size (loads_unless info.patchable info.defs) }
 operands_of (CallInd info) = record (only Calls (info.dest ∷ use_registers info.uses ++ def_registers info.defs)) { floats = loads_float (result_loads info.defs); results = info.defs; try_call = info.try_call_info; returns = λ flags. returns_at (short_jalr flags 1 (number_of info.dest) (pos 0)).len info.callee_pop_size (result_loads info.defs) }
 operands_of (ReturnCall info) = record (only Calls (use_registers info.uses)) { tail_call = Some (record { stack_arg_size = info.new_stack_arg_size; by_register = false }) }

@@ -8,7 +8,7 @@ use Rattle.rv_base.specs.declared.regs.Reg.{Reg}
 use Rattle.rv_ops.specs.Memory.{is_float_load, is_float_store}
 use Rattle.rv_ops.specs.Operations.{immediate_of, shift_limit}
 use Rattle.rv_inst.specs.declared.inst.Inst.{Inst}
-use Rattle.rv_inst.specs.declared.inst.Inst.TheVariants.{Nop0, Nop4, EBreak, SequencePoint, Args, Rets, DummyUse, Unwind, EmitIsland, RawData, Lui, Auipc, LoadInlineConst, AluRRR, AluRRImm12, Mov, MovFromPReg, Extend, Select, Load, Store, LoadAddr, LabelAddress, Ret, TrapIf, Jal, CondBr, BrTable, Udf, Jalr, StackProbeLoop, LoadExtNameGot, LoadExtNameNear, LoadExtNameFar, Call, CallInd, ReturnCall, ReturnCallInd}
+use Rattle.rv_inst.specs.declared.inst.Inst.TheVariants.{Nop0, Nop4, EBreak, SequencePoint, Args, Rets, DummyUse, Unwind, EmitIsland, RawData, Lui, Auipc, LoadInlineConst, AluRRR, AluRRImm12, Mov, MovFromPReg, Select, Load, Store, LoadAddr, Ret, Jal, CondBr, BrTable, Udf, Jalr, StackProbeLoop, Call, CallInd, ReturnCall, ReturnCallInd}
 use Rattle.rv_inst.specs.Addresses.{is_distant}
 use Rattle.rv_inst.specs.Context.{Context}
 use Rattle.rv_inst.specs.Operands.{tail_call_of, target_labels}
@@ -30,7 +30,7 @@ is_plain_address (IncomingArg o) = not (is_distant o)
 is_plain_address (Const k) = false
 is_plain_address (Label l) = false
 
--- words of units and sequences are fewer, and so are loads and stores of floating-point registers
+-- those that are described are fewer, and so are loads and stores of floating-point registers
 abbrev pub described_is_plain : Description → Bool
 described_is_plain d = false
 
@@ -53,23 +53,17 @@ is_plain (AluRRR op rd rs1 rs2) = list_all is_usable (rd.reg ∷ rs1 ∷ rs2 ∷
 is_plain (AluRRImm12 op rd rs imm) = list_all is_usable (rd.reg ∷ rs ∷ []) && not (is_beyond (shift_limit (immediate_of op)) imm.value)
 is_plain (Mov rd rm type) = list_all is_usable (rd.reg ∷ rm ∷ []) && is_int_type type
 is_plain (MovFromPReg rd rm) = false
-is_plain (Extend rd rn signed from_bits to_bits) = false
 is_plain (Select info) = false
 is_plain (Load rd op access from) = not (is_float_load op) && (is_usable rd.reg && is_plain_address from)
 is_plain (Store src op access to) = not (is_float_store op) && (is_usable src && is_plain_address to)
 is_plain (LoadAddr rd mem) = false
-is_plain (LabelAddress dst label) = false
 is_plain Ret = false
-is_plain (TrapIf cmp code) = false
 is_plain (Jal label) = not (is_buffer_label label)
 is_plain (CondBr taken not_taken kind) = list_all is_usable (kind.rs1 ∷ kind.rs2 ∷ []) && (not (is_fallthrough taken) && not (list_any is_buffer_label (target_labels taken ++ target_labels not_taken)))
 is_plain (BrTable index tmp1 tmp2 targets) = false
 is_plain (Udf code) = false
 is_plain (Jalr rd base offset) = false
 is_plain (StackProbeLoop guard_size probe_count tmp) = false
-is_plain (LoadExtNameGot rd name) = false
-is_plain (LoadExtNameNear rd name offset) = false
-is_plain (LoadExtNameFar rd name offset) = false
 is_plain (Call info) = false
 is_plain (CallInd info) = false
 is_plain (ReturnCall info) = false

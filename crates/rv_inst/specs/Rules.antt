@@ -31,7 +31,7 @@ use Rattle.rv_ops.specs.Operations.{immediate_of, shift_limit}
 use Rattle.rv_inst.specs.declared.inst.Line.{Line}
 use Rattle.rv_inst.specs.declared.inst.Line.TheVariants.{Inst as Put, Bind}
 use Rattle.rv_inst.specs.declared.inst.Inst.{Inst}
-use Rattle.rv_inst.specs.declared.inst.Inst.TheVariants.{Nop0, Nop4, EBreak, SequencePoint, Args, Rets, DummyUse, Unwind, EmitIsland, RawData, Lui, Auipc, LoadInlineConst, AluRRR, AluRRImm12, Mov, MovFromPReg, Extend, Select, Load, Store, LoadAddr, LabelAddress, Ret, TrapIf, Jal, CondBr, BrTable, Udf, Jalr, StackProbeLoop, LoadExtNameGot, LoadExtNameNear, LoadExtNameFar, Call, CallInd, ReturnCall, ReturnCallInd}
+use Rattle.rv_inst.specs.declared.inst.Inst.TheVariants.{Nop0, Nop4, EBreak, SequencePoint, Args, Rets, DummyUse, Unwind, EmitIsland, RawData, Lui, Auipc, LoadInlineConst, AluRRR, AluRRImm12, Mov, MovFromPReg, Select, Load, Store, LoadAddr, Ret, Jal, CondBr, BrTable, Udf, Jalr, StackProbeLoop, Call, CallInd, ReturnCall, ReturnCallInd}
 use Rattle.rv_inst.specs.declared.inst.CondBrTarget.{CondBrTarget}
 use Rattle.rv_inst.specs.declared.inst.CondBrTarget.TheVariants.{Label as ToLabel, Fallthrough}
 use Rattle.rv_inst.specs.declared.error.Rule.{Rule}
@@ -40,8 +40,9 @@ use Rattle.rv_inst.specs.Addresses.{is_distant}
 use Rattle.rv_inst.specs.Context.{Context}
 use Rattle.rv_inst.specs.Operands.{all_of, is_float_class, written_in, result_registers, inst_registers, inst_labels, tail_call_of, targets_of}
 use Rattle.rv_inst.specs.Returns.{result_load}
-use Rattle.rv_inst.specs.Descriptions.{Description, UnitWord, Word, Computes, changed_by, description_of, sequence_registers}
+use Rattle.rv_inst.specs.Descriptions.{Description, UnitWord, Word, Computes, Gives, all_in, changed_by, description_of, result_in, sequence_registers}
 use Rattle.rv_inst.specs.declared.sequence.Sequence.{Sequence}
+use Rattle.rv_inst.specs.declared.units.Facts.{Facts}
 use Rattle.rv_inst.specs.declared.units.PlacedReg.{PlacedReg}
 use Rattle.rv_inst.specs.declared.tail_calls.TailCall.{TailCall}
 use Rattle.rv_inst.specs.declared.targets.Targets.{Targets}
@@ -296,9 +297,14 @@ sequence_faults s = record (has_other_class (list_any is_other_class (sequence_r
 abbrev pub unit_faults : UnitWord → Faults
 unit_faults w = record (has_other_class (list_any is_out_of_place w.places)) { rounding = not w.rounding; width = not w.width }
 
+-- of one whose description gives it: its registers are integer ones, and a result that is computed in steps isn't x0
+abbrev pub facts_faults : Facts → Faults
+facts_faults f = record (has_other_class (list_any is_other_class (all_in f.regs))) { zeroed = f.in_steps && list_any is_zero (result_in f.regs.rd); range = f.beyond }
+
 abbrev pub described_faults : Description → Faults
 described_faults (Word w) = unit_faults w
 described_faults (Computes s with) = sequence_faults s
+described_faults (Gives g) = facts_faults g.facts
 
 -- A register's place asks the class Int, but those of a unit's word, and what a load or a store of a floating-point register moves; the two
 -- of a pair or of a move have one class, those at one place of the values of a choice one that is no vector's, and a result on the stack that
@@ -322,14 +328,11 @@ faults_of (AluRRR op rd rs1 rs2) = has_other_class (list_any is_other_class (rd.
 faults_of (AluRRImm12 op rd rs imm) = record (has_other_class (list_any is_other_class (rd.reg ∷ rs ∷ []))) { range = is_beyond (shift_limit (immediate_of op)) imm.value }
 faults_of (Mov rd rm type) = record (has_other_class (differ_in_class rd.reg rm)) { type = not (is_movable (class_of rm) type) }
 faults_of (MovFromPReg rd rm) = has_other_class (is_other_class rd.reg || not (is_stack_or_frame rm))
-faults_of (Extend rd rn signed from_bits to_bits) = record (has_other_class (list_any is_other_class (rd.reg ∷ rn ∷ []))) { range = not (nat_le 1 from_bits && nat_le from_bits 64) }
 faults_of (Select info) = record (has_other_class (list_any is_other_class (info.condition.rs1 ∷ info.condition.rs2 ∷ []) || values_differ (written_in info.dst) (all_of info.x) (all_of info.y))) { clashing = is_uneven info.dst info.x info.y || select_clash info.dst (info.condition.rs1 ∷ info.condition.rs2 ∷ []) (all_of info.x ++ all_of info.y) }
 faults_of (Load rd op flags from) = record (has_other_class (is_not_of (load_class op) rd.reg || list_any is_other_class (registers_of from))) { zeroed = is_none (base_of from) && is_zero rd.reg; range = is_distant (own_offset from) }
 faults_of (Store src op flags to) = record (has_other_class (is_not_of (store_class op) src || list_any is_other_class (registers_of to))) { range = is_distant (own_offset to) }
 faults_of (LoadAddr rd mem) = record (has_other_class (list_any is_other_class (rd.reg ∷ registers_of mem))) { zeroed = is_zero rd.reg; clashing = is_base rd.reg (base_of mem); range = is_distant (own_offset mem) }
-faults_of (LabelAddress dst label) = record (has_other_class (list_any is_other_class (dst.reg ∷ []))) { zeroed = list_any is_zero (dst.reg ∷ []) }
 faults_of Ret = has_other_class false
-faults_of (TrapIf cmp code) = has_other_class (list_any is_other_class (cmp.rs1 ∷ cmp.rs2 ∷ []))
 faults_of (Jal label) = has_other_class false
 faults_of (CondBr taken not_taken kind) = record (has_other_class (list_any is_other_class (kind.rs1 ∷ kind.rs2 ∷ []))) { target = is_fallthrough taken }
 faults_of (BrTable index tmp1 tmp2 targets) = record (has_other_class (list_any is_other_class (index ∷ tmp1.reg ∷ tmp2.reg ∷ []))) {
@@ -340,9 +343,6 @@ faults_of (BrTable index tmp1 tmp2 targets) = record (has_other_class (list_any 
 faults_of (Udf code) = has_other_class false
 faults_of (Jalr rd base offset) = has_other_class (list_any is_other_class (rd.reg ∷ base ∷ []))
 faults_of (StackProbeLoop guard_size probe_count tmp) = record (has_other_class (list_any is_other_class (tmp.reg ∷ []))) { zeroed = list_any is_zero (tmp.reg ∷ []); clashing = is_stack tmp.reg }
-faults_of (LoadExtNameGot rd name) = record (has_other_class (list_any is_other_class (rd.reg ∷ []))) { zeroed = list_any is_zero (rd.reg ∷ []) }
-faults_of (LoadExtNameNear rd name offset) = record (has_other_class (list_any is_other_class (rd.reg ∷ []))) { zeroed = list_any is_zero (rd.reg ∷ []) }
-faults_of (LoadExtNameFar rd name offset) = record (has_other_class (list_any is_other_class (rd.reg ∷ []))) { zeroed = list_any is_zero (rd.reg ∷ []) }
 faults_of (Call info) = record (has_other_class (call_differs info.uses info.defs)) { clashing = results_clash info.defs; type = list_any is_unloadable info.defs; range = nat_le (2 ^ 31) info.callee_pop_size || list_any is_high info.defs }
 faults_of (CallInd info) = record (has_other_class (is_other_class info.dest || call_differs info.uses info.defs)) { clashing = results_clash info.defs; type = list_any is_unloadable info.defs; range = nat_le (2 ^ 31) info.callee_pop_size || list_any is_high info.defs }
 faults_of (ReturnCall info) = has_other_class (list_any (λ (p : CallArgPair). differ_in_class p.vreg p.preg) info.uses)

@@ -1,6 +1,6 @@
 -- How many bytes an instruction puts, which operation stands for one of one machine word, what it records, where it asks for an island,
 -- and how many bytes it counts for.
-use Rattle.std.specs.Prelude.{ℕ, ◌≡◌, ◌+◌, ◌-◌, ◌/◌, ◌*◌, ◌==◌, ◌≤◌, length, nat_eq, if◌then◌else◌, Option, Some, None, pos, Bool, true, false, not, ◌&&◌, List, [], ◌∷◌, count_by, ℤ, ◌-ℤ◌, ◌++◌, unwrap_or}
+use Rattle.std.specs.Prelude.{ℕ, ◌+◌, ◌-◌, ◌/◌, ◌*◌, length, nat_eq, if◌then◌else◌, Option, Some, None, pos, Bool, true, false, List, [], ◌∷◌, count_by, ℤ, ◌-ℤ◌, ◌++◌, unwrap_or}
 use Rattle.std.proofs.Common.{refl}
 use Rattle.rv_base.specs.IrType.{bits_of}
 use Rattle.rv_base.specs.Regs.{class_of, number_of}
@@ -10,7 +10,7 @@ use Rattle.rv_base.specs.declared.ir_type.IrType.{IrType}
 use Rattle.rv_base.specs.declared.ir_type.IrType.TheVariants.{I64}
 use Rattle.rv_base.specs.declared.regs.RegClass.{RegClass}
 use Rattle.rv_base.specs.declared.regs.RegClass.TheVariants.{Int, Float, Vector}
-use Rattle.rv_base.specs.declared.reloc.Reloc.TheVariants.{RiscvCallPlt, RiscvGotHi20, RiscvPCRelHi20, Abs8}
+use Rattle.rv_base.specs.declared.reloc.Reloc.TheVariants.{RiscvCallPlt}
 use Rattle.rv_ops.specs.declared.alu.AluOPRRI.{AluOPRRI}
 use Rattle.rv_ops.specs.declared.alu.AluOPRRI.TheVariants as rri
 use Rattle.rv_ops.specs.declared.float_fields.FRM.TheVariants.{RNE}
@@ -29,39 +29,20 @@ use Rattle.mach_records.specs.declared.records.MachRecord.{MachRecord}
 use Rattle.rv_inst.specs.Addresses.{Location, Based, AtLabel, AtConstant, location_of, is_near, inline_size}
 use Rattle.rv_inst.specs.Context.{Context}
 use Rattle.rv_inst.specs.Forms.{short_rrr, short_rri, short_lui, short_jalr, short_ebreak, short_load, short_store, jump_size}
+pub use Rattle.rv_inst.specs.InstCode.{Size, Exactly, AtMost, IsOfSize, most_of, Request, InstCode, words, one_word, trap_size, is_byte, extend_operation}
 use Rattle.rv_inst.specs.Halves.{load_line_own_size, store_line_own_size, is_moved_first}
 use Rattle.rv_inst.specs.Limits.{address_limit, load_limit, store_limit, number_limit, step_limit, call_limit, return_limit, table_space}
 use Rattle.rv_inst.specs.Operands.{results_of}
-use Rattle.rv_inst.specs.Records.{noted, access_records, part_records, patch_records, return_records}
+use Rattle.rv_inst.specs.Records.{noted, access_records, patch_records, return_records}
 use Rattle.rv_inst.specs.Returns.{StackLoad, result_loads, loads_unless}
 use Rattle.rv_inst.specs.Rules.{is_stacked}
-use Rattle.rv_inst.specs.Descriptions.{Description, UnitWord, Word, Computes, description_of, most_words}
+use Rattle.rv_inst.specs.Descriptions.{Description, UnitWord, Word, Computes, Gives, description_of, most_words}
 use Rattle.rv_inst.specs.declared.inst.Line.{Line}
 use Rattle.rv_inst.specs.declared.inst.Line.TheVariants.{Inst as Put, Bind}
 use Rattle.rv_inst.specs.declared.inst.Inst.{Inst}
-use Rattle.rv_inst.specs.declared.inst.Inst.TheVariants.{Nop0, Nop4, EBreak, SequencePoint, Args, Rets, DummyUse, Unwind, EmitIsland, RawData, Lui, Auipc, LoadInlineConst, AluRRR, AluRRImm12, Mov, MovFromPReg, Extend, Select, Load, Store, LoadAddr, LabelAddress, Ret, TrapIf, Jal, CondBr, BrTable, Udf, Jalr, StackProbeLoop, LoadExtNameGot, LoadExtNameNear, LoadExtNameFar, Call, CallInd, ReturnCall, ReturnCallInd}
+use Rattle.rv_inst.specs.declared.inst.Inst.TheVariants.{Nop0, Nop4, EBreak, SequencePoint, Args, Rets, DummyUse, Unwind, EmitIsland, RawData, Lui, Auipc, LoadInlineConst, AluRRR, AluRRImm12, Mov, MovFromPReg, Select, Load, Store, LoadAddr, Ret, Jal, CondBr, BrTable, Udf, Jalr, StackProbeLoop, Call, CallInd, ReturnCall, ReturnCallInd}
 use Rattle.rv_inst.specs.declared.inst.CondBrTarget.{CondBrTarget}
 use Rattle.rv_inst.specs.declared.inst.CondBrTarget.TheVariants.{Label, Fallthrough}
-
--- a number of bytes: exactly so many, or at most
-pub data Size : Type 0 where
-  Exactly : ℕ → Size
-  AtMost : ℕ → Size
-
-abbrev pub IsOfSize : Size → ℕ → Type 0
-IsOfSize (Exactly n) bytes = bytes ≡ n
-IsOfSize (AtMost n) bytes = bytes ≤ n
-
-abbrev pub most_of : Size → ℕ
-most_of (Exactly n) = n
-most_of (AtMost n) = n
-
--- An island that an instruction asks for among its own bytes, where one is needed: how many of these stand before it; before how many bytes
--- it is needed, by how many of them follow it; and what the instruction counts for beside 128 bytes.
-pub record Request : Type 0 where
-  pub first : Size
-  pub space : ℕ → ℕ
-  pub extra : ℕ
 
 -- The operation that moves a register: addi of 0, or of floating-point numbers fsgnj of equal sources, which has no short form. No line
 -- moves vectors, or floating-point registers of another type than theirs; these stand here as integers do, and as doubles.
@@ -79,14 +60,6 @@ abbrev pub branch_size : IsaFlags → CondBrTarget → CondBrTarget → ℕ
 branch_size flags Fallthrough not_taken = 0
 branch_size flags (Label t) Fallthrough = 4
 branch_size flags (Label t) (Label f) = 4 + jump_size flags
-
--- the bytes of a trap, which are all 0
-abbrev pub trap_size : IsaFlags → ℕ
-trap_size flags = if flags.has_zca then 2 else 4
-
--- the low byte, zero-extended
-abbrev pub is_byte : Bool → ℕ → Bool
-is_byte signed bits = not signed && bits == 8
 
 -- a shift to the right, arithmetic or logical
 abbrev pub right_shift : Bool → AluOPRRI
@@ -145,27 +118,7 @@ load_line_operation flags op rd at = if has_load flags op then load_operation fl
 abbrev pub store_line_operation : IsaFlags → StoreOP → ℕ → Location → Option Decoded
 store_line_operation flags op src at = if has_store flags op then store_operation flags op src at else None
 
--- the low byte, zero-extended, is andi of 255; any other extension takes two shifts
-abbrev pub extend_operation : IsaFlags → ℕ → ℕ → Bool → ℕ → Option Decoded
-extend_operation flags rd rn signed bits = if is_byte signed bits then Some (short_rri flags rri.Andi rd rn (pos 255)) else None
-
 -- ---- instructions
-
--- How many bytes an instruction puts, an island apart; where it asks for one; of one machine word, the operation that stands for it, in
--- sixteen bits where it has such a form; what it records, by the offsets where its bytes begin and end; and whether a word of four bytes
--- stands before those that take its label or its constant.
-pub record InstCode : Type 0 where
-  pub size : Size
-  pub request : Option Request
-  pub operation : Option Decoded
-  pub records : ℕ → ℕ → List MachRecord
-  pub led : Bool
-
-abbrev pub words : Size → InstCode
-words size = record { size = size; request = None; operation = None; records = λ start end. []; led = false }
-
-abbrev pub one_word : Decoded → InstCode
-one_word d = record (words (AtMost 4)) { operation = Some d }
 
 -- so many at most, after an island where one is needed before a space
 abbrev pub after_island : ℕ → (ℕ → ℕ) → ℕ → InstCode
@@ -175,9 +128,10 @@ after_island most space extra = record (words (AtMost most)) { request = Some (r
 abbrev pub unit_code : UnitWord → InstCode
 unit_code w = record (one_word w.operation) { records = λ start end. access_records start w.trap }
 
-abbrev pub described_code : Description → InstCode
-described_code (Word w) = unit_code w
-described_code (Computes s with) = words (AtMost (4 * most_words s.computation))
+abbrev pub described_code : Context → Description → InstCode
+described_code context (Word w) = unit_code w
+described_code context (Gives g) = g.code context
+described_code context (Computes s with) = words (AtMost (4 * most_words s.computation))
 
 -- A trap where a comparison holds is a branch over a trap. What a label's or a constant's address is taken by, and auipc, have
 -- no forms of sixteen bits. What goes to a label has its distance beside it, and is no operation of these. The instruction of an access
@@ -200,28 +154,22 @@ inst_code context (AluRRR op rd rs1 rs2) = one_word (short_rrr context.flags op 
 inst_code context (AluRRImm12 op rd rs imm) = one_word (short_rri context.flags op (number_of rd.reg) (number_of rs) imm.value)
 inst_code context (Mov rd rm type) = record (words (move_size (number_of rd.reg) (number_of rm))) { operation = move_operation context.flags (class_of rd.reg) type (number_of rd.reg) (number_of rm) }
 inst_code context (MovFromPReg rd rm) = record (words (move_size (number_of rd.reg) rm.number)) { operation = move_operation context.flags Int I64 (number_of rd.reg) rm.number }
-inst_code context (Extend rd rn signed from_bits to_bits) = record (words (AtMost 8)) { operation = extend_operation context.flags (number_of rd.reg) (number_of rn) signed from_bits }
 inst_code context (Select info) = words (AtMost 24)
 inst_code context (Load rd op flags from) = record (words (AtMost (load_limit context.flags op))) { operation = load_line_operation context.flags op (number_of rd.reg) (location_of context.frame from); records = λ start end. access_records (end - load_line_own_size context.flags op (number_of rd.reg) (location_of context.frame from)) flags.trap }
 inst_code context (Store src op flags to) = record (words (AtMost (store_limit context.flags op))) { operation = store_line_operation context.flags op (number_of src) (location_of context.frame to); records = λ start end. access_records (end - store_line_own_size context.flags op (number_of src) (location_of context.frame to)) flags.trap; led = is_moved_first context.flags op }
 inst_code context (LoadAddr rd mem) = record (words (AtMost address_limit)) { operation = address_operation context.flags (number_of rd.reg) (location_of context.frame mem) }
-inst_code context (LabelAddress dst label) = words (Exactly 8)
 inst_code context Ret = one_word (short_jalr context.flags 0 1 (pos 0))
-inst_code context (TrapIf cmp code) = record (words (Exactly (4 + trap_size context.flags))) { records = λ start end. noted (start + 4) (event.Trap code) }
 inst_code context (Jal label) = words (Exactly (jump_size context.flags))
 inst_code context (CondBr taken not_taken kind) = words (Exactly (branch_size context.flags taken not_taken))
 inst_code context (BrTable index tmp1 tmp2 targets) = after_island (table_space (length targets)) (λ rest. table_space (length targets)) (8 * length targets)
 inst_code context (Udf code) = record (words (Exactly (trap_size context.flags))) { records = λ start end. noted start (event.Trap code) }
 inst_code context (Jalr rd base offset) = one_word (short_jalr context.flags (number_of rd.reg) (number_of base) offset.value)
 inst_code context (StackProbeLoop guard_size probe_count tmp) = words (AtMost (number_limit + number_limit + 4 * 5))
-inst_code context (LoadExtNameGot rd name) = record (words (Exactly 8)) { records = λ start end. part_records start RiscvGotHi20 name (pos 0) }
-inst_code context (LoadExtNameNear rd name offset) = record (words (Exactly 8)) { records = λ start end. part_records start RiscvPCRelHi20 name offset }
-inst_code context (LoadExtNameFar rd name offset) = record (words (Exactly (inline_size context.flags 8))) { records = λ start end. noted (end - 8) (event.Reloc Abs8 (ToName name) offset) }
 inst_code context (Call info) = record (words (AtMost (call_limit 8 (loads_unless info.patchable info.defs)))) { records = λ start end. noted start (event.Reloc RiscvCallPlt (ToName info.dest) (pos 0)) ++ return_records context.frame (start + 8) info.stack_map info.try_call_info ++ patch_records info.patchable (call_end context.flags info.try_call_info end) (call_end context.flags info.try_call_info end - start); request = call_request 8 (loads_unless info.patchable info.defs) }
 inst_code context (CallInd info) = record (words (AtMost (call_limit 4 (result_loads info.defs)))) { records = λ start end. return_records context.frame (start + (short_jalr context.flags 1 (number_of info.dest) (pos 0)).len) info.stack_map info.try_call_info; request = call_request 4 (result_loads info.defs) }
 inst_code context (ReturnCall info) = record (after_island (return_limit context.frame + 8) (λ rest. rest) (32 * length context.frame.clobbered_callee_saves)) { records = λ start end. noted (end - 8) event.CallSite ++ noted (end - 8) (event.Reloc RiscvCallPlt (ToName info.dest) (pos 0)) }
 inst_code context (ReturnCallInd info) = after_island (return_limit context.frame + 4) (λ rest. rest + 4 - (short_jalr context.flags 0 5 (pos 0)).len) (32 * length context.frame.clobbered_callee_saves)
-inst_code context inst = described_code (description_of inst refl)
+inst_code context inst = described_code context (description_of inst refl)
 
 abbrev pub inst_size : Context → Inst → Size
 inst_size context inst = (inst_code context inst).size

@@ -10,6 +10,7 @@ use crate::inst::{Family, Inst};
 use crate::registers::is_real_x;
 use crate::results::results_clash;
 use crate::sequence::{sequence_has_clash, sequence_has_zero};
+use crate::units::facts_have_zero;
 use rv_base::{Reg, RegClass, ValueRegs, WritableReg};
 use rv_ops::IntegerCompare;
 
@@ -153,7 +154,6 @@ pub fn has_zero(inst: &Inst) -> bool
             from,
         } => from.get_base_register().is_none() && is_zero(rd.reg),
         Inst::LoadAddr { rd, mem: _ } => is_zero(rd.reg),
-        Inst::LabelAddress { dst, label: _ } => any_is_zero(&[dst.reg]),
         Inst::BrTable {
             index: _,
             tmp1,
@@ -165,19 +165,11 @@ pub fn has_zero(inst: &Inst) -> bool
             probe_count: _,
             tmp,
         } => any_is_zero(&[tmp.reg]),
-        Inst::LoadExtNameGot { rd, name: _ } => any_is_zero(&[rd.reg]),
-        Inst::LoadExtNameNear {
-            rd,
-            name: _,
-            offset: _,
-        } => any_is_zero(&[rd.reg]),
-        Inst::LoadExtNameFar {
-            rd,
-            name: _,
-            offset: _,
-        } => any_is_zero(&[rd.reg]),
         _ => match inst.family() {
             Family::Loop => sequence_has_zero(inst),
+            Family::Integer | Family::Memory | Family::Control | Family::Symbols => facts_have_zero(
+                inst,
+            ),
             _ => false,
         },
     }

@@ -38,4 +38,4 @@ pub use label_use::LabelUse;
 pub use sequence::{Computation, Sequence};
 pub use tail_calls::{TailCall, is_bad_frame, is_bad_frame_for, is_unrestorable_for};
 pub use targets::{Targets, handler_label};
-pub use units::{PlacedReg, UnitRegs};
+pub use units::{Facts, InstRegs, PlacedReg};

@@ -11,6 +11,7 @@ use crate::addresses::is_distant;
 use crate::inst::{Family, Inst};
 use crate::results::{any_is_high, any_is_unloadable};
 use crate::sequence::sequence_has_bad_type;
+use crate::units::facts_are_beyond;
 use rv_base::{CallRetPair as Def, IrType, Reg, RegClass};
 use rv_imms::Imm12;
 use rv_ops::AluOPRRI;
@@ -103,13 +104,6 @@ pub fn is_out_of_range(inst: &Inst) -> bool
             rs: _,
             imm12,
         } => is_amount_beyond(*alu_op, *imm12),
-        Inst::Extend {
-            rd: _,
-            rn: _,
-            signed: _,
-            from_bits,
-            to_bits: _,
-        } => *from_bits < 1 || *from_bits > 64,
         Inst::Load {
             rd: _,
             op: _,
@@ -131,7 +125,7 @@ pub fn is_out_of_range(inst: &Inst) -> bool
             let info = info.as_ref();
             is_call_beyond(info.callee_pop_size, info.defs.as_slice())
         }
-        _ => false,
+        _ => facts_are_beyond(inst),
     }
 }
 

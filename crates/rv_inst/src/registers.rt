@@ -10,7 +10,7 @@ ghost use Rattle.rv_inst.specs.Rules.{is_x, is_real_x, is_reserved_x, is_stack_o
 use crate::addresses::address_has;
 use crate::inst::{Family, Inst, SelectInfo};
 use crate::sequence::sequence_has;
-use crate::units::unit_has;
+use crate::units::{facts_have, unit_has};
 use rv_base::{
     ArgPair, CallArgPair, CallRetPair, PReg, Reg, RegClass, RetLocation, RetPair, UnwindInst,
     ValueRegs, WritableReg,
@@ -219,15 +219,8 @@ pub fn integer_has(test: RegisterTest, inst: &Inst) -> bool
         } => any_of(test, &[rd.reg, *rs]),
         Inst::Mov { rd, rm, ty: _ } => any_of(test, &[rd.reg, *rm]),
         Inst::MovFromPReg { rd, rm } => any_of(test, &[rd.reg, Reg::Real(*rm)]),
-        Inst::Extend {
-            rd,
-            rn,
-            signed: _,
-            from_bits: _,
-            to_bits: _,
-        } => any_of(test, &[rd.reg, *rn]),
         Inst::Select { info } => select_has(test, info.as_ref()),
-        _ => false,
+        _ => facts_have(test, inst),
     }
 }
 
@@ -300,8 +293,7 @@ pub fn memory_has(test: RegisterTest, inst: &Inst) -> bool
             src,
         } => holds(test, *src) || address_has(test, *to),
         Inst::LoadAddr { rd, mem } => holds(test, rd.reg) || address_has(test, *mem),
-        Inst::LabelAddress { dst, label: _ } => any_of(test, &[dst.reg]),
-        _ => false,
+        _ => facts_have(test, inst),
     }
 }
 
@@ -310,7 +302,6 @@ pub fn control_has(test: RegisterTest, inst: &Inst) -> bool
     ensures { family_of inst.now ≡ Control → result ≡ list_any (test_of test) (inst_registers inst.now) }
 {
     match inst {
-        Inst::TrapIf { cmp, trap_code: _ } => any_of(test, &[cmp.rs1, cmp.rs2]),
         Inst::CondBr {
             taken: _,
             not_taken: _,
@@ -327,7 +318,7 @@ pub fn control_has(test: RegisterTest, inst: &Inst) -> bool
             base,
             offset: _,
         } => any_of(test, &[rd.reg, *base]),
-        _ => false,
+        _ => facts_have(test, inst),
     }
 }
 
@@ -349,20 +340,7 @@ pub fn loop_has(test: RegisterTest, inst: &Inst) -> bool
 pub fn symbol_has(test: RegisterTest, inst: &Inst) -> bool
     ensures { family_of inst.now ≡ Symbols → result ≡ list_any (test_of test) (inst_registers inst.now) }
 {
-    match inst {
-        Inst::LoadExtNameGot { rd, name: _ } => any_of(test, &[rd.reg]),
-        Inst::LoadExtNameNear {
-            rd,
-            name: _,
-            offset: _,
-        } => any_of(test, &[rd.reg]),
-        Inst::LoadExtNameFar {
-            rd,
-            name: _,
-            offset: _,
-        } => any_of(test, &[rd.reg]),
-        _ => false,
-    }
+    facts_have(test, inst)
 }
 
 /// Returns whether the test holds of a register of a call.

@@ -6,6 +6,7 @@ ghost use Rattle.rv_inst.specs.declared.inst.Family.TheVariants.{Memory, Control
 
 use crate::addresses::address_targets;
 use crate::inst::{CondBrTarget, Family, Inst};
+use crate::units::facts_targets;
 use rv_base::{MachLabel, TryCallHandler, TryCallInfo, VCodeConstant};
 
 /// The labels, or the constant, that an instruction names, by what it does with them.
@@ -93,8 +94,7 @@ fn memory_targets(inst: &Inst) -> Targets
             src: _,
         } => address_targets(0, *to),
         Inst::LoadAddr { rd: _, mem } => address_targets(0, *mem),
-        Inst::LabelAddress { dst: _, label } => Targets::Refers(*label),
-        _ => Targets::Nowhere,
+        _ => facts_targets(inst),
     }
 }
 

@@ -1,24 +1,26 @@
-//! Instructions that are one word of a unit: their registers, each with the class that its place asks, their fields, their traps, and
-//! their words.
+//! Instructions that one row describes by their registers. Of those that are one word of a unit: their registers, each with the class
+//! that its place asks, their fields, their traps, and their words. Of others, of integer registers: what is asked of them.
 
 ghost use Rattle.std.specs.Prelude.{◌≡◌, IfSome, None, Some};
 ghost use Rattle.std.specs.List.{list_any};
 ghost use Rattle.rv_base.specs.declared.flags.IsaFlags.{IsaFlags};
 ghost use Rattle.rv_machine.specs.Decode.{decode};
-ghost use Rattle.rv_inst.specs.Faults.{has_bad_rounding, has_bad_width, is_misplaced};
+ghost use Rattle.rv_inst.specs.Faults.{has_bad_rounding, has_bad_width, is_misplaced, zero_by_facts};
 ghost use Rattle.rv_inst.specs.Operands.{family_of, inst_registers};
 ghost use Rattle.rv_inst.specs.RegisterTests.{test_of, place_test};
-ghost use Rattle.rv_inst.specs.Rules.{is_not_of};
-ghost use Rattle.rv_inst.specs.Descriptions.{IsFineUnit, UnitWord, all_replaced, conversion_trap, place, places_in, registers_in, regs, trap_in, unit_regs, unit_word, with_registers};
+ghost use Rattle.rv_inst.specs.Rules.{facts_faults, is_not_of, is_zero};
+ghost use Rattle.rv_inst.specs.Descriptions.{IsFineUnit, UnitWord, all_in, all_replaced, conversion_trap, described_regs, facts_of, is_beyond_by, only_regs, place, places_in, registers_by_facts, registers_in, regs, result_in, source_in, stepwise, targets_by_facts, trap_in, unit_word, with_registers};
 ghost use Rattle.rv_inst.specs.declared.inst.Family.TheVariants.{Float};
 
-use crate::clashes::same_class;
+use crate::clashes::{any_is_zero, same_class};
 use crate::inst::Inst;
-use crate::registers::{RegisterTest, holds};
+use crate::registers::{RegisterTest, any_of, holds};
+use crate::targets::Targets;
 use rv_base::{Reg, RegClass, TrapCode, WritableReg};
 use rv_encode::{
     encode_csr_imm, encode_csr_reg, encode_fli, encode_fp_rr, encode_fp_rrr, encode_fp_rrrr,
 };
+use rv_ops::IntegerCompare;
 
 /// A register of an instruction, and the class that its place asks.
 #[derive(Clone, Copy, Debug, PartialEq, Eq)]
@@ -27,13 +29,25 @@ pub struct PlacedReg {
     pub reg: Reg,
 }
 
-/// The registers of an instruction of a unit, those that it has: that of its result, and those that it reads.
+/// The registers of an instruction, those that it has: that of its result, and those that it reads.
 #[derive(Clone, Copy, Debug, PartialEq, Eq)]
-pub struct UnitRegs {
+pub struct InstRegs {
     pub rd: Option<WritableReg>,
     pub rs1: Option<Reg>,
     pub rs2: Option<Reg>,
     pub rs3: Option<Reg>,
+}
+
+/// What the rules and a register allocator ask of an instruction of integer registers, where its description gives it.
+#[derive(Clone, Copy)]
+pub struct Facts {
+    pub regs: InstRegs,
+    /// Whether its result is computed in steps, and so isn't x0.
+    pub in_steps: bool,
+    /// Whether a number is out of its range.
+    pub beyond: bool,
+    /// The label whose address it takes, where it takes one.
+    pub targets: Targets,
 }
 
 /// What is asked of a register in its place.
@@ -162,7 +176,129 @@ pub fn has_bad_width(inst: &Inst) -> bool
     }
 }
 
+/// Returns whether the test holds of a result, where there is one.
+fn result_has(test: RegisterTest, rd: Option<WritableReg>) -> bool
+    ensures { result ≡ list_any (test_of test) (result_in rd) }
+{
+    match rd {
+        Some(rd) => any_of(test, &[rd.reg]),
+        None => false,
+    }
+}
+
+/// Returns whether the test holds of a register that is read, where there is one.
+fn source_has(test: RegisterTest, rs: Option<Reg>) -> bool
+    ensures { result ≡ list_any (test_of test) (source_in rs) }
+{
+    match rs {
+        Some(rs) => any_of(test, &[rs]),
+        None => false,
+    }
+}
+
+/// Returns whether x0 is a result, where there is one.
+fn result_is_zero(rd: Option<WritableReg>) -> bool
+    ensures { result ≡ list_any is_zero (result_in rd) }
+{
+    match rd {
+        Some(rd) => any_is_zero(&[rd.reg]),
+        None => false,
+    }
+}
+
+impl InstRegs {
+    /// Returns whether the test holds of one of them.
+    fn has_register(&self, test: RegisterTest) -> bool
+        ensures { result ≡ list_any (test_of test) (all_in self.now) }
+    {
+        result_has(test, self.rd)
+            || (source_has(test, self.rs1)
+                || (source_has(test, self.rs2) || source_has(test, self.rs3)))
+    }
+}
+
+impl Facts {
+    /// Returns whether x0 is a result that is computed in steps.
+    fn has_zero(&self) -> bool
+        ensures { result ≡ (facts_faults self.now).zeroed }
+    {
+        self.in_steps && result_is_zero(self.regs.rd)
+    }
+}
+
+/// Returns whether the test holds of a register of an instruction whose description gives its registers; of any other it holds of none.
+#[inline(never)]
+pub fn facts_have(test: RegisterTest, inst: &Inst) -> bool
+    ensures { result ≡ list_any (test_of test) (registers_by_facts (facts_of inst.now)) }
+{
+    match inst.facts() {
+        Some(facts) => facts.regs.has_register(test),
+        None => false,
+    }
+}
+
+/// Returns whether x0 is a result that such an instruction computes in steps.
+#[inline(never)]
+pub fn facts_have_zero(inst: &Inst) -> bool
+    ensures { result ≡ zero_by_facts (facts_of inst.now) }
+{
+    match inst.facts() {
+        Some(facts) => facts.has_zero(),
+        None => false,
+    }
+}
+
+/// Returns whether such an instruction has a number that is out of its range.
+#[inline(never)]
+pub fn facts_are_beyond(inst: &Inst) -> bool
+    ensures { result ≡ is_beyond_by (facts_of inst.now) }
+{
+    match inst.facts() {
+        Some(facts) => facts.beyond,
+        None => false,
+    }
+}
+
+/// The label that such an instruction names, by what it does with it.
+#[inline(never)]
+pub fn facts_targets(inst: &Inst) -> Targets
+    ensures { result ≡ targets_by_facts (facts_of inst.now) }
+{
+    match inst.facts() {
+        Some(facts) => facts.targets,
+        None => Targets::Nowhere,
+    }
+}
+
 impl Inst {
+    /// What is asked of an instruction of integer registers, where its description gives it.
+    pub fn facts(&self) -> Option<Facts>
+        ensures { result ≡ facts_of self.now }
+    {
+        match self {
+            Inst::Extend {
+                rd,
+                rn,
+                from_bits,
+                ..
+            } => Some(Facts {
+                beyond: *from_bits < 1 || *from_bits > 64,
+                ..only_regs(regs(Some(*rd), Some(*rn), None, None))
+            }),
+            Inst::LabelAddress { dst, label } => Some(Facts {
+                targets: Targets::Refers(*label),
+                ..stepwise(*dst)
+            }),
+            Inst::TrapIf { cmp, .. } => {
+                Some(only_regs(regs(None, Some(cmp.rs1), Some(cmp.rs2), None)))
+            }
+            Inst::LoadExtNameGot { rd, .. } => Some(stepwise(*rd)),
+            Inst::LoadExtNameNear { rd, .. } => Some(stepwise(*rd)),
+            Inst::LoadExtNameFar { rd, .. } => Some(stepwise(*rd)),
+            _ => None,
+        }
+    }
+
     /// The trap that an instruction of a unit may take, which is recorded at its word: that of a conversion to an integer.
     pub fn unit_trap(&self) -> Option<TrapCode>
         ensures { result ≡ trap_in (unit_word self.now) }
@@ -211,9 +347,9 @@ impl Inst {
         }
     }
 
-    /// The registers of an instruction of a unit; any other has none of these.
-    pub fn unit_regs(&self) -> UnitRegs
-        ensures { result ≡ unit_regs self.now }
+    /// The registers of an instruction that is described by them; any other has none of these.
+    pub fn described_regs(&self) -> InstRegs
+        ensures { result ≡ described_regs self.now }
     {
         match self {
             Inst::Fli { rd, .. } => regs(Some(*rd), None, None, None),
@@ -228,16 +364,20 @@ impl Inst {
             } => regs(Some(*rd), Some(*rs1), Some(*rs2), Some(*rs3)),
             Inst::CsrReg { rd, rs, .. } => regs(Some(*rd), Some(*rs), None, None),
             Inst::CsrImm { rd, .. } => regs(Some(*rd), None, None, None),
-            _ => regs(None, None, None, None),
+            _ => match self.facts() {
+                Some(facts) => facts.regs,
+                None => regs(None, None, None, None),
+            },
         }
     }
 
-    /// An instruction of a unit with these registers in the places that it has, where they are given; any other is as it was.
+    /// An instruction that is described by its registers with these in the places that it has, where they are given; any other is as it
+    /// was.
     #[tactic(auto, using(crate::proofs::Descriptions::own_put_back, crate::proofs::Descriptions::registers_after))]
-    pub fn with_registers(self, registers: UnitRegs) -> Inst
+    pub fn with_registers(self, registers: InstRegs) -> Inst
         ensures same_kind { result ≡ with_registers self registers }
-        ensures given { unit_regs result ≡ all_replaced registers (unit_regs self) }
-        ensures own { registers ≡ unit_regs self → result ≡ self }
+        ensures given { described_regs result ≡ all_replaced registers (described_regs self) }
+        ensures own { registers ≡ described_regs self → result ≡ self }
     {
         match self {
             Inst::Fli { width, imm, rd } => {
@@ -301,15 +441,74 @@ impl Inst {
                 csr,
                 imm,
             },
+            Inst::Extend {
+                rd,
+                rn,
+                signed,
+                from_bits,
+                to_bits,
+            } => Inst::Extend {
+                rd: registers.rd.unwrap_or(rd),
+                rn: registers.rs1.unwrap_or(rn),
+                signed,
+                from_bits,
+                to_bits,
+            },
+            Inst::LabelAddress { dst, label } => Inst::LabelAddress {
+                dst: registers.rd.unwrap_or(dst),
+                label,
+            },
+            Inst::TrapIf { cmp, trap_code } => Inst::TrapIf {
+                cmp: IntegerCompare {
+                    rs1: registers.rs1.unwrap_or(cmp.rs1),
+                    rs2: registers.rs2.unwrap_or(cmp.rs2),
+                    ..cmp
+                },
+                trap_code,
+            },
+            Inst::LoadExtNameGot { rd, name } => Inst::LoadExtNameGot {
+                rd: registers.rd.unwrap_or(rd),
+                name,
+            },
+            Inst::LoadExtNameNear { rd, name, offset } => Inst::LoadExtNameNear {
+                rd: registers.rd.unwrap_or(rd),
+                name,
+                offset,
+            },
+            Inst::LoadExtNameFar { rd, name, offset } => Inst::LoadExtNameFar {
+                rd: registers.rd.unwrap_or(rd),
+                name,
+                offset,
+            },
             other => other,
         }
     }
 }
 
-fn regs(rd: Option<WritableReg>, rs1: Option<Reg>, rs2: Option<Reg>, rs3: Option<Reg>) -> UnitRegs
+fn regs(rd: Option<WritableReg>, rs1: Option<Reg>, rs2: Option<Reg>, rs3: Option<Reg>) -> InstRegs
     ensures { result ≡ regs rd rs1 rs2 rs3 }
 {
-    UnitRegs { rd, rs1, rs2, rs3 }
+    InstRegs { rd, rs1, rs2, rs3 }
+}
+
+fn only_regs(regs: InstRegs) -> Facts
+    ensures { result ≡ only_regs regs }
+{
+    Facts {
+        regs,
+        in_steps: false,
+        beyond: false,
+        targets: Targets::Nowhere,
+    }
+}
+
+fn stepwise(rd: WritableReg) -> Facts
+    ensures { result ≡ stepwise rd }
+{
+    Facts {
+        in_steps: true,
+        ..only_regs(regs(Some(rd), None, None, None))
+    }
 }
 
 fn conversion_trap(converts: bool) -> Option<TrapCode>

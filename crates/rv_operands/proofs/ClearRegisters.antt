@@ -20,15 +20,15 @@ use Rattle.rv_base.specs.declared.value_regs.ValueRegs.TheVariants.{One, Two}
 use Rattle.rv_base.specs.AMode.{registers_of}
 use Rattle.rv_ops.specs.declared.compare.IntegerCompare.{IntegerCompare}
 use Rattle.rv_inst.specs.declared.inst.Inst.{Inst}
-use Rattle.rv_inst.specs.declared.inst.Inst.TheVariants.{Nop0, Nop4, EBreak, SequencePoint, Args, Rets, DummyUse, Unwind, EmitIsland, RawData, Lui, Auipc, LoadInlineConst, AluRRR, AluRRImm12, Mov, MovFromPReg, Extend, Select, Load, Store, LoadAddr, LabelAddress, Ret, TrapIf, Jal, CondBr, BrTable, Udf, Jalr, StackProbeLoop, LoadExtNameGot, LoadExtNameNear, LoadExtNameFar, Call, CallInd, ReturnCall, ReturnCallInd}
+use Rattle.rv_inst.specs.declared.inst.Inst.TheVariants.{Nop0, Nop4, EBreak, SequencePoint, Args, Rets, DummyUse, Unwind, EmitIsland, RawData, Lui, Auipc, LoadInlineConst, AluRRR, AluRRImm12, Mov, MovFromPReg, Select, Load, Store, LoadAddr, Ret, Jal, CondBr, BrTable, Udf, Jalr, StackProbeLoop, Call, CallInd, ReturnCall, ReturnCallInd}
 use Rattle.rv_inst.specs.Operands.{all_of, written_in, location_registers, arg_registers, ret_registers, use_registers, def_registers, inst_registers}
 use Rattle.rv_inst.specs.Rules.{is_virtual, is_reserved}
-use Rattle.rv_inst.specs.Descriptions.{Description, Word, Computes, description_of, registers_in, third}
+use Rattle.rv_inst.specs.Descriptions.{Description, Word, Computes, Gives, description_of, registers_in, result_in, sources_in, third}
 use Rattle.rv_inst.specs.Operands as described
 use Rattle.rv_inst.specs.declared.sequence.Sequence.{Sequence}
 use Rattle.rv_inst.specs.declared.units.PlacedReg.{PlacedReg}
-use Rattle.rv_operands.specs.Operand.{Operand, reads, reads_at, scratches, writes_at, writes_early, constraint_of}
-use Rattle.rv_operands.specs.Operands.{address_operands, select_operands, arg_operand, ret_operand, use_operand, def_operand, located_operand, described_operands, third_operand, unit_operands, row_of, operands_of, constraints_of}
+use Rattle.rv_operands.specs.Operand.{Operand, reads, reads_at, scratches, writes, writes_at, writes_early, constraint_of}
+use Rattle.rv_operands.specs.Operands.{address_operands, select_operands, arg_operand, ret_operand, use_operand, def_operand, located_operand, described_operands, result_operand, third_operand, unit_operands, row_of, operands_of, constraints_of}
 use Rattle.rv_operands.specs.Meeting.{chosen, IsPlaced, ArePlaced, AreUsable}
 use Rattle.rv_operands.proofs.Keeping.{either, placed_before, results_placed}
 
@@ -133,9 +133,22 @@ third_clear : (test : Reg → Bool) (s : Sequence) (tmp3 : Option (Writable Reg)
 third_clear test s None c = either c.0 (either c.1.0 (either c.1.1.0 (either c.1.1.1.0 refl)))
 third_clear test s (Some w) c = either c.0 (either c.1.0 (either c.1.1.0 (either c.1.1.1.0 (either c.1.1.1.1.0 refl))))
 
+-- ---- those whose description gives their registers
+
+reads_clear : (test : Reg → Bool) (sources : List Reg) → AreClear test (chosen (map reads sources)) → list_any test sources ≡ false
+reads_clear test [] c = refl
+reads_clear test (r ∷ sources) c = either c.0 (reads_clear test sources c.1)
+
+regs_clear : (test : Reg → Bool) (rd : Option (Writable Reg)) (sources : List Reg) → AreClear test (chosen (map reads sources ++ result_operand rd)) → list_any test (result_in rd ++ sources) ≡ false
+regs_clear test None sources c = reads_clear test sources (clear_both test (map reads sources) [] c).0
+regs_clear test (Some w) sources c = let parts = clear_both test (map reads sources) (writes w ∷ []) c in either parts.1.0 (reads_clear test sources parts.0)
+
+-- ---- each by its description
+
 described_clear : (test : Reg → Bool) (d : Description) → AreClear test (chosen (described_operands d)) → list_any test (described.described_operands d).registers ≡ false
 described_clear test (Word w) c = unit_clear test w.places c
 described_clear test (Computes s with) c = third_clear test s s.tmp3 c
+described_clear test (Gives g) c = regs_clear test g.facts.regs.rd (sources_in g.facts.regs) c
 
 -- ---- every kind
 
@@ -157,23 +170,17 @@ quiet test (AluRRR op rd rs1 rs2) placed c own = either c.1.1.0 (either c.0 (eit
 quiet test (AluRRImm12 op rd rs imm) placed c own = either c.1.0 (either c.0 refl)
 quiet test (Mov rd rm type) placed c own = either c.1.0 (either c.0 refl)
 quiet test (MovFromPReg rd rm) placed c own = ap (λ b. b || (test (Real rm) || false)) c.0
-quiet test (Extend rd rn signed from_bits to_bits) placed c own = either c.1.0 (either c.0 refl)
 quiet test (Select info) placed c own = none test (written_in info.dst ++ info.condition.rs1 ∷ info.condition.rs2 ∷ all_of info.x ++ all_of info.y) (select_clear test info.dst info.condition info.x info.y c)
 quiet test (Load rd op flags from) placed c own = and_address test from _ c
 quiet test (Store src op flags to) placed c own = and_address test to _ c
 quiet test (LoadAddr rd mem) placed c own = and_address test mem _ c
-quiet test (LabelAddress dst label) placed c own = either c.0 refl
 quiet test Ret placed c own = refl
-quiet test (TrapIf cmp code) placed c own = either c.0 (either c.1.0 refl)
 quiet test (Jal label) placed c own = refl
 quiet test (CondBr taken not_taken kind) placed c own = either c.0 (either c.1.0 refl)
 quiet test (BrTable index tmp1 tmp2 targets) placed c own = either c.0 (either c.1.0 (either c.1.1.0 refl))
 quiet test (Udf code) placed c own = refl
 quiet test (Jalr rd base offset) placed c own = either c.1.0 (either c.0 refl)
 quiet test (StackProbeLoop guard_size probe_count tmp) placed c own = either own.0 refl
-quiet test (LoadExtNameGot rd name) placed c own = either c.0 refl
-quiet test (LoadExtNameNear rd name offset) placed c own = either c.0 refl
-quiet test (LoadExtNameFar rd name offset) placed c own = either c.0 refl
 quiet test (Call info) placed c own = call_clear test _ info.uses info.defs _ placed c
 quiet test (CallInd info) placed c own = either c.0 (call_clear test _ info.uses info.defs _ placed.1 c.1)
 quiet test (ReturnCall info) placed c own = uses_clear test _ info.uses (placed_before _ (map constraint_of (map use_operand info.uses)) [] placed) c

@@ -35,7 +35,7 @@ pub or_none : (a : Bool) → (a || false) ≡ a
 or_none true = refl
 or_none false = refl
 
-and_none : (a : Bool) {b : Bool} → b ≡ false → (a && b) ≡ false
+pub and_none : (a : Bool) {b : Bool} → b ≡ false → (a && b) ≡ false
 and_none true q = q
 and_none false q = refl
 

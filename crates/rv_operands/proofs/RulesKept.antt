@@ -1,5 +1,5 @@
 -- What registers that are chosen as they are asked for do for each kind of instruction.
-use Rattle.std.specs.Prelude.{◌++◌, ◌||◌, not, ℕ, false, List, [], ◌∷◌, map, Option, None, Some}
+use Rattle.std.specs.Prelude.{◌++◌, ◌&&◌, ◌||◌, not, ℕ, Bool, false, List, [], ◌∷◌, map, Option, None, Some}
 use Rattle.std.specs.List.{list_any}
 use Rattle.std.proofs.Common.{◌≡◌, refl, ap, ◌∙◌, subst}
 use Rattle.rv_base.specs.declared.amode.AMode.{AMode}
@@ -22,18 +22,18 @@ use Rattle.rv_ops.specs.declared.memory.StoreOP.{StoreOP}
 use Rattle.rv_ops.specs.Memory.{load_class, store_class}
 use Rattle.rv_inst.specs.declared.inst.SelectInfo.{SelectInfo}
 use Rattle.rv_inst.specs.declared.inst.Inst.{Inst}
-use Rattle.rv_inst.specs.declared.inst.Inst.TheVariants.{Nop0, Nop4, EBreak, SequencePoint, Args, Rets, DummyUse, Unwind, EmitIsland, RawData, Lui, Auipc, LoadInlineConst, AluRRR, AluRRImm12, Mov, MovFromPReg, Extend, Select, Load, Store, LoadAddr, LabelAddress, Ret, TrapIf, Jal, CondBr, BrTable, Udf, Jalr, StackProbeLoop, LoadExtNameGot, LoadExtNameNear, LoadExtNameFar, Call, CallInd, ReturnCall, ReturnCallInd}
+use Rattle.rv_inst.specs.declared.inst.Inst.TheVariants.{Nop0, Nop4, EBreak, SequencePoint, Args, Rets, DummyUse, Unwind, EmitIsland, RawData, Lui, Auipc, LoadInlineConst, AluRRR, AluRRImm12, Mov, MovFromPReg, Select, Load, Store, LoadAddr, Ret, Jal, CondBr, BrTable, Udf, Jalr, StackProbeLoop, Call, CallInd, ReturnCall, ReturnCallInd}
 use Rattle.rv_inst.specs.Operands.{all_of, written_in}
 use Rattle.rv_inst.specs.Faults.{is_misplaced, has_zero, has_clash}
 use Rattle.rv_inst.specs.Rules.{is_virtual, is_reserved, is_out_of_place, is_uneven, values_differ, select_clash, clash, is_fifth, is_other_class, is_stack_or_frame, is_zero, described_faults, results_clash}
-use Rattle.rv_inst.specs.Descriptions.{Description, Word, Computes, description_of, third}
+use Rattle.rv_inst.specs.Descriptions.{Description, Word, Computes, Gives, description_of, result_in, sources_in, third}
 use Rattle.rv_inst.specs.declared.sequence.Sequence.{Sequence}
 use Rattle.rv_inst.specs.declared.units.PlacedReg.{PlacedReg}
-use Rattle.rv_operands.specs.Operand.{reads, reads_at, scratches, writes_at, writes_early, constraint_of}
-use Rattle.rv_operands.specs.Operands.{row_of, operands_of, described_operands, third_operand, unit_operands, use_operand, def_operand, select_operands}
+use Rattle.rv_operands.specs.Operand.{Operand, reads, reads_at, scratches, writes, writes_at, writes_early, constraint_of}
+use Rattle.rv_operands.specs.Operands.{row_of, operands_of, described_operands, result_operand, third_operand, unit_operands, use_operand, def_operand, select_operands}
 use Rattle.rv_operands.specs.Meeting.{chosen, definitions, AreDistinct, AreMet, AreFree, ArePlaced, AreOfClasses, AreChosen, KeepsRules}
 use Rattle.rv_operands.proofs.ClearRegisters.{quiet, virtual_clear, reserved_clear}
-use Rattle.rv_operands.proofs.Keeping.{either, or_none, apart, absent, no_clash, same_stack, same_frame, not_other, alike, pairs_alike, args_alike, rets_alike, uses_alike, defs_alike, both_classes, into, call_written, results_placed, no_results_clash}
+use Rattle.rv_operands.proofs.Keeping.{either, and_none, or_none, apart, absent, no_clash, same_stack, same_frame, not_other, alike, pairs_alike, args_alike, rets_alike, uses_alike, defs_alike, both_classes, into, call_written, results_placed, no_results_clash}
 
 -- the rules on classes, on x0 and on clashes
 record KeepsThree (inst : Inst) : Type 0 where
@@ -148,19 +148,37 @@ third_apart : (s : Sequence) (tmp3 : Option (Writable Reg)) → AreMet (requests
 third_apart s None met = no_clash (s.tmp1.reg ∷ s.tmp2.reg ∷ s.rd.reg ∷ []) (s.rs ∷ []) met.distinct met.early
 third_apart s (Some w) met = no_clash (s.tmp1.reg ∷ s.tmp2.reg ∷ w.reg ∷ s.rd.reg ∷ []) (s.rs ∷ []) met.distinct met.early
 
+-- ---- those whose description gives their registers
+
+regs_class : (rd : Option (Writable Reg)) (sources : List Reg) → AreOfClasses (map reads sources ++ result_operand rd) → list_any is_other_class (result_in rd ++ sources) ≡ false
+regs_class None sources h = pairs_alike reads is_other_class not_other sources (both_classes (map reads sources) [] h).0
+regs_class (Some w) sources h = let parts = both_classes (map reads sources) (writes w ∷ []) h in either (not_other w.reg parts.1.0) (pairs_alike reads is_other_class not_other sources parts.0)
+
+-- what is read isn't written
+none_read : (sources : List Reg) (rest : List Operand) → definitions (map constraint_of (map reads sources ++ rest) ++ []) ≡ definitions (map constraint_of rest ++ [])
+none_read [] rest = refl
+none_read (r ∷ sources) rest = none_read sources rest
+
+regs_not_zero : (in_steps : Bool) (rd : Option (Writable Reg)) (sources : List Reg) → AreFree (definitions (map constraint_of (map reads sources ++ result_operand rd) ++ [])) → (in_steps && list_any is_zero (result_in rd)) ≡ false
+regs_not_zero in_steps None sources h = and_none in_steps refl
+regs_not_zero in_steps (Some w) sources h = and_none in_steps (either (subst AreFree (none_read sources (writes w ∷ [])) h).0.not_zero refl)
+
 -- ---- each by its description
 
 described_class : (d : Description) → AreOfClasses (described_operands d) → (described_faults d).class ≡ false
 described_class (Word w) h = unit_class w.places h
 described_class (Computes s with) h = third_class s s.tmp3 h
+described_class (Gives g) h = regs_class g.facts.regs.rd (sources_in g.facts.regs) h
 
 described_not_zero : (d : Description) → AreFree (definitions (map constraint_of (described_operands d) ++ [])) → (described_faults d).zeroed ≡ false
 described_not_zero (Word w) h = refl
 described_not_zero (Computes s with) h = third_not_zero s s.tmp3 h
+described_not_zero (Gives g) h = regs_not_zero g.facts.in_steps g.facts.regs.rd (sources_in g.facts.regs) h
 
 described_apart : (d : Description) → AreMet (map constraint_of (described_operands d) ++ []) → (described_faults d).clashing ≡ false
 described_apart (Word w) met = refl
 described_apart (Computes s with) met = third_apart s s.tmp3 met
+described_apart (Gives g) met = refl
 
 -- ---- every kind
 
@@ -185,23 +203,17 @@ three (AluRRR op rd rs1 rs2) c = record { class = either (not_other rd.reg c.cla
 three (AluRRImm12 op rd rs imm) c = record { class = either (not_other rd.reg c.classes.1.0) (either (not_other rs c.classes.0) refl); zero = refl; clash = refl }
 three (Mov rd rm type) c = record { class = alike (class_of rd.reg) (class_of rm) c.classes.1.0; zero = refl; clash = refl }
 three (MovFromPReg rd rm) c = record { class = ap (λ b. b || not (is_stack_or_frame rm)) (not_other rd.reg c.classes.0); zero = refl; clash = refl }
-three (Extend rd rn signed from_bits to_bits) c = record { class = either (not_other rd.reg c.classes.1.0) (either (not_other rn c.classes.0) refl); zero = refl; clash = refl }
 three (Select info) c = select_keeps info c
 three (Load rd op flags from) c = load_keeps rd op flags from c
 three (Store src op flags to) c = store_keeps src op flags to c
 three (LoadAddr rd mem) c = load_addr_keeps rd mem c
-three (LabelAddress dst label) c = record { class = either (not_other dst.reg c.classes.0) refl; zero = either c.free.0.not_zero refl; clash = refl }
 three Ret c = record { class = refl; zero = refl; clash = refl }
-three (TrapIf cmp code) c = record { class = either (not_other cmp.rs1 c.classes.0) (either (not_other cmp.rs2 c.classes.1.0) refl); zero = refl; clash = refl }
 three (Jal label) c = record { class = refl; zero = refl; clash = refl }
 three (CondBr taken not_taken kind) c = record { class = either (not_other kind.rs1 c.classes.0) (either (not_other kind.rs2 c.classes.1.0) refl); zero = refl; clash = refl }
 three (BrTable index tmp1 tmp2 targets) c = record { class = either (not_other index c.classes.0) (either (not_other tmp1.reg c.classes.1.0) (either (not_other tmp2.reg c.classes.1.1.0) refl)); zero = either c.free.0.not_zero (either c.free.1.0.not_zero refl); clash = no_clash (tmp1.reg ∷ tmp2.reg ∷ []) (index ∷ []) c.met.distinct c.met.early }
 three (Udf code) c = record { class = refl; zero = refl; clash = refl }
 three (Jalr rd base offset) c = record { class = either (not_other rd.reg c.classes.1.0) (either (not_other base c.classes.0) refl); zero = refl; clash = refl }
 three (StackProbeLoop guard_size probe_count tmp) c = probe_keeps guard_size probe_count tmp c
-three (LoadExtNameGot rd name) c = record { class = either (not_other rd.reg c.classes.0) refl; zero = either c.free.0.not_zero refl; clash = refl }
-three (LoadExtNameNear rd name offset) c = record { class = either (not_other rd.reg c.classes.0) refl; zero = either c.free.0.not_zero refl; clash = refl }
-three (LoadExtNameFar rd name offset) c = record { class = either (not_other rd.reg c.classes.0) refl; zero = either c.free.0.not_zero refl; clash = refl }
 three (Call info) c = call_keeps info c
 three (CallInd info) c = call_through_keeps info c
 three (ReturnCall info) c = record { class = uses_alike info.uses c.classes; zero = refl; clash = refl }

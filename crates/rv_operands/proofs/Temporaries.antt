@@ -14,7 +14,7 @@ use Rattle.rv_base.specs.declared.value_regs.ValueRegs.{ValueRegs}
 use Rattle.rv_base.specs.declared.value_regs.ValueRegs.TheVariants.{One, Two}
 use Rattle.rv_base.specs.Regs.{number_of}
 use Rattle.rv_inst.specs.declared.inst.Inst.{Inst}
-use Rattle.rv_inst.specs.declared.inst.Inst.TheVariants.{Nop0, Nop4, EBreak, SequencePoint, Args, Rets, DummyUse, Unwind, EmitIsland, RawData, Lui, Auipc, LoadInlineConst, AluRRR, AluRRImm12, Mov, MovFromPReg, Extend, Select, Load, Store, LoadAddr, LabelAddress, Ret, TrapIf, Jal, CondBr, BrTable, Udf, Jalr, StackProbeLoop, LoadExtNameGot, LoadExtNameNear, LoadExtNameFar, Call, CallInd, ReturnCall, ReturnCallInd}
+use Rattle.rv_inst.specs.declared.inst.Inst.TheVariants.{Nop0, Nop4, EBreak, SequencePoint, Args, Rets, DummyUse, Unwind, EmitIsland, RawData, Lui, Auipc, LoadInlineConst, AluRRR, AluRRImm12, Mov, MovFromPReg, Select, Load, Store, LoadAddr, Ret, Jal, CondBr, BrTable, Udf, Jalr, StackProbeLoop, Call, CallInd, ReturnCall, ReturnCallInd}
 use Rattle.rv_inst.specs.Operands.{inst_temporaries}
 use Rattle.rv_operands.specs.Operand.{Operand}
 use Rattle.rv_operands.specs.Operands.{address_operands, read_operands, written_operands, arg_operand, ret_operand, use_operand, def_operand, located_operand, row_of, operands_of}
@@ -75,23 +75,17 @@ temporaries (AluRRR op rd rs1 rs2) = refl
 temporaries (AluRRImm12 op rd rs imm) = refl
 temporaries (Mov rd rm type) = refl
 temporaries (MovFromPReg rd rm) = refl
-temporaries (Extend rd rn signed from_bits to_bits) = refl
 temporaries (Select info) = no_temporaries _ (none_of_value info.x info.y info.dst)
 temporaries (Load rd op flags from) = no_temporaries _ (none_of_address from _ refl)
 temporaries (Store src op flags to) = no_temporaries _ (none_of_address to _ refl)
 temporaries (LoadAddr rd mem) = no_temporaries _ (none_of_address mem _ refl)
-temporaries (LabelAddress dst label) = refl
 temporaries Ret = refl
-temporaries (TrapIf cmp code) = refl
 temporaries (Jal label) = refl
 temporaries (CondBr taken not_taken kind) = refl
 temporaries (BrTable index tmp1 tmp2 targets) = refl
 temporaries (Udf code) = refl
 temporaries (Jalr rd base offset) = refl
 temporaries (StackProbeLoop guard_size probe_count tmp) = refl
-temporaries (LoadExtNameGot rd name) = refl
-temporaries (LoadExtNameNear rd name offset) = refl
-temporaries (LoadExtNameFar rd name offset) = refl
 temporaries (Call info) = no_temporaries _ (none_of_call info.uses info.defs)
 temporaries (CallInd info) = no_temporaries _ (none_of_call info.uses info.defs)
 temporaries (ReturnCall info) = no_temporaries _ (none_in use_operand (λ p. refl) info.uses)

@@ -20,14 +20,14 @@ use Rattle.rv_base.specs.declared.value_regs.ValueRegs.TheVariants.{One, Two}
 use Rattle.rv_base.specs.Regs.{class_of, int_reg}
 use Rattle.rv_ops.specs.Memory.{load_class, store_class}
 use Rattle.rv_inst.specs.declared.inst.Inst.{Inst}
-use Rattle.rv_inst.specs.declared.inst.Inst.TheVariants.{Nop0, Nop4, EBreak, SequencePoint, Args, Rets, DummyUse, Unwind, EmitIsland, RawData, Lui, Auipc, LoadInlineConst, AluRRR, AluRRImm12, Mov, MovFromPReg, Extend, Select, Load, Store, LoadAddr, LabelAddress, Ret, TrapIf, Jal, CondBr, BrTable, Udf, Jalr, StackProbeLoop, LoadExtNameGot, LoadExtNameNear, LoadExtNameFar, Call, CallInd, ReturnCall, ReturnCallInd}
+use Rattle.rv_inst.specs.declared.inst.Inst.TheVariants.{Nop0, Nop4, EBreak, SequencePoint, Args, Rets, DummyUse, Unwind, EmitIsland, RawData, Lui, Auipc, LoadInlineConst, AluRRR, AluRRImm12, Mov, MovFromPReg, Select, Load, Store, LoadAddr, Ret, Jal, CondBr, BrTable, Udf, Jalr, StackProbeLoop, Call, CallInd, ReturnCall, ReturnCallInd}
 use Rattle.rv_inst.specs.declared.inst.SelectInfo.{SelectInfo}
 use Rattle.rv_inst.specs.declared.sequence.Sequence.{Sequence}
 use Rattle.rv_inst.specs.declared.units.PlacedReg.{PlacedReg}
-use Rattle.rv_inst.specs.declared.units.UnitRegs.{UnitRegs}
+use Rattle.rv_inst.specs.declared.units.InstRegs.{InstRegs}
 use Rattle.rv_inst.specs.Operands.{unwind_registers, all_of, written_in}
 use Rattle.rv_inst.specs.Rules.{class_for, is_stack_or_frame, is_uneven, values_differ}
-use Rattle.rv_inst.specs.Descriptions.{Description, Word, Computes, description_of, place}
+use Rattle.rv_inst.specs.Descriptions.{Description, Word, Computes, Gives, description_of, place, sources_in}
 use Rattle.rv_operands.specs.Operand.{Operand, Reads, ReadsIn, Writes, WritesIn, WritesAnywhere, of_int, reads, reads_late, writes, writes_early, scratches, reads_at, writes_at, constraint_of, WritesEarly, of_any}
 
 -- ---- parts of instructions
@@ -83,7 +83,15 @@ abbrev pub unit_operands : List PlacedReg → List Operand
 unit_operands [] = []
 unit_operands (result ∷ sources) = map reads_at sources ++ writes_at result ∷ []
 
--- what is asked for them, as they are taken out of it
+-- Those of an instruction whose description gives its registers: those that it reads, and then that of its result.
+abbrev pub result_operand : Option (Writable Reg) → List Operand
+result_operand None = []
+result_operand (Some w) = writes w ∷ []
+
+abbrev pub regs_operands : InstRegs → List Operand
+regs_operands r = map reads (sources_in r) ++ result_operand r.rd
+
+-- what is asked for the registers of an instruction, as they are taken out of it
 abbrev pub read_request : Option Reg → List Constraint
 read_request None = []
 read_request (Some r) = RegUse r ∷ []
@@ -92,8 +100,8 @@ abbrev pub written_request : Option (Writable Reg) → List Constraint
 written_request None = []
 written_request (Some w) = RegDef w ∷ []
 
-abbrev pub unit_requests : UnitRegs → List Constraint
-unit_requests r = read_request r.rs1 ++ (read_request r.rs2 ++ (read_request r.rs3 ++ written_request r.rd))
+abbrev pub regs_requests : InstRegs → List Constraint
+regs_requests r = read_request r.rs1 ++ (read_request r.rs2 ++ (read_request r.rs3 ++ written_request r.rd))
 
 abbrev pub early_request : Option (Writable Reg) → List Constraint
 early_request None = []
@@ -113,6 +121,7 @@ sequence_operands s = reads s.rs ∷ scratches s.tmp1 ∷ scratches s.tmp2 ∷ t
 abbrev pub described_operands : Description → List Operand
 described_operands (Word w) = unit_operands w.places
 described_operands (Computes s with) = sequence_operands s
+described_operands (Gives g) = regs_operands g.facts.regs
 
 -- ---- the table
 
@@ -148,23 +157,17 @@ row_of (AluRRR op rd rs1 rs2) = row (reads rs1 ∷ reads rs2 ∷ writes rd ∷ [
 row_of (AluRRImm12 op rd rs imm) = row (reads rs ∷ writes rd ∷ [])
 row_of (Mov rd rm type) = row (record { register = rm; class = Some (class_of rd.reg); access = Reads } ∷ record { register = rd.reg; class = Some (class_of rm); access = Writes } ∷ [])
 row_of (MovFromPReg rd rm) = record (row (writes rd ∷ [])) { named = Real rm ∷ []; misnamed = not (is_stack_or_frame rm) }
-row_of (Extend rd rn signed from_bits to_bits) = row (reads rn ∷ writes rd ∷ [])
 row_of (Select info) = record (row (select_operands info)) { misnamed = values_differ (written_in info.dst) (all_of info.x) (all_of info.y); uneven = is_uneven info.dst info.x info.y }
 row_of (Load rd op flags from) = row (address_operands from ++ writes_at (place (load_class op) rd.reg) ∷ [])
 row_of (Store src op flags to) = row (address_operands to ++ reads_at (place (store_class op) src) ∷ [])
 row_of (LoadAddr rd mem) = row (address_operands mem ++ writes_early rd ∷ [])
-row_of (LabelAddress dst label) = row (writes dst ∷ [])
 row_of Ret = row []
-row_of (TrapIf cmp code) = row (reads cmp.rs1 ∷ reads cmp.rs2 ∷ [])
 row_of (Jal label) = row []
 row_of (CondBr taken not_taken kind) = row (reads kind.rs1 ∷ reads kind.rs2 ∷ [])
 row_of (BrTable index tmp1 tmp2 targets) = row (reads index ∷ scratches tmp1 ∷ scratches tmp2 ∷ [])
 row_of (Udf code) = row []
 row_of (Jalr rd base offset) = row (reads base ∷ writes rd ∷ [])
 row_of (StackProbeLoop guard_size probe_count tmp) = record (row []) { own = scratches tmp ∷ [] }
-row_of (LoadExtNameGot rd name) = row (writes rd ∷ [])
-row_of (LoadExtNameNear rd name offset) = row (writes rd ∷ [])
-row_of (LoadExtNameFar rd name offset) = row (writes rd ∷ [])
 row_of (Call info) = record (row (map use_operand info.uses ++ map def_operand info.defs)) { clobbers = RegClobbers info.clobbers ∷ [] }
 row_of (CallInd info) = record (row (reads info.dest ∷ map use_operand info.uses ++ map def_operand info.defs)) { clobbers = RegClobbers info.clobbers ∷ [] }
 row_of (ReturnCall info) = row (map use_operand info.uses)

@@ -6,7 +6,7 @@ use Rattle.rv_base.specs.declared.regs.Writable.{Writable}
 use Rattle.rv_base.specs.declared.call.TryCallInfo.{TryCallInfo}
 use Rattle.rv_inst.specs.Descriptions.{Description, description_of}
 use Rattle.rv_inst.specs.declared.inst.Inst.{Inst}
-use Rattle.rv_inst.specs.declared.inst.Inst.TheVariants.{Nop0, Nop4, EBreak, SequencePoint, Args, Rets, DummyUse, Unwind, EmitIsland, RawData, Lui, Auipc, LoadInlineConst, AluRRR, AluRRImm12, Mov, MovFromPReg, Extend, Select, Load, Store, LoadAddr, LabelAddress, Ret, TrapIf, Jal, CondBr, BrTable, Udf, Jalr, StackProbeLoop, LoadExtNameGot, LoadExtNameNear, LoadExtNameFar, Call, CallInd, ReturnCall, ReturnCallInd}
+use Rattle.rv_inst.specs.declared.inst.Inst.TheVariants.{Nop0, Nop4, EBreak, SequencePoint, Args, Rets, DummyUse, Unwind, EmitIsland, RawData, Lui, Auipc, LoadInlineConst, AluRRR, AluRRImm12, Mov, MovFromPReg, Select, Load, Store, LoadAddr, Ret, Jal, CondBr, BrTable, Udf, Jalr, StackProbeLoop, Call, CallInd, ReturnCall, ReturnCallInd}
 use Rattle.rv_operands.specs.declared.kinds.CallType.{CallType}
 use Rattle.rv_operands.specs.declared.kinds.CallType.TheVariants.{None as NoCall, Regular, TailCall}
 use Rattle.rv_operands.specs.declared.kinds.MachTerminator.{MachTerminator}
@@ -35,7 +35,7 @@ end_by (Some info) = Branch
 abbrev pub that_calls : Option TryCallInfo → Roles
 that_calls info = record plain { call = Regular; ends = end_by info }
 
--- a word of a unit and a sequence are none of these
+-- those that are described are none of these
 abbrev pub described_roles : Description → Roles
 described_roles d = plain
 
@@ -57,23 +57,17 @@ roles_of (AluRRR op rd rs1 rs2) = plain
 roles_of (AluRRImm12 op rd rs imm) = plain
 roles_of (Mov rd rm type) = record plain { moved = Some (rd, rm) }
 roles_of (MovFromPReg rd rm) = plain
-roles_of (Extend rd rn signed from_bits to_bits) = plain
 roles_of (Select info) = plain
 roles_of (Load rd op flags from) = plain
 roles_of (Store src op flags to) = plain
 roles_of (LoadAddr rd mem) = plain
-roles_of (LabelAddress dst label) = plain
 roles_of Ret = plain
-roles_of (TrapIf cmp code) = plain
 roles_of (Jal label) = that_ends Branch
 roles_of (CondBr taken not_taken kind) = that_ends Branch
 roles_of (BrTable index tmp1 tmp2 targets) = that_ends Branch
 roles_of (Udf code) = record plain { traps = true }
 roles_of (Jalr rd base offset) = that_ends Branch
 roles_of (StackProbeLoop guard_size probe_count tmp) = plain
-roles_of (LoadExtNameGot rd name) = plain
-roles_of (LoadExtNameNear rd name offset) = plain
-roles_of (LoadExtNameFar rd name offset) = plain
 roles_of (Call info) = that_calls info.try_call_info
 roles_of (CallInd info) = that_calls info.try_call_info
 roles_of (ReturnCall info) = record (that_ends RetCall) { call = TailCall }

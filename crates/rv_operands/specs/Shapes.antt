@@ -19,10 +19,10 @@ use Rattle.rv_base.specs.Regs.{class_of}
 use Rattle.rv_ops.specs.declared.compare.IntegerCompare.{IntegerCompare}
 use Rattle.rv_inst.specs.declared.inst.SelectInfo.{SelectInfo}
 use Rattle.rv_inst.specs.declared.inst.Inst.{Inst}
-use Rattle.rv_inst.specs.declared.inst.Inst.TheVariants.{Nop0, Nop4, EBreak, SequencePoint, Args, Rets, DummyUse, Unwind, EmitIsland, RawData, Lui, Auipc, LoadInlineConst, AluRRR, AluRRImm12, Mov, MovFromPReg, Extend, Select, Load, Store, LoadAddr, LabelAddress, Ret, TrapIf, Jal, CondBr, BrTable, Udf, Jalr, StackProbeLoop, LoadExtNameGot, LoadExtNameNear, LoadExtNameFar, Call, CallInd, ReturnCall, ReturnCallInd}
-use Rattle.rv_inst.specs.Descriptions.{Description, UnitWord, Word, Computes, description_of, in_order, registers_in, regs}
+use Rattle.rv_inst.specs.declared.inst.Inst.TheVariants.{Nop0, Nop4, EBreak, SequencePoint, Args, Rets, DummyUse, Unwind, EmitIsland, RawData, Lui, Auipc, LoadInlineConst, AluRRR, AluRRImm12, Mov, MovFromPReg, Select, Load, Store, LoadAddr, Ret, Jal, CondBr, BrTable, Udf, Jalr, StackProbeLoop, Call, CallInd, ReturnCall, ReturnCallInd}
+use Rattle.rv_inst.specs.Descriptions.{Description, Given, UnitWord, Word, Computes, Gives, description_of, in_order, registers_in, regs}
 use Rattle.rv_inst.specs.declared.sequence.Sequence.{Sequence}
-use Rattle.rv_inst.specs.declared.units.UnitRegs.{UnitRegs}
+use Rattle.rv_inst.specs.declared.units.InstRegs.{InstRegs}
 
 -- ---- parts of instructions
 
@@ -84,12 +84,15 @@ tail_call_shape info = record info { uses = map use_shape info.uses }
 abbrev pub tail_call_through_shape : ReturnCallInfo Reg → ReturnCallInfo Reg
 tail_call_through_shape info = record (tail_call_shape info) { dest = blank info.dest }
 
--- of a word of a unit
-abbrev pub blank_regs : UnitRegs → UnitRegs
+-- of the registers of an instruction, of a word of a unit, and of one whose description gives its registers
+abbrev pub blank_regs : InstRegs → InstRegs
 blank_regs r = regs (option_map blanked r.rd) (option_map blank r.rs1) (option_map blank r.rs2) (option_map blank r.rs3)
 
 abbrev pub unit_shape : UnitWord → Inst
 unit_shape w = w.with_registers (blank_regs (in_order (registers_in w.places)))
+
+abbrev pub given_shape : Given → Inst
+given_shape g = g.with_registers (blank_regs g.facts.regs)
 
 -- and of a sequence
 abbrev pub sequence_shape : Sequence → Sequence
@@ -98,6 +101,7 @@ sequence_shape s = record s { rs = blank s.rs; tmp1 = blanked s.tmp1; tmp2 = bla
 abbrev pub described_shape : Description → Inst
 described_shape (Word w) = unit_shape w
 described_shape (Computes s with) = with (sequence_shape s)
+described_shape (Gives g) = given_shape g
 
 -- ---- instructions
 
@@ -119,23 +123,17 @@ shape_of (AluRRR op rd rs1 rs2) = AluRRR op (blanked rd) (blank rs1) (blank rs2)
 shape_of (AluRRImm12 op rd rs imm) = AluRRImm12 op (blanked rd) (blank rs) imm
 shape_of (Mov rd rm type) = Mov (blanked rd) (blank rm) type
 shape_of (MovFromPReg rd rm) = MovFromPReg (blanked rd) rm
-shape_of (Extend rd rn signed from_bits to_bits) = Extend (blanked rd) (blank rn) signed from_bits to_bits
 shape_of (Select info) = Select (select_shape info)
 shape_of (Load rd op flags from) = Load (blanked rd) op flags (address_shape from)
 shape_of (Store src op flags to) = Store (blank src) op flags (address_shape to)
 shape_of (LoadAddr rd mem) = LoadAddr (blanked rd) (address_shape mem)
-shape_of (LabelAddress dst label) = LabelAddress (blanked dst) label
 shape_of Ret = Ret
-shape_of (TrapIf cmp code) = TrapIf (compare_shape cmp) code
 shape_of (Jal label) = Jal label
 shape_of (CondBr taken not_taken kind) = CondBr taken not_taken (compare_shape kind)
 shape_of (BrTable index tmp1 tmp2 targets) = BrTable (blank index) (blanked tmp1) (blanked tmp2) targets
 shape_of (Udf code) = Udf code
 shape_of (Jalr rd base offset) = Jalr (blanked rd) (blank base) offset
 shape_of (StackProbeLoop guard_size probe_count tmp) = StackProbeLoop guard_size probe_count tmp
-shape_of (LoadExtNameGot rd name) = LoadExtNameGot (blanked rd) name
-shape_of (LoadExtNameNear rd name offset) = LoadExtNameNear (blanked rd) name offset
-shape_of (LoadExtNameFar rd name offset) = LoadExtNameFar (blanked rd) name offset
 shape_of (Call info) = Call (call_shape info)
 shape_of (CallInd info) = CallInd (call_through_shape info)
 shape_of (ReturnCall info) = ReturnCall (tail_call_shape info)

@@ -5,7 +5,8 @@ ghost use Rattle.std.specs.Prelude.{◌≡◌};
 ghost use Rattle.rv_inst.specs.Operands.{family_of};
 ghost use Rattle.rv_inst.specs.declared.inst.Family.TheVariants.{Pseudo, Integer, Memory, Control, Loop, Symbols, Calls, Float};
 ghost use Rattle.rv_operands.specs.Visits.{AreHandedOver};
-ghost use Rattle.rv_operands.specs.Operands.{constraints_of};
+ghost use Rattle.rv_inst.specs.Descriptions.{described_regs};
+ghost use Rattle.rv_operands.specs.Operands.{constraints_of, regs_requests};
 ghost use Rattle.rv_operands.specs.Shapes.{shape_of};
 
 use crate::calls::{calls, calls_through, tail_calls_through};
@@ -103,30 +104,11 @@ fn integer_operands<V: OperandVisitor>(inst: Inst, collector: &mut V) -> Handed
             let handed = writes_one(&mut rd, collector);
             (Inst::MovFromPReg { rd, rm }, handed)
         }
-        Inst::Extend {
-            mut rd,
-            mut rn,
-            signed,
-            from_bits,
-            to_bits,
-        } => {
-            let handed = reads_and_writes(&mut rn, &mut rd, collector);
-            (
-                Inst::Extend {
-                    rd,
-                    rn,
-                    signed,
-                    from_bits,
-                    to_bits,
-                },
-                handed,
-            )
-        }
         Inst::Select { mut info } => {
             let handed = chooses(info.as_mut(), collector);
             (Inst::Select { info }, handed)
         }
-        other => (other, Ok(())),
+        other => described_operands(other, collector),
     }
 }
 
@@ -166,11 +148,7 @@ fn memory_operands<V: OperandVisitor>(inst: Inst, collector: &mut V) -> Handed
             let handed = addresses_and_writes_early(&mut mem, &mut rd, collector);
             (Inst::LoadAddr { rd, mem }, handed)
         }
-        Inst::LabelAddress { mut dst, label } => {
-            let handed = writes_one(&mut dst, collector);
-            (Inst::LabelAddress { dst, label }, handed)
-        }
-        other => (other, Ok(())),
+        other => described_operands(other, collector),
     }
 }
 
@@ -180,10 +158,6 @@ fn control_operands<V: OperandVisitor>(inst: Inst, collector: &mut V) -> Handed
     ensures same { family_of inst ≡ Control → shape_of result.0 ≡ shape_of inst }
 {
     match inst {
-        Inst::TrapIf { mut cmp, trap_code } => {
-            let handed = compares(&mut cmp, collector);
-            (Inst::TrapIf { cmp, trap_code }, handed)
-        }
         Inst::CondBr {
             taken,
             not_taken,
@@ -224,7 +198,7 @@ fn control_operands<V: OperandVisitor>(inst: Inst, collector: &mut V) -> Handed
             let handed = reads_and_writes(&mut base, &mut rd, collector);
             (Inst::Jalr { rd, base, offset }, handed)
         }
-        other => (other, Ok(())),
+        other => described_operands(other, collector),
     }
 }
 
@@ -247,29 +221,7 @@ fn symbol_operands<V: OperandVisitor>(inst: Inst, collector: &mut V) -> Handed
     ensures handed { family_of inst ≡ Symbols → AreHandedOver V.recorded V.given result.1 collector.old collector.new (constraints_of inst) (constraints_of result.0) }
     ensures same { family_of inst ≡ Symbols → shape_of result.0 ≡ shape_of inst }
 {
-    match inst {
-        Inst::LoadExtNameGot { mut rd, name } => {
-            let handed = writes_one(&mut rd, collector);
-            (Inst::LoadExtNameGot { rd, name }, handed)
-        }
-        Inst::LoadExtNameNear {
-            mut rd,
-            name,
-            offset,
-        } => {
-            let handed = writes_one(&mut rd, collector);
-            (Inst::LoadExtNameNear { rd, name, offset }, handed)
-        }
-        Inst::LoadExtNameFar {
-            mut rd,
-            name,
-            offset,
-        } => {
-            let handed = writes_one(&mut rd, collector);
-            (Inst::LoadExtNameFar { rd, name, offset }, handed)
-        }
-        other => (other, Ok(())),
-    }
+    described_operands(inst, collector)
 }
 
 /// Of a call.
@@ -303,7 +255,16 @@ fn unit_operands<V: OperandVisitor>(inst: Inst, collector: &mut V) -> Handed
     ensures handed { family_of inst ≡ Float → AreHandedOver V.recorded V.given result.1 collector.old collector.new (constraints_of inst) (constraints_of result.0) }
     ensures same { family_of inst ≡ Float → shape_of result.0 ≡ shape_of inst }
 {
-    let mut registers = inst.unit_regs();
+    described_operands(inst, collector)
+}
+
+/// Of one that is described by its registers, which are all that are asked for; or of one for which none is.
+#[inline(never)]
+fn described_operands<V: OperandVisitor>(inst: Inst, collector: &mut V) -> Handed
+    ensures handed { constraints_of inst ≡ regs_requests (described_regs inst) → AreHandedOver V.recorded V.given result.1 collector.old collector.new (constraints_of inst) (constraints_of result.0) }
+    ensures same { shape_of result.0 ≡ shape_of inst }
+{
+    let mut registers = inst.described_regs();
     let handed = reads_sources_and_writes(&mut registers, collector);
     (inst.with_registers(registers), handed)
 }

@@ -5,12 +5,12 @@ ghost use Rattle.rv_base.specs.Regs.{class_of};
 ghost use Rattle.rv_base.specs.declared.constraint.Constraint.TheVariants.{RegUse, RegLateUse, RegDef, RegEarlyDef};
 ghost use Rattle.rv_operands.specs.Visits.{AreHandedOver};
 ghost use Rattle.rv_operands.specs.Operand.{constraint_of};
-ghost use Rattle.rv_operands.specs.Operands.{address_operands, read_operands, written_operands, select_operands, read_request, written_request, early_request, unit_requests, sequence_requests};
+ghost use Rattle.rv_operands.specs.Operands.{address_operands, read_operands, written_operands, select_operands, read_request, written_request, early_request, regs_requests, sequence_requests};
 ghost use Rattle.rv_operands.specs.Shapes.{address_shape, blank, blanked, blank_regs, compare_shape, read_shape, sequence_shape, written_shape, select_shape};
 
 use crate::visits::{reads, reads_late, writes, writes_early};
 use rv_base::{AMode, OperandVisitor, OutOfMemory, Reg, ValueRegs, WritableReg};
-use rv_inst::{SelectInfo, Sequence, UnitRegs};
+use rv_inst::{InstRegs, SelectInfo, Sequence};
 use rv_ops::IntegerCompare;
 
 /// One that is read.
@@ -287,12 +287,12 @@ fn writes_any<V: OperandVisitor>(
     }
 }
 
-/// The registers of a word of a unit: those that it reads, and then that of its result.
+/// The registers of an instruction that is described by them: those that it reads, and then that of its result.
 pub fn reads_sources_and_writes<V: OperandVisitor>(
-    registers: &mut UnitRegs,
+    registers: &mut InstRegs,
     collector: &mut V,
 ) -> Result<(), OutOfMemory>
-    ensures handed { AreHandedOver V.recorded V.given result collector.old collector.new (unit_requests registers.old) (unit_requests registers.new) }
+    ensures handed { AreHandedOver V.recorded V.given result collector.old collector.new (regs_requests registers.old) (regs_requests registers.new) }
     ensures same { blank_regs registers.new ≡ blank_regs registers.old }
 {
     reads_any(&mut registers.rs1, collector)?;

@@ -1,10 +1,5 @@
-use Rattle.std.proofs.Common.{ap, ◌∙◌}
-use Rattle.rv_operands.specs.Shapes.{blank_regs}
-use Rattle.rv_operands.proofs.Units.{unit_handed, shape_kept}
+use Rattle.rv_operands.proofs.Units.{unit_asks}
 use Rattle.rv_operands.proofs.get_operands.unit_operands.Goals as goal
 
 pub returns-clause-handed : goal.returns-clause-handed
-returns-clause-handed g c = λ family. rw c.with_registers.ensures.same_kind (unit_handed _ _ family (c.reads_sources_and_writes-handed.ensures.same ∙ ap blank_regs c.unit_regs-registers.ensures) (rw c.unit_regs-registers.ensures at c.reads_sources_and_writes-handed.ensures.handed))
-
-pub returns-clause-same : goal.returns-clause-same
-returns-clause-same g c = λ family. rw c.with_registers.ensures.same_kind (shape_kept _ _ family (c.reads_sources_and_writes-handed.ensures.same ∙ ap blank_regs c.unit_regs-registers.ensures))
+returns-clause-handed g c = λ family. c.described_operands.ensures.handed (unit_asks _ family)
