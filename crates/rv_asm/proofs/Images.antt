@@ -3,11 +3,12 @@ use Rattle.{mach_records.specs.declared.records.FinalizedRelocTarget.FinalizedRe
 use Rattle.rv_asm.proofs.Words.{[], Abs8, address_of_name, Addresses, AddressOf, Aims, aligned, AllClear, AllEnd, ap, arith, bits_back, Buffer, byte, bytes_from, call_event, clear_there, Code, complement_of, Context, context_of, distance_to, end_of, ends_later, EndsWithin, Event, event_recorded}
 use Rattle.rv_asm.proofs.Words.{ExternalName, field_size, FieldsEnd, FieldsStand, flat_map, Gap, Here, HoldsDistance, inl, inr, IntegerCompare, IsaFlags, IsFilled, IsFilledAt, IsFilledWith, IsFinishedTo, IsLinkedWith, IsOutside, IsPlaced, IsPlacedAt, IsRecorded, IsTrapAt, Job, KeepsOutside}
 use Rattle.rv_asm.proofs.Words.{label_kinds, LabelUse, Lasts, lasts_after_slots, lasts_more, length, length-append, LinesStand, List, locate, low64, lower_event, MachRecord, MachReloc, marks_of, Memory, no_offsets, None, Records, number_of, Option, parts_of, PartsIn, PCRel32, PCRelHi20, PCRelLo12I}
-use Rattle.rv_asm.proofs.Words.{piece_finished, pos, Put, Puts, puts_bytes, puts_ends, RawData, record_relocs, record_traps, records_of, refl, Reloc, relocs_in, RiscvCallPlt, RiscvGotHi20, RiscvPCRelHi20, RiscvPCRelLo12I, same_number_lists, same_Some, SameOutside, Shape, shape_of, Site, size_of}
-use Rattle.rv_asm.proofs.Words.{slice_get, slice_get-append, slice_index, Slot, slot_fields_end, SlotOf, SlotsIn, Some, Stands, start_of, subst, suc, sym, Symbol, Trap, trap_bytes, trap_size, TrapCode, TrapIf, traps_in, Udf, unwrap_or, upper_event, window, window_byte, window_length, wrap, zero}
+use Rattle.rv_asm.proofs.Words.{piece_finished, pos, Put, Puts, puts_bytes, puts_ends, record_relocs, record_traps, records_of, refl, Reloc, relocs_in, RiscvCallPlt, RiscvGotHi20, RiscvPCRelHi20, RiscvPCRelLo12I, same_number_lists, same_Some, SameOutside, Shape, shape_of, Site, size_of}
+use Rattle.rv_asm.proofs.Words.{slice_get, slice_get-append, slice_index, Slot, slot_fields_end, SlotOf, SlotsIn, Some, Stands, start_of, subst, suc, sym, Symbol, Trap, trap_bytes, trap_size, TrapCode, traps_in, unwrap_or, upper_event, window, window_byte, window_length, wrap, zero}
 use Rattle.{rv_asm.proofs.Words.{zeros, ℕ, ℤ, ⊎_elim, ◌++◌, ◌+◌, ◌-ℤ◌, ◌-◌, ◌<◌, ◌^◌, ◌∙◌, ◌∷◌, ◌≡◌, ◌≤◌}, rv_code.specs.Pieces.{Branch, New, slots_of}, rv_code.specs.Slots.Data, std.specs.Int.{to_le_bytes, w64}, std.specs.Option.option_map}
 use Rattle.mach_records.specs.declared.records.Event.TheVariants as event
 use Rattle.mach_records.specs.declared.records.FinalizedRelocTarget.TheVariants as target
+use Rattle.rv_inst.specs.declared.inst.Inst.TheVariants.{RawData, TrapIf, Udf}
 
 -- ---- bytes of a memory
 

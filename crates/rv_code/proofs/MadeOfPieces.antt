@@ -1,15 +1,16 @@
 -- Instructions that pieces make: how long they are, and that they are self-contained.
 use Rattle.{rv_base.{specs.declared.ir_type.IrType.TheVariants.I32, specs.declared.value_regs.ValueRegs.TheVariants.{One, Two}}, rv_code.{proofs.Courses.read_low, proofs.Evaluation.{action_sized, piece_even, slots_long, trap_long}}}
 use Rattle.rv_code.{proofs.LineSlots.{IsPlain, is_low, offset_by, closed_append, number_by, size_append}, proofs.LongSlots.{even_plain, even_closed, literal_even}, proofs.OperationActs.{jalr_sized, jump_len, least_few, window_long}}
-use Rattle.rv_code.proofs.Words.{Constant, Slli, StackProbeLoop, Trap, TrapCode, TrapIf, Udf, VCodeConstant, Writable, and_parts, cast_signed, jump_size, low_word, number_pieces, slots_of, uses_in, w64, written_in, AddressOf, Allocate, ExternalName, Here, Literal}
-use Rattle.rv_code.proofs.Words.{LoadExtNameFar, LoadExtNameGot, LoadExtNameNear, LoadInlineConst, NameAddress, Names, OfLabel, OfSymbol, Records, Slot, SlotOf, Symbol, Take, Word32, Word64, address_event, is_word_type, literal_of, literal_size, literal_slots, slot_size}
+use Rattle.rv_code.proofs.Words.{Constant, Slli, Trap, TrapCode, VCodeConstant, Writable, and_parts, cast_signed, jump_size, low_word, number_pieces, slots_of, uses_in, w64, written_in, AddressOf, Allocate, ExternalName, Here, Literal}
+use Rattle.rv_code.proofs.Words.{NameAddress, Names, OfLabel, OfSymbol, Records, Slot, SlotOf, Symbol, Take, Word32, Word64, address_event, is_word_type, literal_of, literal_size, literal_slots, slot_size}
 use Rattle.rv_code.proofs.Words.{slots_for, symbol_slots, IsInRange, low64, lower_of, offset_pieces, Addi, Action, after, all_of, Andi, AreAmong, AreClosed, AreClosedPieces, AreSelfContained, AtMost, B12, backward_of, Bind, bits_of, Branch, canonical_type, choice_pieces}
-use Rattle.rv_code.proofs.Words.{class_of, complement_of, Context, Do, Exactly, Extend, extend_pieces, forward_of, GoNowhere, here_at, I64, Inst, inst_constant, inst_records, inst_size, Int, IntCC, IntegerCompare, IrType, is_byte, IsaFlags, IsBoundIn, IsBoundNear}
-use Rattle.rv_code.proofs.Words.{IsOfSize, Jal20, Jump, jump_kind, LabelUse, Mov, move_action, move_op, move_pieces, move_size, moves_then, MovFromPReg, named_by, names_of, New, number_of, op_of, own_labels, Piece, piece_most, piece_size, pieces_most, pieces_size, PReg}
-use Rattle.rv_code.{proofs.Words.{records_of, Reg, RegClass, request_of, right_shift, Rri, RVCJump, same_numbers, Select, select_pieces, SelectInfo, size_of}, specs.Pieces.{Go, Jalr, LoadFrom, Name}, specs.Probes.{probe_pieces, probe_turn}, specs.Sequences.{pieces_by, sequence_pieces, zeros_pieces}}
+use Rattle.rv_code.proofs.Words.{class_of, complement_of, Context, Do, Exactly, extend_pieces, forward_of, GoNowhere, here_at, I64, Inst, inst_constant, inst_records, inst_size, Int, IntCC, IntegerCompare, IrType, is_byte, IsaFlags, IsBoundIn, IsBoundNear}
+use Rattle.rv_code.proofs.Words.{IsOfSize, Jal20, Jump, jump_kind, LabelUse, move_action, move_op, move_pieces, move_size, moves_then, named_by, names_of, New, number_of, op_of, own_labels, Piece, piece_most, piece_size, pieces_most, pieces_size, PReg}
+use Rattle.rv_code.{proofs.Words.{records_of, Reg, RegClass, request_of, right_shift, Rri, RVCJump, same_numbers, select_pieces, SelectInfo, size_of}, specs.Pieces.{Go, Jalr, LoadFrom, Name}, specs.Probes.{probe_pieces, probe_turn}, specs.Sequences.{pieces_by, sequence_pieces, zeros_pieces}}
 use Rattle.{rv_code.specs.Traps.trap_if_pieces, rv_inst.{specs.Descriptions.most_words, specs.declared.sequence.Computation.Computation, specs.declared.sequence.Computation.TheVariants.Zeros, specs.declared.sequence.Sequence.Sequence}}
 use Rattle.std.{proofs.Common.{rules, ◌≡◌, ℕ, ℤ, ◌+◌, ◌≤◌, Bool, true, false, nat_eq, [], ◌∷◌, List, length, Option, Some, None, is_some, unwrap_or, zero, ◌&&◌, arith, refl, lit≤, sym, subst, ap, lit<, suc, ◌*◌, ◌<◌, ◌++◌, map, pos, ◌∙◌, ◌-◌, if◌then◌else◌, ⊎_elim, ◌%◌}, proofs.Common.◌^◌}
 use borrow.Author.Count.{below_more, below_none}
+use Rattle.rv_inst.specs.declared.inst.Inst.TheVariants.{Extend, LoadExtNameFar, LoadExtNameGot, LoadExtNameNear, LoadInlineConst, Mov, MovFromPReg, Select, StackProbeLoop, TrapIf, Udf}
 
 -- ---- how long pieces are, and that those which use no own label but what they allocate and bind are self-contained, in whatever forms.
 

@@ -1,14 +1,15 @@
 -- What an instruction that breaks no rule gives: of its registers, numbers and targets.
 use Rattle.{mach_labels.specs.Table.first_inner, rv_base.{specs.ValueRegs.{count_of as value_count}, specs.declared.value_regs.ValueRegs.ValueRegs}, rv_code.{proofs.Registers.{IsCount, count_of}, proofs.ReversedBytes.{Reversal, IsReversal}}}
-use Rattle.rv_code.proofs.Words.{all_of, AllByRecursion, and_parts, AreListed, AreMoves, AVirtual, bits_of, breaks_none, BrTable, CallInd, CallInfo, canonical_type, clash, class_of, Context, differ_at_places, differ_in_class, eqb-false, Extend, Float, has_bad_rounding}
+use Rattle.rv_code.proofs.Words.{all_of, AllByRecursion, and_parts, AreListed, AreMoves, AVirtual, bits_of, breaks_none, CallInfo, canonical_type, clash, class_of, Context, differ_at_places, differ_in_class, eqb-false, Float, has_bad_rounding}
 use Rattle.rv_code.proofs.Words.{has_bad_size, has_bad_type, has_bad_width, has_clash, has_empty_table, has_zero, I8, Inst, inst_registers, inst_rule, Int, IntegerCompare, IrType, is_buffer_label, is_float, is_float_class, is_int_class, is_int_type, is_misplaced}
 use Rattle.rv_code.proofs.Words.{is_movable, is_not_of, is_one_of, is_other_class, is_out_of_place, is_out_of_range, is_real_x, is_reserved, is_stack_or_frame, is_uneven, is_vector, is_vector_class, is_virtual, is_word_type, is_zero, IsFineChoice, IsFineTarget, IsFineTry}
-use Rattle.rv_code.proofs.Words.{IsIntRegister, IsListed, IsMove, IsRealRegister, IsUsable, labels_of, lacks_target, leb-false, leb-true, list_any, LoadInlineConst, MachLabel, Mov, MovFromPReg, number_of, or_cases, or_parts, PReg, RawData, Real, Reg, RegClass}
-use Rattle.rv_code.{proofs.Words.{registers_in, same_class, same_register, Select, SelectInfo, StackProbeLoop, table_of, target_labels, targets_of, TrapCode, TrapIf, try_call_of, try_labels, TryCallInfo, values_differ, Vector, Writable, written_in}, specs.UnitRuns.{IsUsableIn, AreUsableIn}}
+use Rattle.rv_code.proofs.Words.{IsIntRegister, IsListed, IsMove, IsRealRegister, IsUsable, labels_of, lacks_target, leb-false, leb-true, list_any, MachLabel, number_of, or_cases, or_parts, PReg, Real, Reg, RegClass}
+use Rattle.rv_code.{proofs.Words.{registers_in, same_class, same_register, SelectInfo, table_of, target_labels, targets_of, TrapCode, try_call_of, try_labels, TryCallInfo, values_differ, Vector, Writable, written_in}, specs.UnitRuns.{IsUsableIn, AreUsableIn}}
 use Rattle.rv_inst.{proofs.PlainInsts.not_true, specs.Core.is_integer, specs.Descriptions.{counts, reverses, sequence_registers}, specs.Rules.sequence_faults, specs.declared.inst.Brev8Info.Brev8Info, specs.declared.inst.CondBrTarget.CondBrTarget}
 use Rattle.rv_inst.{specs.declared.inst.CondBrTarget.TheVariants.{Label as ToLabel}, specs.declared.inst.CountInfo.CountInfo, specs.declared.inst.Inst.TheVariants.Brev8, specs.declared.sequence.Computation.Computation, specs.declared.units.PlacedReg.PlacedReg}
 use Rattle.std.{proofs.Common.{⊎_elim, ◌≡◌, ◌⊎◌, inl, inr, ℕ, ◌<◌, Bool, true, false, List, [], ◌∷◌, ◌++◌, length, Option, Some, None, arith, refl, sym, subst, eqb-true, ◌∙◌, ◌≢◌, ◌==◌, not, ◌≤◌, rules, ◌%◌, ap, nat_le, ◌||◌, ◌&&◌}, proofs.lemmas.List.Folds.list_any-append}
 use Rattle.rv_inst.specs.declared.error.Rule.TheVariants as rule
+use Rattle.rv_inst.specs.declared.inst.Inst.TheVariants.{BrTable, CallInd, Extend, LoadInlineConst, Mov, MovFromPReg, RawData, Select, StackProbeLoop, TrapIf}
 
 -- ---- what an instruction that breaks no rule gives: integer registers below x30, numbers in range, and branches with a target.
 

@@ -4,11 +4,12 @@ use Rattle.{rv_code.{specs.Pieces.{Piece, slots_of}, specs.Slots.{uses_of, recor
 use Rattle.rv_emit.proofs.Terms.{◌≡◌, ℕ, ◌+◌, ◌-◌, ◌*◌, ◌≤◌, Bool, true, false, List, [], ◌∷◌, ◌++◌, length, Option, Some, None, inst_constant, named_by, pos, refl, ap, sym, ◌∙◌, subst, append-nil, arith, lit≤, CallInfo, TryCallInfo, UserStackMap, ExternalName, IsaFlags, CallRetPair}
 use Rattle.rv_emit.proofs.Terms.{FrameLayout, Reg, number_of, sp_to_fp_of, is_some, MachRecord, Use, bytes_of, allocated_of, named_of, shape_of, VCodeConstant, LabelUse, Nowhere, Context, short_jalr, jump_kind, jump_size, marks_of, site_event, return_records}
 use Rattle.rv_emit.proofs.Terms.{patch_records, StackLoad, result_loads, loads_unless, Return, return_of, filled_last, try_call_of, same_Some, IsOfSize, AtMost, first_in, space_in, request_of, inst_size, call_request, call_end, call_limit, step_limit, fall, call_size}
-use Rattle.rv_emit.proofs.Terms.{results_space, inst_records, use_at, uses_by, uses_in, Inst, Call, CallInd, EmitVState, PutsAlone, PutsParts, Emits, Buffer, IsSoundBuffer, Appends, AppendsCode, HasReturn, IslandAsked, after_call, try_slots, call_slots, call_ind_slots}
+use Rattle.rv_emit.proofs.Terms.{results_space, inst_records, use_at, uses_by, uses_in, Inst, EmitVState, PutsAlone, PutsParts, Emits, Buffer, IsSoundBuffer, Appends, AppendsCode, HasReturn, IslandAsked, after_call, try_slots, call_slots, call_ind_slots}
 use Rattle.rv_emit.proofs.Terms.{loading_parts, call_parts, parts_of, Slot, Slots, AreSelfContained, PartsAreSelfContained, size_of, names_of, call_event, HaveContents, at_end, from_start, note_then, IsPlain, steps_counted, loads_counted, summed, plain_put, put_long}
 use Rattle.rv_emit.proofs.Terms.{no_own, jalr_sized, window_long, least_few, AreShortLoads, loads_most, step_most, append_assoc}
 use Rattle.mach_records.specs.declared.records.Event.TheVariants as event
 use Rattle.rv_code.specs.Pieces as piece
+use Rattle.rv_inst.specs.declared.inst.Inst.TheVariants.{Call, CallInd}
 
 -- ---- pieces
 

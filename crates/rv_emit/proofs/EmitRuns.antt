@@ -1,8 +1,9 @@
 -- What was put runs wherever it stands in finished code, and leaves a buffer into which more can be put.
 use Rattle.rv_emit.{proofs.InstSlots.{appends, emitted_keeps, parts_are_self_contained}, proofs.OwnPieces.each_none, proofs.PartsInBuffer.{gap_last, GapPut, gap_put, parts_last, PartsPut, parts_put}, proofs.StackMaps.can_given, proofs.Standing.{gap_stands, parts_stand}}
 use Rattle.rv_emit.proofs.Terms.{◌≡◌, ℕ, ◌%◌, ◌<◌, ◌≤◌, Bool, false, List, [], length, Option, Some, None, refl, ap, sym, ◌∙◌, subst, arith, slice_get, no_flags, IsaFlags, code_limit, UserStackMap, Context, is_bad_frame_for, label_kinds, inst_constant, named_by}
-use Rattle.rv_emit.proofs.Terms.{tail_call_of, inst_rule, Inst, Call, CallInd, LabelUse, Use, shape_of, bytes_of, uses_of, records_of, named_of, constants_of, AreWindows, Lasts, Shape, even_length, windows_none, parts_of, Site, PartsStand, EmitVState, inst_resumes}
+use Rattle.rv_emit.proofs.Terms.{tail_call_of, inst_rule, Inst, LabelUse, Use, shape_of, bytes_of, uses_of, records_of, named_of, constants_of, AreWindows, Lasts, Shape, even_length, windows_none, parts_of, Site, PartsStand, EmitVState, inst_resumes}
 use Rattle.rv_emit.proofs.Terms.{resumes_fully, runs_fully, inst_runs, reads_operation, EmitsIn, IsBuilt, HasCode, RunsBetween, EmitsRun, GapLeads, Buffer, IsSoundBuffer, CanEmit, IslandIfNeeded, with_map, PartsIn}
+use Rattle.rv_inst.specs.declared.inst.Inst.TheVariants.{Call, CallInd}
 
 -- ---- in finished code
 

@@ -1,7 +1,7 @@
 -- Which instructions' code forgets the vector unit's setting: none does by its actions, so it is a matter of jumps and calls among its pieces.
 use Rattle.rv_emit.proofs.Terms.{Bind, AMode, ◌≢◌, bits_of, cast_signed, w64, ◌*◌, ◌≡◌, refl, sym, ap, ◌∙◌, arith, ints, rules, Bool, true, false, not, ◌&&◌, ◌||◌, if◌then◌else◌, nat_eq, ℕ, ℤ, pos, List, [], ◌∷◌, ◌++◌, Option, Some, None, length, map, ◌≤◌, IsaFlags, TrapCode, IrType, I64, Reg}
 use Rattle.rv_emit.proofs.Terms.{Int, number_of, Writable, MachLabel, TryCallInfo, Decoded, Base, decoded, low_word, LoadOP, StoreOP, Add, Addi, decoded_rri, decoded_rrr, has_load, has_store, Based, AtLabel, is_near, is_splittable, location_of, Context, Inst, Calls, family_of, loads_unless}
-use Rattle.rv_emit.proofs.Terms.{result_loads, StackLoad, AluRRImm12, AluRRR, BrTable, Call, CallInd, Extend, Load, LoadAddr, LoadInlineConst, Lui, Mov, MovFromPReg, ReturnCall, ReturnCallInd, Select, StackProbeLoop, Store, decoded_jump, Piece, Do, Branch, Jump, Go, op_of, slots_for}
+use Rattle.rv_emit.proofs.Terms.{result_loads, StackLoad, decoded_jump, Piece, Do, Branch, Jump, Go, op_of, slots_for}
 use Rattle.rv_emit.proofs.Terms.{slots_of, Slot, Slots, Ask, SlotOf, EmitVState, parts_of, slots_alone, call_parts, number_slots, call_pieces, call_ind_pieces, try_pieces, extend_pieces, jump_slots, Buffer, bytes_of, pending, is_needed}
 use mathlib.Core.Bool.{or-false, or_self}
 use Rattle.{rv_base.{specs.Regs.class_of, specs.declared.condcodes.IntCC.IntCC, specs.declared.mem_flags.MemFlagsData.MemFlagsData}, rv_code.{proofs.LineSlots.offset_by, proofs.MadeOfPieces.{moves_keep, number_keeps}, proofs.OperationActs.{short_load_either, short_store_either}}}
@@ -17,6 +17,7 @@ use Rattle.rv_machine.specs.declared.ops.BaseOp.TheVariants as base
 use Rattle.rv_ops.specs.declared.compare.BranchFunct3.TheVariants as branch
 use Rattle.rv_code.specs.Pieces as piece
 use Rattle.mach_records.specs.declared.records.Event.TheVariants as event
+use Rattle.rv_inst.specs.declared.inst.Inst.TheVariants.{AluRRImm12, AluRRR, BrTable, Call, CallInd, Extend, Load, LoadAddr, LoadInlineConst, Lui, Mov, MovFromPReg, ReturnCall, ReturnCallInd, Select, StackProbeLoop, Store}
 
 -- ---- operations: those of actions, in whichever form they stand, are no jumps
 

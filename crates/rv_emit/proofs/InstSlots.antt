@@ -2,8 +2,7 @@
 use Rattle.{rv_code.{proofs.LineSlots.size_both, proofs.MadeOfPieces.{constant_made, far_made, got_made, near_made}, specs.Accesses.return_pieces, specs.InstParts.described_parts, specs.Slots.{uses_of, records_of}}, rv_emit.proofs.CallSlots.{IsCall, call_adds, call_blocks, call_is, call_ind_is}}
 use Rattle.rv_emit.{proofs.Islands.{KeepsLow, asked_keeps, room_named, room_records, room_sound}, proofs.OwnPieces.{Each, each_none, made_appends}, proofs.TableSlots.table_adds}
 use Rattle.rv_emit.proofs.Terms.{none_put, ◌≡◌, true, ◌⊎◌, inl, ℕ, ◌+◌, ◌*◌, ◌^◌, ◌≤◌, List, [], ◌∷◌, ◌++◌, length, Option, Some, None, pos, refl, ap, sym, ◌∙◌, arith, lit≤, subst, same_Some, number_of, TrapCode, code_limit, IntegerCompare, Context, inst_rule, UnitWord, Inst}
-use Rattle.rv_emit.proofs.Terms.{Nop0, Nop4, EBreak, SequencePoint, Args, Rets, DummyUse, EmitIsland, RawData, Lui, Auipc, LoadInlineConst, AluRRR, AluRRImm12, Mov, MovFromPReg, Extend, Select, Load, Store, LoadAddr, LabelAddress, Ret, TrapIf, Jal, CondBr, BrTable, Udf}
-use Rattle.rv_emit.proofs.Terms.{Jalr, StackProbeLoop, LoadExtNameGot, LoadExtNameNear, LoadExtNameFar, Call, CallInd, ReturnCall, ReturnCallInd, Unwind, CondBrTarget, Fallthrough, TryCallInfo, StackLoad, Exactly, AtMost, IsOfSize, Request, first_in, space_in, request_of}
+use Rattle.rv_emit.proofs.Terms.{CondBrTarget, Fallthrough, TryCallInfo, StackLoad, Exactly, AtMost, IsOfSize, Request, first_in, space_in, request_of}
 use Rattle.rv_emit.proofs.Terms.{inst_size, inst_sum, inst_records, uses_in, return_of, filled_last, is_some, VCodeConstant, inst_constant, named_by, table_of, EmitVState, Decoded, Buffer, IsSoundBuffer, Appends, AppendsCode, HasReturn, IsFarUse, IslandAsked, bytes_of}
 use Rattle.rv_emit.proofs.Terms.{allocated_of, named_of, PutsParts, EmitsIn, Part, Ask, Slots, Slot, Op, size_of, names_of, AreSelfContained, PartsAreSelfContained, access_records, access_slots, branch_slots, call_parts, parts_of}
 use Rattle.rv_emit.proofs.Terms.{slots_of, Piece, HasSize, rrr_sized, rri_sized, lui_sized, jalr_sized, ebreak_sized, window_long, IsPlain, IsSummed, summed, plain_put, put_long, code_none, no_own, low_kept, IsMadeOf, made_contained, mov_made, mov_from_preg_made}
@@ -13,6 +12,7 @@ use Rattle.rv_inst.{specs.Descriptions.{Description, Word, Computes, Gives, desc
 use Rattle.rv_code.specs.Pieces as piece
 use Rattle.mach_records.specs.declared.records.Event.TheVariants as event
 use Rattle.rv_ops.specs.declared.memory.LoadOP.TheVariants as loads
+use Rattle.rv_inst.specs.declared.inst.Inst.TheVariants.{AluRRImm12, AluRRR, Args, Auipc, BrTable, Call, CallInd, CondBr, DummyUse, EBreak, EmitIsland, Extend, Jal, Jalr, LabelAddress, Load, LoadAddr, LoadExtNameFar, LoadExtNameGot, LoadExtNameNear, LoadInlineConst, Lui, Mov, MovFromPReg, Nop0, Nop4, RawData, Ret, Rets, ReturnCall, ReturnCallInd, Select, SequencePoint, StackProbeLoop, Store, TrapIf, Udf, Unwind}
 
 -- ---- how the code of an instruction is made
 

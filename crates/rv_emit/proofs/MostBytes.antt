@@ -3,8 +3,9 @@ use Rattle.rv_base.specs.declared.call.RetLocation.TheVariants.{Reg as InReg, St
 use Rattle.rv_emit.proofs.Terms.{◌≡◌, ◌⊎◌, ℕ, ◌+◌, ◌*◌, ◌/◌, ◌≤◌, Bool, true, false, List, [], ◌∷◌, length, Option, Some, None, refl, arith, lit≤, pos, ◌-ℤ◌, cond, nat_eq, count_by, if◌then◌else◌, length-append, sp_to_fp_of, AMode, RegOffset, sym, ◌∙◌, IsSome}
 use Rattle.rv_emit.proofs.Terms.{IsFineResult, AreFineResults, call_kept, call_ind_kept, CallRetPair, RetLocation, TryCallInfo, Reg, IrType, I32, I64, bits_of, is_word_type, load_size, ways_of, ways_by, inst_ways, address_targets, Nowhere, Branches, IsaFlags, FrameLayout}
 use Rattle.rv_emit.proofs.Terms.{number_of, LoadOP, has_load, has_store, Context, inst_rule, Exactly, AtMost, most_of, move_size, branch_size, inline_size, most_bytes, call_limit, sequence_limit, call_request, request_of, inst_sum, no_extra, StackLoad, saves_from}
-use Rattle.rv_emit.proofs.Terms.{setup_loads, restores, typed_loads, location_loads, result_loads, loads_unless, result_load, is_on_stack, is_stacked, CondBrTarget, Fallthrough, Inst, EmitIsland, RawData, LoadInlineConst, Mov, MovFromPReg, Load, Store, LoadAddr, TrapIf}
-use Rattle.{rv_emit.proofs.Terms.{Jal, CondBr, BrTable, Udf, LoadExtNameFar, Call, CallInd, ReturnCall, ReturnCallInd, least_few, saves_long, setup_few, table_fine, keeps, data_kept, constant_kept}, rv_inst.specs.declared.inst.CondBrTarget.TheVariants.Label, std.proofs.lemmas.List.Sums.sum_by-cons}
+use Rattle.rv_emit.proofs.Terms.{setup_loads, restores, typed_loads, location_loads, result_loads, loads_unless, result_load, is_on_stack, is_stacked, CondBrTarget, Fallthrough, Inst}
+use Rattle.{rv_emit.proofs.Terms.{least_few, saves_long, setup_few, table_fine, keeps, data_kept, constant_kept}, rv_inst.specs.declared.inst.CondBrTarget.TheVariants.Label, std.proofs.lemmas.List.Sums.sum_by-cons}
+use Rattle.rv_inst.specs.declared.inst.Inst.TheVariants.{BrTable, Call, CallInd, CondBr, EmitIsland, Jal, Load, LoadAddr, LoadExtNameFar, LoadInlineConst, Mov, MovFromPReg, RawData, ReturnCall, ReturnCallInd, Store, TrapIf, Udf}
 
 -- ---- pieces
 

@@ -3,8 +3,9 @@ use Rattle.{rv_code.proofs.MadeOfPieces.jump_reach, rv_emit.proofs.{Islands.dead
 use Rattle.rv_emit.proofs.Terms.{◌≡◌, ◌⊎◌, inl, inr, ℕ, suc, ◌+◌, ◌*◌, ◌≤◌, Bool, true, false, cond, List, [], ◌∷◌, ◌++◌, length, Option, Some, None, refl, ap, sym, ◌∙◌, subst, arith, ⊎_elim, append_assoc, is_none, not, ◌&&◌, ◌-◌, length-append, append-nil, TryCallInfo, MachLabel, IsaFlags}
 use Rattle.rv_emit.proofs.Terms.{jump_kind, jump_size, Context, Inst, Fallthrough, LabelUse, B12, PCRelHi20, PCRelLo12I, label_kinds, has_veneer_of, targets_of, try_call_of, Targets, Nowhere, Jumps, Branches, Refers, RefersConstant, constant_label, is_far, Kinds, Use, CanReach, HasSlack, deadline}
 use Rattle.rv_emit.proofs.Terms.{deadlines, is_pending, is_reached, is_needed, bytes_of, uses_of, place_of, deadlines_append, none_from, slack_use, slack_less, slack_not_needed, reach_from_slack, Buffer, pending, IsFarUse, IsOwnUse, Appends, AppendsCode, IslandAsked, IslandIfNeeded, CanEmit, Size}
-use Rattle.rv_emit.proofs.Terms.{Exactly, AtMost, IsOfSize, most_of, Request, first_in, space_in, request_of, inst_size, EmitIsland, BrTable, Call, CallInd, ReturnCall, ReturnCallInd, is_some, lit≤, line_space, inst_code, sequence_limit, use_at, target_uses, uses_by, uses_in, uses_start, named_kept}
+use Rattle.rv_emit.proofs.Terms.{Exactly, AtMost, IsOfSize, most_of, Request, first_in, space_in, request_of, inst_size, is_some, lit≤, line_space, inst_code, sequence_limit, use_at, target_uses, uses_by, uses_in, uses_start, named_kept}
 use Rattle.{rv_emit.proofs.Terms.least_few, rv_inst.specs.declared.inst.CondBrTarget.TheVariants.Label}
+use Rattle.rv_inst.specs.declared.inst.Inst.TheVariants.{BrTable, Call, CallInd, EmitIsland, ReturnCall, ReturnCallInd}
 
 -- whether a use is pending
 abbrev pub pending_at : (ℕ → Option ℕ) → Use LabelUse → Bool

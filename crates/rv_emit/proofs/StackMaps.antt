@@ -1,5 +1,6 @@
 -- What is put is what an instruction emits, also with the map that is given to it.
-use Rattle.rv_emit.proofs.Terms.{◌≡◌, Result, sym, subst, OnOk, Option, refl, ap, ◌∙◌, on_ok_weaker, Inst, UserStackMap, Context, family_of, request_of, Family, Calls, Call, CallInd, EmitVState, EmitsIn, Emits, EmitsGiven, Buffer, CanEmit, IsBounded, with_map, map_given}
+use Rattle.rv_emit.proofs.Terms.{◌≡◌, Result, sym, subst, OnOk, Option, refl, ap, ◌∙◌, on_ok_weaker, Inst, UserStackMap, Context, family_of, request_of, Family, Calls, EmitVState, EmitsIn, Emits, EmitsGiven, Buffer, CanEmit, IsBounded, with_map, map_given}
+use Rattle.rv_inst.specs.declared.inst.Inst.TheVariants.{Call, CallInd}
 
 -- ---- what a call puts
 

@@ -3,9 +3,10 @@ use Rattle.rv_emit.proofs.Terms.{◌≡◌, ℕ, zero, suc, ◌+◌, ◌-◌, �
 use Rattle.rv_emit.proofs.Terms.{to_le_bytes, cast_signed, w32, w64, ints, length-take, map-append, take_all, take_more, IsaFlags, MachLabel, Base, decode, int_by_opcode, word_opcode, word_funct3, u_bits, i_bits, i_layout, AUIPC, JALR, signed, IsUType, IsIType, decoded}
 use Rattle.rv_emit.proofs.Terms.{opcode_decodes, LabelUse, PCRel32, PCRelHi20, PCRelLo12I, with_immediate, PairDecodes, word_at, word_bytes, use_at, shape_of, bytes_of, allocated_of, Shape, with_bytes, with_use, with_record, PutsAlone, Emits, Buffer, IsSoundBuffer}
 use Rattle.rv_emit.proofs.Terms.{AppendsIsland, IslandIfNeeded, upper_of, lower_of, decoded_jalr, IsPatchable, AsksNothing, eight_zeros, extend_pieces, slots_of, number_slots, table_slots, far_jump, jump_slots, AreListed, IsListed, word_fits, upper_fresh, lower_fresh}
-use Rattle.rv_emit.proofs.Terms.{upper_is, lower_is, Context, table_space, number_of, Inst, BrTable, Reg, Writable, alone, both_alone, alone_long, even_plain, extend_even, extend_few, number_even, number_few, count_splits, far_jumps_even, far_jumps_long, ExternalName}
+use Rattle.rv_emit.proofs.Terms.{upper_is, lower_is, Context, table_space, number_of, Inst, Reg, Writable, alone, both_alone, alone_long, even_plain, extend_even, extend_few, number_even, number_few, count_splits, far_jumps_even, far_jumps_long, ExternalName}
 use Rattle.rv_emit.{proofs.Terms.{Decoded, Event, Symbol, Records, RelocPair, Address, CallTo, upper_event, lower_event, address_event, call_event}, proofs.VeneerRuns.{pair_decodes, pair_there}}
 use Rattle.rv_machine.specs.declared.ops.BaseOp.TheVariants as base
+use Rattle.rv_inst.specs.declared.inst.Inst.TheVariants.{BrTable}
 
 -- A branch by a table: jumps in eight bytes, and the words before them.
 -- ---- a window of two words

@@ -3,14 +3,15 @@ use Rattle.{rv_base.{specs.Frame.sp_to_fp_of, specs.declared.call.CallInfo.CallI
 use Rattle.rv_code.{proofs.Reaching.stands_both, proofs.StackLoads.{AreLoadable, AreOthers, integers_loadable, integers_other, stack_apart}, proofs.StackRuns.{loaded_other, loads_come}, specs.Accesses.{stack_load_pieces, stack_step_pieces, return_pieces}}
 use Rattle.{rv_code.{specs.Calls.{call_ind_pieces, call_pieces, patch_notes, rest_pieces, return_notes, try_pieces}, specs.InstParts.{after_call, result_slots, try_slots}, specs.InstRuns.ResumesIn, specs.Sites.LinksFrom}, rv_inst.{specs.Addresses.is_splittable, specs.Meaning.{resumed, symbol_at}}}
 use Rattle.{rv_inst.{specs.Returns.{loads_unless, result_loads, saved_load, saves_from, setup_loads}, specs.Sizes.fall}, rv_runs.{proofs.Exits.{RunsHere, but_then_same, comes_out, goes_out, same_but, writes_beside}, proofs.PlainRuns.jump_out}}
-use Rattle.rv_runs.proofs.Words.{AddressOf, AreStackLoads, Ask, Base, Call, CallInd, CallSite, Comes, ComesOut, EmitVState, Enters, ExternalName, Float, FrameLayout, GapIn, Goes, InCourse, Piece, slots_of, Inst, IsAs, IsAt, IsPlacedAt, IsRestorable, IsState, Keeps, Ld}
-use Rattle.rv_runs.proofs.Words.{Decoded, CodeHas, Leave, Part, PartsStand, Reg, Resumes, Return, ReturnCall, ReturnCallInd, Site, Slot, Slots, StackLoad, StandsIn, State, TailCall, TryCallInfo, UserStackMap, Values, Writable, address_sums, are_values_set, at}
+use Rattle.rv_runs.proofs.Words.{AddressOf, AreStackLoads, Ask, Base, CallSite, Comes, ComesOut, EmitVState, Enters, ExternalName, Float, FrameLayout, GapIn, Goes, InCourse, Piece, slots_of, Inst, IsAs, IsAt, IsPlacedAt, IsRestorable, IsState, Keeps, Ld}
+use Rattle.rv_runs.proofs.Words.{Decoded, CodeHas, Leave, Part, PartsStand, Reg, Resumes, Return, Site, Slot, Slots, StackLoad, StandsIn, State, TailCall, TryCallInfo, UserStackMap, Values, Writable, address_sums, are_values_set, at}
 use Rattle.rv_runs.proofs.Words.{back_number, call_parts, code_after, comes_goes, comes_on, course_before, decoded, decoded_jalr, environment, fallen, frame_above, frame_left, goes_first, goes_none, goes_second, inst_rule, is_bad_frame_for, is_float_class, is_float_load}
 use Rattle.rv_runs.proofs.Words.{is_integer, is_restorable, jalr_acts, jalr_sized, keeps, led_on, list_any, loads_float, low64, lower_of, not_true, number_of, or_parts, parts_of, plus_none, reads_back, reads_other, reg, restores, restores_float, return_of, return_slots}
 use Rattle.rv_runs.{proofs.Words.{same_Some, set_at, set_reg, set_twice, short_jalr, size_of, small_number, spare_set, stack_load_slots, stack_loaded, stack_step_slots, step_at, step_comes, symbol_address, t0_other, tail_call_of, try_call_of, try_exit, upper_of}, proofs.Words.{window_some, wrap}}
 use Rattle.std.{proofs.Common.{Bool, List, None, Option, Some, [], ap, arith, false, if◌then◌else◌, length, lit<, not, pos, refl, rules, subst, suc, sym, true, zero, ℕ, ℤ, ◌%◌, ◌*◌, ◌++◌, ◌+◌, ◌-ℤ◌, ◌-◌, ◌/◌, ◌<◌, ◌==◌, ◌^◌, ◌||◌, ◌∙◌, ◌∷◌, ◌≡◌, ◌≤◌}, proofs.lemmas.List.Folds.list_any-append}
 use Rattle.rv_machine.specs.declared.ops.BaseOp.TheVariants as base
 use Rattle.rv_code.specs.Pieces as piece
+use Rattle.rv_inst.specs.declared.inst.Inst.TheVariants.{Call, CallInd, ReturnCall, ReturnCallInd}
 
 -- A tail call takes the frame away, and leaves the code to a symbol or to the address in t0.
 

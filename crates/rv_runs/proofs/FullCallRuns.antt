@@ -2,12 +2,13 @@
 use Rattle.rv_code.{proofs.LineSlots.size_both, proofs.Reaching.stands_both, proofs.StackLoads.{AreOthersAs, IsLoadableAs, IsOtherAs}, proofs.StackRuns.{integer_loaded, line_comes, one_other as integer_other}, specs.Accesses.{stack_load_pieces, stack_step_pieces, load_line_pieces, return_pieces}}
 use Rattle.{rv_inst.specs.Meaning.loaded, rv_runs.{proofs.CallRuns.{IsLeft, Opens, by_call, call_ind_out, call_out, comes_to_loads, continues, frame_enters, loads_first, register_out, restores_none, symbol_out}, proofs.Exits.all_same, proofs.FloatMemory.{line_even, line_load}}}
 use Rattle.rv_runs.proofs.UnitRuns.{FullSteps, more_steps, no_steps}
-use Rattle.rv_runs.proofs.Words.{AreStackLoads, Ask, Based, Call, CallInd, CallSite, Comes, ComesOut, EmitVState, Enters, Exit, FloatFormat, FrameLayout, FullComesOut, FullEnds, FullState, FullValues, InCourse, Inst, IsAs, Piece, slots_of, IsAt, IsFullState, IsRestorable}
-use Rattle.rv_runs.proofs.Words.{Keeps, Leave, Resumes, Return, ReturnCall, ReturnCallInd, Site, Slot, Slots, StackLoad, StandsIn, State, TailCall, TryCallInfo, UserStackMap, Values, call_parts, call_usable, code_limit, comes_here, environment, fallen, fiter_none}
+use Rattle.rv_runs.proofs.Words.{AreStackLoads, Ask, Based, CallSite, Comes, ComesOut, EmitVState, Enters, Exit, FloatFormat, FrameLayout, FullComesOut, FullEnds, FullState, FullValues, InCourse, Inst, IsAs, Piece, slots_of, IsAt, IsFullState, IsRestorable}
+use Rattle.rv_runs.proofs.Words.{Keeps, Leave, Resumes, Return, Site, Slot, Slots, StackLoad, StandsIn, State, TailCall, TryCallInfo, UserStackMap, Values, call_parts, call_usable, code_limit, comes_here, environment, fallen, fiter_none}
 use Rattle.rv_runs.proofs.Words.{float_loaded, frame_above, frame_left, inst_effect, inst_exit, inst_temporaries, integer_run, is_bad_frame_for, is_float_load, is_restorable, load_format, load_line_slots, loads_float, low64, or_parts, parts_of, put, reads_other, reg}
 use Rattle.rv_runs.proofs.Words.{restores, restores_float, return_of, return_slots, same_Some, size_of, slots_alone, small_number, stack_load_slots, stack_loaded, stack_step_slots, step_comes, t0_other, tail_call_of, target_fine, try_call_of, try_exit, with_ints, wrap}
 use Rattle.{rv_runs.specs.FullReturns.{full_left, full_loaded, full_resumed, loaded_as, set_int}, std.proofs.Common.{Bool, List, None, Option, Some, [], ap, arith, false, is_some, length, lit<, pos, refl, rules, subst, sym, true, ℕ, ◌*◌, ◌++◌, ◌+◌, ◌/◌, ◌<◌, ◌^◌, ◌∙◌, ◌∷◌, ◌≡◌, ◌≤◌, ◌%◌}}
 use Rattle.rv_code.specs.Pieces as piece
+use Rattle.rv_inst.specs.declared.inst.Inst.TheVariants.{Call, CallInd, ReturnCall, ReturnCallInd}
 
 -- Registers of both files come from the stack, on the machine with all units: integer words are lifted, and each load of a floating-point
 -- register is one exact row after them.

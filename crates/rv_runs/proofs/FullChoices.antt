@@ -4,13 +4,14 @@ use Rattle.{rv_code.{specs.Choices.{choice_pieces, moves_then, same_numbers, sel
 use Rattle.{rv_inst.{specs.Generators.canonical_type, specs.Meaning.Environment, specs.Rules.{is_movable, is_one_of, same_class, same_register}}, rv_ops.specs.declared.float_fields.FpuOPWidth.TheVariants.D, rv_runs.{proofs.Exits.same_but, proofs.PlainRuns.{complement_holds, int_class}}}
 use Rattle.rv_runs.proofs.UnitRuns.{FullSteps, fiter_one, float_set, more_steps, no_steps, unit_next_at}
 use Rattle.rv_runs.proofs.Words.{AVirtual, Addi, AllByRecursion, AnswerFits, AreInRange, AreUnits, AreValues, Bind, Branch, Do, Does, EmitVState, Enters, Float, FullComesOut, FullState, FullValues, Int, IntCC, IntegerCompare, IsFullState, IsIntRegister, IsUsableIn, Keeps}
-use Rattle.rv_runs.proofs.Words.{Piece, Real, Reg, RegClass, Rri, Same, SameFull, Select, SelectInfo, Site, StandIn, StandsIn, Values, Writable, after, all_of, alu_rri, and_parts, are_values_set, at, at_next, chosen, class_of, complement_of, freg, full_at, holds}
+use Rattle.rv_runs.proofs.Words.{Piece, Real, Reg, RegClass, Rri, Same, SameFull, SelectInfo, Site, StandIn, StandsIn, Values, Writable, after, all_of, alu_rri, and_parts, are_values_set, at, at_next, chosen, class_of, complement_of, freg, full_at, holds}
 use Rattle.rv_runs.proofs.Words.{inputs_of, integer_run, is_int_class, is_reserved, is_virtual, list_any, move_action, nat_tests, next, number_below, number_of, number_row, op_of, or_parts, parts_of, pieces_long, plus_none, point, put, put_all, put_f, put_in, put_units}
 use Rattle.rv_runs.proofs.Words.{reads_other, reg, row_next, same_set, set_freg, set_own, set_reg, set_twice, size_of, slots_of, to, value_in, value_of, values_of, with_ints, wrap, written_in}
 use Rattle.std.proofs.Common.{Bool, List, Some, [], ap, arith, eqb-true, false, if◌then◌else◌, length, lit<, map, nat_eq, nat_le, not, pos, refl, rules, slice_index, subst, suc, sym, true, ℕ, ◌&&◌, ◌++◌, ◌+◌, ◌<◌, ◌∙◌, ◌∷◌, ◌≡◌, ◌≢◌, inr}
 use Rattle.std.proofs.lemmas.List.{get_or-set_other, set-get_or, set-set, set_comm}
 use Rattle.rv_full.specs.declared.shapes.Sources.TheVariants as sources
 use Rattle.rv_full.specs.declared.shapes.Target.TheVariants as target
+use Rattle.rv_inst.specs.declared.inst.Inst.TheVariants.{Select}
 
 -- Registers of any class that get values on the machine with all units.
 

@@ -2,12 +2,13 @@
 use Rattle.{rv_code.{proofs.LineOperands.{full_load_kept, full_store_kept}, proofs.OperationActs.no_format}, rv_inst.{proofs.Meaning.{effect_agrees, load_address_agrees, store_address_agrees, writes_agree}, specs.Environments.AgreeOn, specs.Meaning.resumed_by, specs.Operands.named_labels}}
 use Rattle.{rv_inst.{specs.declared.inst.Family.Family, specs.declared.inst.Family.TheVariants.{Calls, Float, Integer, Memory}}, rv_runs.{proofs.FloatMemory.{line_load, line_store}, proofs.FullCallRuns.{call_starts, ends_at_once, full_leaves, full_resumes, left_integers}}}
 use Rattle.rv_runs.{proofs.FullChoices.full_select, proofs.InstRuns.inst_runs, proofs.OneOperations.{ComesAsMeant, OutAsMeant, move_runs, out_at_end, unit_runs}}
-use Rattle.rv_runs.proofs.Words.{AMode, Answer, AreOutside, AtStart, Call, CallInd, EmitVState, EndsAsMeant, Enters, Environment, Exit, FloatFormat, FullComesOut, FullEnds, FullMeaning, FullState, FullValues, Inst, IsFullState, IsaFlags, Load, LoadOP, MemFlagsData, Mov}
-use Rattle.rv_runs.proofs.Words.{Next, Nop0, PartsStand, Put, Reg, Resumes, Return, ReturnCall, ReturnCallInd, SameFull, Select, Site, Store, StoreOP, TailCall, Writable, addresses_from, and_parts, answers_of, code_limit, context_by, environment, family_of, fiter_after}
+use Rattle.rv_runs.proofs.Words.{AMode, Answer, AreOutside, AtStart, EmitVState, EndsAsMeant, Enters, Environment, Exit, FloatFormat, FullComesOut, FullEnds, FullMeaning, FullState, FullValues, Inst, IsFullState, IsaFlags, LoadOP, MemFlagsData}
+use Rattle.rv_runs.proofs.Words.{Next, PartsStand, Put, Reg, Resumes, Return, SameFull, Site, StoreOP, TailCall, Writable, addresses_from, and_parts, answers_of, code_limit, context_by, environment, family_of, fiter_after}
 use Rattle.rv_runs.proofs.Words.{format_bytes, inst_effect, inst_exit, inst_meaning, inst_rule, inst_temporaries, inst_writes, integer_run, is_bad_frame_for, is_float, is_integer, is_integer_family, is_integer_in, is_unit, keeps, load_format, location_of, meaning_by}
 use Rattle.rv_runs.{proofs.Words.{move_row, not_true, number_of, of_float_move, of_integers, operands_of, operation_of, operation_row, parts_of, put, restores_float, return_of, row_takes, store_format, tail_call_of, to, try_call_of, try_exit, values_of}, specs.Entries.{AtReturn, Entry}}
 use Rattle.rv_runs.{specs.FullInstRuns.{FullyOut, RunsFully}, specs.FullMeaning.{call_returned, call_started, float_loaded, float_stored, full_left, full_resumed, of_access, of_call, of_choice, of_float_load, of_float_store, of_integer, of_memory, of_unit, with_ints}}
 use Rattle.std.{proofs.Common.{Bool, List, None, Option, Some, [], ap, arith, false, if◌then◌else◌, inl, inr, is_some, length, not, refl, subst, sym, true, ℕ, ⊎_elim, ◌%◌, ◌&&◌, ◌+◌, ◌<◌, ◌∙◌, ◌≡◌, ◌≤◌}, proofs.lemmas.Bool.not-false}
+use Rattle.rv_inst.specs.declared.inst.Inst.TheVariants.{Call, CallInd, Load, Mov, Nop0, ReturnCall, ReturnCallInd, Select, Store}
 
 -- An instruction of the integer core means on the machine with all units what it means on integers, with the units as they were.
 

@@ -3,12 +3,12 @@ use Rattle.rv_code.proofs.OperationActs.{short_ebreak_is}
 use Rattle.{rv_base.specs.IrType.bits_of, rv_code.proofs.LineOperands.{label_address_kept, load_addr_kept, load_kept, store_kept}, rv_code.specs.Evaluation.literal_value, rv_code.specs.InstParts.literal_of, rv_code.specs.InstRuns.environment, rv_code.specs.Pieces.{NameAddress, OfLabel, OfSymbol, Word32, Word64}}
 use Rattle.{rv_code.specs.Slots.{AddressOf, SlotOf}, rv_inst.specs.Descriptions.{counts, sequence_registers}, rv_inst.specs.Meaning.{Environment, constant_of}, rv_inst.specs.declared.sequence.Computation.TheVariants.{Ones, Zeros}, rv_machine.specs.Arithmetic.extend_word}
 use Rattle.{rv_runs.proofs.{ProbeRuns.probe_out, ReverseRuns.reverse_out, SelectRuns.extend_out, SelectRuns.select_runs, TableRuns.table_out}, rv_runs.proofs.CallRuns.{call_ind_out, call_out, return_call_ind_runs, return_call_runs}}
-use Rattle.{rv_runs.proofs.Words.{AluRRImm12, AluRRR, Auipc, Call, CallInd, ComesOut, CondBr, EBreak, IrType, Next, set_reg, wrap}, std.proofs.Common.{None, [], arith, false, if◌then◌else◌, lit<, nat_eq, not, pos, refl, subst, true, ℕ, ◌==◌, ◌∷◌, ◌≡◌}}
-use Rattle.rv_runs.proofs.Words.{EmitVState, Extend, FrameLayout, GapIn, Inst, Jalr, Keeps, Label, Load, LoadAddr, LoadExtNameFar, LoadExtNameGot, LoadInlineConst, Lui, Mov, MovFromPReg, Nop0, Nop4, Op, Ret, ReturnCall, ReturnCallInd, Select, Site, State, Store, Values, and_parts, call_usable}
+use Rattle.{rv_runs.proofs.Words.{ComesOut, IrType, Next, set_reg, wrap}, std.proofs.Common.{None, [], arith, false, if◌then◌else◌, lit<, nat_eq, not, pos, refl, subst, true, ℕ, ◌==◌, ◌∷◌, ◌≡◌}}
+use Rattle.rv_runs.proofs.Words.{EmitVState, FrameLayout, GapIn, Inst, Keeps, Label, Op, Site, State, Values, and_parts, call_usable}
 use Rattle.rv_runs.proofs.Words.{compares, decoded_addi, goes_none, inst_rule, is_bad_frame_for, is_float_load, is_float_store, is_integer, is_integer_in, jump_to, keeps, location_of, low_word, not_true, number_of, reg, restores, restores_float, signed, tail_call_of, target_fine, to, window_some}
 use Rattle.rv_code.proofs.Operands.{all_integers, are_usable, constant_kept, extend_kept, is_count, is_probe, is_reversal, is_table, move_usable, not_zero, or_left, preg_usable, reversal_of, trap_if_usable}
 use Rattle.{rv_code.proofs.OperationActs.short_ebreak_is, rv_code.proofs.OperationActs.ebreak_sized, rv_code.proofs.Registers.count_of, rv_code.specs.InstParts.trap_slots, rv_code.specs.InstRuns.RunsIn, rv_inst.specs.Forms.short_ebreak, rv_inst.specs.Rules.is_zero}
-use Rattle.rv_inst.specs.declared.inst.Inst.TheVariants.{Args, BrTable, Brev8, Cltz, DummyUse, EmitIsland, Jal, LabelAddress, LoadExtNameNear, Popcnt, RawData, Rets, SequencePoint, StackProbeLoop, TrapIf, Udf, Unwind}
+use Rattle.rv_inst.specs.declared.inst.Inst.TheVariants.{Args, BrTable, Brev8, Cltz, DummyUse, EmitIsland, Jal, LabelAddress, LoadExtNameNear, Popcnt, RawData, Rets, SequencePoint, StackProbeLoop, TrapIf, Udf, Unwind, AluRRImm12, AluRRR, Auipc, Call, CallInd, CondBr, EBreak, Extend, Jalr, Load, LoadAddr, LoadExtNameFar, LoadExtNameGot, LoadInlineConst, Lui, Mov, MovFromPReg, Nop0, Nop4, Ret, ReturnCall, ReturnCallInd, Select, Store}
 use Rattle.rv_runs.proofs.{CountRuns.popcnt_out, CountRuns.zeros_out, Exits.RunsHere, Exits.break_out, Exits.comes_out, Exits.gap_out, Exits.starts_at, Exits.starts_beside, Exits.trap_out, Exits.trap_some, MemoryRuns.address_out, MemoryRuns.load_runs, MemoryRuns.store_runs}
 use Rattle.rv_runs.proofs.PlainRuns.{alu_rri_runs, alu_rrr_runs, auipc_runs, cond_br_runs, distant_out, jalr_runs, literal_out, jump_out, lui_runs, mov_runs, move_out, next_out, nothing_out, ret_runs, trap_if_out}
 

@@ -6,11 +6,12 @@ use Rattle.rv_code.{specs.Accesses.{Access, address_pieces, based_pieces, far_pi
 use Rattle.{rv_encode.specs.Operations.{load_row, store_op, store_row}, rv_inst.{specs.Addresses.AtConstant, specs.declared.label_use.LabelUse.TheVariants.PCRelLo12I}, rv_machine.{specs.Memory.store_bytes, specs.declared.ops.MOp.MOp}, rv_ops.specs.Memory.store_size}
 use Rattle.rv_runs.{proofs.Exits.{RunsHere, SlotsOut, comes, pieces_out, point_goes, same_but, starts_at, writes_out}, proofs.UnitRuns.{fiter_one, unit_next_at}}
 use Rattle.rv_runs.proofs.Words.{AMode, Action, AllByRecursion, AnswerFits, AreInRange, AreOutside, AreUnits, AreValues, AtLabel, Based, CodeHas, Comes, ComesOut, Decoded, Do, Does, EmitVState, Enters, FullComesOut, FullState, FullValues, size_of, is_float_load}
-use Rattle.rv_runs.proofs.Words.{same_set, HasSize, IsIntegerLoad, IsIntegerStore, IsPlacedAt, IsUsable, IsUsableAt, Label, Load, LoadOP, Location, MachLabel, MemFlagsData, Next, Piece, Reg, Same, SameBut, SameFull, Site, State, Store, StoreOP, TrapCode, Units}
+use Rattle.rv_runs.proofs.Words.{same_set, HasSize, IsIntegerLoad, IsIntegerStore, IsPlacedAt, IsUsable, IsUsableAt, Label, LoadOP, Location, MachLabel, MemFlagsData, Next, Piece, Reg, Same, SameBut, SameFull, Site, State, StoreOP, TrapCode, Units}
 use Rattle.rv_runs.proofs.Words.{Values, Writable, act, address_at, addresses_from, and_then, are_values_set, between, byte, decoded_load, environment, evaluate, fiter_after, full_at, integer_run, label_base, load_fits, load_op, load_result, load_same, location_of, low64}
 use Rattle.rv_runs.proofs.Words.{lower_of_distance, number_of, op_of, point, put, put_bytes, put_same, put_values, reads_other, reg, row_next, set_reg, shorter, slots_alone, slots_of, spare_set, unit_row, wrap}
 use Rattle.std.proofs.Common.{Bool, List, None, Option, Some, [], ap, append-nil, arith, if◌then◌else◌, length, lit<, lit≤, not, refl, rules, subst, sym, ℕ, ℤ, ◌+◌, ◌<◌, ◌∙◌, ◌∷◌, ◌≡◌, true}
 use Rattle.rv_code.specs.Pieces as piece
+use Rattle.rv_inst.specs.declared.inst.Inst.TheVariants.{Load, Store}
 
 -- ---- before an operation
 

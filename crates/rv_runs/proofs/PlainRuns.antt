@@ -4,13 +4,14 @@ use Rattle.rv_code.{proofs.Reaching.Reaches, proofs.Steps.aims_at, specs.Evaluat
 use Rattle.{rv_code.specs.Traps.trap_if_pieces, rv_encode.specs.Operations.decoded_branch, rv_imms.{specs.declared.imm12.Imm12.Imm12, specs.declared.imm20.Imm20.Imm20}, rv_inst.{specs.Faults.is_out_of_range, specs.Forms.jump_kind, specs.LabelUse.has_veneer_of, specs.Meaning.{Trap, target_exit}}}
 use Rattle.{rv_inst.{specs.Rules.is_fallthrough, specs.declared.inst.CondBrTarget.CondBrTarget, specs.declared.inst.CondBrTarget.TheVariants.{Fallthrough, Label as ToLabel}, specs.declared.label_use.LabelUse.TheVariants.B12}, rv_ops.specs.declared.alu.AluOPRRR.AluOPRRR}
 use Rattle.rv_runs.proofs.Exits.{RunsHere, SlotsOut, comes_out, goes_out, label_out, pieces_out, pieces_trap, same_but, starts_at, starts_beside, writes_beside}
-use Rattle.rv_runs.proofs.Words.{AVirtual, Addi, Environment, Memory, Piece, are_values_set, byte, next, same_set, AimsFrom, AluOPRRI, AluRRImm12, AluRRR, Arrives, Auipc, Base, Bind, ComesOut, CondBr, Decoded, Do, EmitVState, Enters, Exit, Goes, Int, IntCC, SameBut}
-use Rattle.rv_runs.proofs.Words.{IntegerCompare, IrType, IsAt, IsBeside, IsIntRegister, IsUsable, IsaFlags, Jalr, Label, Ld, Leave, Lui, MachLabel, Mov, Next, NotEqual, Op, Part, Real, Reg, Ret, Rri, Same, Site, Slot, StandsIn, State, To, TrapCode, Values, Writable, act}
+use Rattle.rv_runs.proofs.Words.{AVirtual, Addi, Environment, Memory, Piece, are_values_set, byte, next, same_set, AimsFrom, AluOPRRI, Arrives, Base, Bind, ComesOut, Decoded, Do, EmitVState, Enters, Exit, Goes, Int, IntCC, SameBut}
+use Rattle.rv_runs.proofs.Words.{IntegerCompare, IrType, IsAt, IsBeside, IsIntRegister, IsUsable, IsaFlags, Label, Ld, Leave, MachLabel, Next, NotEqual, Op, Part, Real, Reg, Rri, Same, Site, Slot, StandsIn, State, To, TrapCode, Values, Writable, act}
 use Rattle.rv_runs.proofs.Words.{alu_result_fits, alu_rri, alu_rrr, and_then, at, at_next, between, class_of, compares, complement_of, decoded, evaluate, goes_at_least, goes_none, holds, jalr_acts, jalr_sized, jump_acts, jump_to, least_steps, load_op, load_same, low64}
 use Rattle.rv_runs.proofs.Words.{move_pieces, number_of, plus_none, point, reg, rri_op, set_own, set_reg, short_jalr, short_jump, signed_below, size_of, slots_alone, slots_of, step_at, window_some, wrap}
 use Rattle.std.{proofs.Common.{Bool, List, Some, [], ap, arith, eqb-true, false, if◌then◌else◌, lit<, lit≤, nat_eq, nat_lt, not, pos, refl, subst, sym, true, ℕ, ◌*◌, ◌+◌, ◌/◌, ◌<◌, ◌^◌, ◌∙◌, ◌∷◌, ◌≡◌, ◌≤◌}, proofs.Math.Bool.not-not}
 use Rattle.rv_machine.specs.declared.ops.BaseOp.TheVariants as base
 use Rattle.rv_code.specs.Pieces as piece
+use Rattle.rv_inst.specs.declared.inst.Inst.TheVariants.{AluRRImm12, AluRRR, Auipc, CondBr, Jalr, Lui, Mov, Ret}
 
 -- The instructions of no operation, and those of one that writes a register.
 

@@ -1,12 +1,13 @@
 -- Of integer registers, one of two values is chosen, and the low bits are extended.
 use Rattle.{rv_code.{proofs.Operands.none_of_both, proofs.Reaching.{Reaches, goes_on, reaches_such}, specs.InstRuns.environment}, rv_full.specs.View.zero_units, rv_inst.{specs.Bits.extended, specs.Meaning.set_regs, specs.Operands.inst_registers, specs.Rules.{is_beyond, is_other_class}}}
 use Rattle.{rv_inst.specs.Sizes.right_shift, rv_ops.specs.Operations.{immediate_of, shift_limit}, rv_runs.{proofs.Exits.{RunsHere, SlotsOut, pieces_out, same_but}, proofs.FullChoices.{AreAllowed, choice_comes, choice_range, chosen_fits, chosen_same, is_fair, order_of, ordered}}}
-use Rattle.rv_runs.proofs.Words.{Andi, AreInRange, AreValues, ComesOut, Do, EmitVState, Enters, FullValues, Int, Keeps, Next, Piece, Reg, Rri, Same, SameBut, Select, SelectInfo, Site, Slli, State, Values, all_of, alu_result_fits, alu_rri, and_then, are_values_set, chosen}
+use Rattle.rv_runs.proofs.Words.{Andi, AreInRange, AreValues, ComesOut, Do, EmitVState, Enters, FullValues, Int, Keeps, Next, Piece, Reg, Rri, Same, SameBut, SelectInfo, Site, Slli, State, Values, all_of, alu_result_fits, alu_rri, and_then, are_values_set, chosen}
 use Rattle.rv_runs.proofs.Words.{class_of, compares, evaluate, extend_pieces, ints, is_byte, is_int_class, list_any, low64, nat_tests, number_of, or_parts, point, pow_pos, put_all, put_in, reads_back, reg, rri_op, same_set, set_reg, set_twice, signed, signed64}
 use Rattle.rv_runs.proofs.Words.{slots_alone, slots_of, small_shift, value_in, value_of, wrap, written_in}
 use Rattle.std.proofs.Common.{Bool, List, [], ap, arith, eqb-true, false, if◌then◌else◌, lit<, map, mod-lt, mul-le-mul, nat_lt, negsuc, not, pos, refl, subst, suc, sym, true, zero, ℕ, ◌%◌, ◌*◌, ◌++◌, ◌+◌, ◌-◌, ◌/◌, ◌<◌, ◌^◌, ◌∙◌, ◌∷◌, ◌≡◌, ◌≤◌}
 use Rattle.std.{proofs.Math.Nat.{mul-div_cancel, mul-mod_left, mul_assoc, pow-suc}, proofs.lemmas.Int.to_z-of_z, proofs.lemmas.Nat.{and_mask, div-mul-add, mod-pow-add, pow-add}, specs.Int.Signed.shr_z}
 use mir.Syntax.{w64}
+use Rattle.rv_inst.specs.declared.inst.Inst.TheVariants.{Select}
 
 -- One of two values is chosen.
 

@@ -19,7 +19,6 @@ pub use Rattle.rv_inst.{proofs.Sequences.number_below, specs.Addresses.{AtLabel,
 pub use Rattle.rv_inst.{specs.Frames.is_bad_frame_for, specs.Meaning.{AreOutside, Environment, Exit, Leave, Next, To, address_at, addresses_from, alu_rri, alu_rrr, compares, fallen, frame_left, inst_effect, inst_exit, inst_writes, put_bytes, stack_loaded, try_exit}}
 pub use Rattle.rv_inst.{specs.Operands.{family_of, Return, all_of, inst_temporaries, is_float, is_float_class, loads_float, operands_of, return_of, tail_call_of, try_call_of, written_in}, specs.Returns.{StackLoad, frame_above, restores}}
 pub use Rattle.rv_inst.{specs.Rules.{inst_rule, is_int_class, is_reserved, is_virtual}, specs.SameValues.{Same, SameBut, is_among}, specs.Sizes.{is_byte, operation_of}, specs.declared.inst.Inst.Inst}
-pub use Rattle.rv_inst.specs.declared.inst.Inst.TheVariants.{AluRRImm12, AluRRR, Auipc, Call, CallInd, CondBr, EBreak, Extend, Jalr, Load, LoadAddr, LoadExtNameFar, LoadExtNameGot, LoadInlineConst, Lui, Mov, MovFromPReg, Nop0, Nop4, Ret, ReturnCall, ReturnCallInd, Select, Store}
 pub use Rattle.{rv_inst.{specs.declared.inst.Line.TheVariants.{Inst as Put}, specs.declared.inst.SelectInfo.SelectInfo, specs.declared.tail_calls.TailCall.TailCall}, rv_machine.{proofs.Ranges.alu_result_fits, proofs.UnitOperations.{integer_decodes, is_integer as is_integer_op}}}
 pub use Rattle.rv_machine.{specs.Arithmetic.low_word, specs.Effects.{act, act_on}, specs.Memory.{load_bytes, load_result}, specs.State.{AreValues, IsState, Memory, State, Values, at, byte, low64, reg, set_reg, signed, wrap}, specs.Steps.fetch, specs.declared.decoding.Decoded.Decoded}
 pub use Rattle.{rv_machine.{specs.declared.ops.FloatFormat.FloatFormat, specs.declared.ops.FloatFormat.TheVariants.{D, H, S}, specs.declared.ops.MOp.TheVariants.Base}, rv_ops.{specs.FloatFields.format_of, specs.Memory.{is_float_load, is_float_store, load_format, store_format}}}

@@ -1,5 +1,6 @@
-use Rattle.rv_emit.proofs.{StackMaps.put_as, Terms.sym, Terms.arith, Terms.refl, Terms.rules, Terms.ap, Terms.◌∙◌, Terms.Select, Terms.EmitsAnyhow, Terms.extend_kept, Terms.int_class, Terms.ints_kept, Terms.kept, Terms.move_kept, Terms.preg_usable, Terms.select_fine}
+use Rattle.rv_emit.proofs.{StackMaps.put_as, Terms.sym, Terms.arith, Terms.refl, Terms.rules, Terms.ap, Terms.◌∙◌, Terms.EmitsAnyhow, Terms.extend_kept, Terms.int_class, Terms.ints_kept, Terms.kept, Terms.move_kept, Terms.preg_usable, Terms.select_fine}
 use Rattle.rv_emit.proofs.sequence.put_integer.Goals as goal
+use Rattle.rv_inst.specs.declared.inst.Inst.TheVariants.{Select}
 
 pub returns-in-AluRRR-clause-parts : goal.returns-in-AluRRR-clause-parts
 returns-in-AluRRR-clause-parts c = λ family. put_as _ (λ i. EmitsAnyhow c.args.flags i c.args.sink.now c.put_rrr.new.sink) c.in-AluRRR.is (λ p frame constants setting. p) c.put_rrr.ensures.slots

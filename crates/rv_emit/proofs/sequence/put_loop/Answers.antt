@@ -1,6 +1,7 @@
-use Rattle.{rv_code.{specs.Sequences.sequence_pieces, specs.Usable.IsFineSequence}, rv_emit.{proofs.StackMaps.put_as, proofs.Terms.{sym, ints_kept, kept, sequence_fine, ◌∙◌, arith, Context, EmitVState, EmitsAnyhow, Inst, Nop0, PutsParts, parts_of, slots_alone, slots_of, context_by}}}
+use Rattle.{rv_code.{specs.Sequences.sequence_pieces, specs.Usable.IsFineSequence}, rv_emit.{proofs.StackMaps.put_as, proofs.Terms.{sym, ints_kept, kept, sequence_fine, ◌∙◌, arith, Context, EmitVState, EmitsAnyhow, Inst, PutsParts, parts_of, slots_alone, slots_of, context_by}}}
 use Rattle.{rv_inst.{specs.Descriptions.sequence_of, specs.declared.sequence.Sequence.Sequence}, std.{proofs.Common.{◌≡◌, refl, subst}, specs.Prelude.{IfSome, Some}}}
 use Rattle.rv_emit.proofs.sequence.put_loop.Goals as goal
+use Rattle.rv_inst.specs.declared.inst.Inst.TheVariants.{Nop0}
 
 sequence_parts : (context : Context) (setting : EmitVState) (inst : Inst) (s : Sequence) → sequence_of inst ≡ Some s → slots_alone (slots_of context.flags (sequence_pieces s)) ≡ parts_of context setting inst
 sequence_parts context setting Nop0 s e = absurd (cc)
