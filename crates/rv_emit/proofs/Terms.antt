@@ -38,7 +38,7 @@ pub use Rattle.rv_inst.{specs.Rules.{inst_rule, is_on_stack, is_stacked, is_word
 pub use Rattle.rv_inst.specs.Sizes.{AtMost, Exactly, IsOfSize, Request, Size, branch_size, call_end, call_request, fall, first_in, inst_code, inst_records, inst_size, inst_sum, line_space, most_bytes, most_of, move_size, request_of, results_space, space_in, trap_size}
 pub use Rattle.rv_inst.{specs.Uses.{inst_reach, jump_reach, least_reach, target_reach, target_uses, use_at, uses_by, uses_in, uses_start}, specs.declared.inst.CondBrTarget.CondBrTarget, specs.declared.inst.CondBrTarget.TheVariants.Fallthrough, specs.declared.inst.Family.Family}
 pub use Rattle.rv_inst.{specs.declared.inst.Family.TheVariants.Calls, specs.declared.inst.Inst.Inst}
-pub use Rattle.rv_inst.specs.declared.label_use.LabelUse.LabelUse
+pub use Rattle.rv_inst.specs.declared.label_use.LabelUse.{LabelUse}
 pub use Rattle.{rv_inst.{specs.declared.label_use.LabelUse.TheVariants.{B12, Jal20, PCRel32, PCRelHi20, PCRelLo12I, RVCJump}, specs.declared.targets.Targets.Targets, specs.declared.targets.Targets.TheVariants.{Branches, Jumps, Nowhere, Refers, RefersConstant}}, rv_machine.proofs.Images.byte_stored}
 pub use Rattle.rv_machine.{proofs.UnitOperations.{integer_decodes, is_integer}, specs.Arithmetic.low_word, specs.Decode.{decode, int_by_opcode, int_decode}, specs.Layout.{i_bits, i_layout, u_bits, word_funct3, word_opcode}, specs.Opcodes.{AUIPC, JALR}}
 pub use Rattle.{rv_machine.{specs.State.{Memory, Values, at, byte, low64, reg, set_reg, signed, store, wrap}, specs.Steps.fetch, specs.declared.decoding.Decoded.Decoded, specs.declared.ops.MOp.TheVariants.Base}, rv_ops.specs.Memory.{load_of, load_size}}
