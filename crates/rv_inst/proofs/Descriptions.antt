@@ -59,10 +59,6 @@ pub registers_after : (inst : Inst) (registers : InstRegs) → described_regs (w
 registers_after Nop0 registers = refl
 registers_after inst registers = cc
 
-pub family_after : (inst : Inst) (registers : InstRegs) → family_of (with_registers inst registers) ≡ family_of inst
-family_after Nop0 registers = refl
-family_after inst registers = cc
-
 -- ---- sequences
 
 pub own_sequence : (inst : Inst) (s : Sequence) → sequence_of inst ≡ Some s → with_sequence inst s ≡ inst

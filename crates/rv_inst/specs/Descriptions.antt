@@ -2,7 +2,7 @@
 -- machine has not; others compute one register of another by a sequence of words with a loop; and of others, of integer registers, the row
 -- itself gives what they mean and their code. All tables over instructions have one row for all of these, which goes by
 -- `description_of`. So an instruction that is neither here nor in a table has no row there, and fails to check.
-use Rattle.std.specs.Prelude.{◌≡◌, ℕ, Bool, true, false, is_some, not, ◌&&◌, nat_le, if◌then◌else◌, List, [], ◌∷◌, ◌++◌, ◌+◌, ◌-◌, Option, Some, None, pos, map, option_map, slice_get, unwrap_or}
+use Rattle.std.specs.Prelude.{◌≡◌, ℕ, Bool, true, false, is_some, not, ◌&&◌, nat_le, if◌then◌else◌, List, [], ◌∷◌, ◌++◌, ◌+◌, ◌-◌, ◌*◌, ◌/◌, ◌^◌, Option, Some, None, pos, map, option_map, slice_get, unwrap_or}
 use Rattle.std.proofs.Common.{cond, subst}
 use Rattle.rv_base.specs.Regs.{class_of, number_of}
 use Rattle.rv_base.specs.declared.regs.Reg.{Reg}
@@ -19,15 +19,19 @@ use Rattle.rv_encode.specs.Registers.{IsRealRegister}
 use Rattle.mach_records.specs.declared.records.Event.TheVariants as event
 use Rattle.mach_records.specs.declared.records.FinalizedRelocTarget.TheVariants.{ExternalName as ToName}
 use Rattle.rv_base.specs.declared.reloc.Reloc.TheVariants.{RiscvGotHi20, RiscvPCRelHi20, Abs8}
-use Rattle.rv_encode.specs.Operations.{load_op}
+use Rattle.rv_encode.specs.Operations.{decoded, load_op}
 use Rattle.rv_inst.specs.Addresses.{inline_size}
+use Rattle.rv_base.specs.IrType.{bits_of}
 use Rattle.rv_inst.specs.Bits.{extended}
+use Rattle.rv_inst.specs.Classes.{is_word_type}
+use Rattle.rv_machine.specs.declared.ops.MOp.TheVariants.{Base}
+use Rattle.rv_machine.specs.declared.ops.BaseOp.TheVariants.{Auipc as AuipcOp}
 use Rattle.rv_inst.specs.Context.{Context}
-use Rattle.rv_inst.specs.Effects.{Environment, Meaning, Next, Trap, compares, goes, symbol_at}
-use Rattle.rv_inst.specs.InstCode.{AtMost, Exactly, InstCode, extend_operation, trap_size, words}
+use Rattle.rv_inst.specs.Effects.{Environment, Meaning, Next, Trap, compares, constant_of, goes, symbol_at}
+use Rattle.rv_inst.specs.InstCode.{AtMost, Exactly, InstCode, extend_operation, one_word, trap_size, words}
 use Rattle.rv_inst.specs.Records.{noted, part_records}
 use Rattle.rv_machine.specs.Memory.{load_result}
-use Rattle.rv_machine.specs.State.{Values, reg, set_reg}
+use Rattle.rv_machine.specs.State.{Values, reg, set_reg, wrap, low64}
 use Rattle.rv_ops.specs.declared.memory.LoadOP.TheVariants.{Ld}
 use Rattle.rv_inst.specs.declared.inst.Brev8Info.{Brev8Info}
 use Rattle.rv_inst.specs.declared.inst.CountInfo.{CountInfo}
@@ -104,9 +108,9 @@ pub record Given : Type 0 where
 abbrev pub regs : Option (Writable Reg) → Option Reg → Option Reg → Option Reg → InstRegs
 regs rd rs1 rs2 rs3 = record { rd = rd; rs1 = rs1; rs2 = rs2; rs3 = rs3 }
 
--- these registers, of which any may be x0, and no number that may be out of its range, nor any label
+-- these registers, of which any may be x0, and no type that may not be taken, number that may be out of its range, or label
 abbrev pub only_regs : InstRegs → Facts
-only_regs r = record { regs = r; in_steps = false; beyond = false; targets = Nowhere }
+only_regs r = record { regs = r; in_steps = false; mistyped = false; beyond = false; targets = Nowhere }
 
 -- a result that is computed in steps, of no other register
 abbrev pub stepwise : Writable Reg → Facts
@@ -155,8 +159,20 @@ described (Unwind inst) = None
 described (EmitIsland needed_space) = None
 described (RawData bytes) = None
 described (Lui rd imm) = None
-described (Auipc rd imm) = None
-described (LoadInlineConst rd type imm) = None
+described (Auipc rd imm) = Some (Gives (record {
+  family = Integer;
+  facts = only_regs (regs (Some rd) None None None);
+  with_registers = λ (r : InstRegs). Auipc (unwrap_or r.rd rd) imm;
+  meaning = λ env v. sets v rd (wrap (env.start + low64 imm.value * 2 ^ 12));
+  code = λ context. one_word (decoded (Base AuipcOp) (number_of rd.reg) 0 0 imm.value);
+}))
+described (LoadInlineConst rd type imm) = Some (Gives (record {
+  family = Integer;
+  facts = record (stepwise rd) { mistyped = not (is_word_type type) };
+  with_registers = λ (r : InstRegs). LoadInlineConst (unwrap_or r.rd rd) type imm;
+  meaning = λ env v. sets v rd (constant_of type imm);
+  code = λ context. words (Exactly (inline_size context.flags (bits_of type / 8)));
+}))
 described (AluRRR op rd rs1 rs2) = None
 described (AluRRImm12 op rd rs imm) = None
 described (Mov rd rm type) = None
@@ -391,3 +407,7 @@ targets_by_facts (Some f) = f.targets
 abbrev pub is_beyond_by : Option Facts → Bool
 is_beyond_by None = false
 is_beyond_by (Some f) = f.beyond
+
+abbrev pub is_mistyped_by : Option Facts → Bool
+is_mistyped_by None = false
+is_mistyped_by (Some f) = f.mistyped

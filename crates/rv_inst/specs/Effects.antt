@@ -1,13 +1,20 @@
 -- What a meaning is made of: what a line is read among, what it makes of the values, and how it is left.
-use Rattle.std.specs.Prelude.{ℕ, ◌+◌, Bool, List, [], ℤ}
+use Rattle.std.specs.Prelude.{ℕ, ◌+◌, ◌==◌, Bool, if◌then◌else◌, List, [], ℤ}
 use Rattle.rv_base.specs.declared.external_name.ExternalName.{ExternalName}
 use Rattle.rv_base.specs.declared.flags.IsaFlags.{IsaFlags}
 use Rattle.rv_base.specs.declared.frame.FrameLayout.{FrameLayout}
+use Rattle.rv_base.specs.declared.ir_type.IrType.{IrType}
 use Rattle.rv_base.specs.declared.trap.TrapCode.{TrapCode}
+use Rattle.rv_base.specs.IrType.{bits_of}
 use Rattle.rv_base.specs.CondCodes.{holds}
 use Rattle.rv_base.specs.Regs.{number_of}
+use Rattle.rv_machine.specs.Arithmetic.{extend_word}
 use Rattle.rv_machine.specs.State.{Values, reg, wrap, low64}
 use Rattle.rv_ops.specs.declared.compare.IntegerCompare.{IntegerCompare}
+
+-- the value of an inline constant: of 32 bits, its low word, sign-extended; else its low 64 bits
+abbrev pub constant_of : IrType → ℕ → ℕ
+constant_of type n = if bits_of type == 32 then extend_word n else wrap n
 
 -- What a line is read among: the addresses of its first byte, of the byte after its last, of labels, constants and symbols by their
 -- numbers, and of the slots that hold the addresses of symbols; the flags, and the frame.

@@ -1,3 +1,4 @@
+pub mod Classes
 pub mod Effects
 pub mod InstCode
 pub mod Descriptions

@@ -4,7 +4,6 @@ use Rattle.std.proofs.Common.{refl}
 use Rattle.rv_base.specs.declared.amode.AMode.{AMode}
 use Rattle.rv_base.specs.declared.call.TryCallInfo.{TryCallInfo}
 use Rattle.rv_base.specs.declared.frame.FrameLayout.{FrameLayout}
-use Rattle.rv_base.specs.declared.ir_type.IrType.{IrType}
 use Rattle.rv_base.specs.declared.label.MachLabel.{MachLabel}
 use Rattle.rv_base.specs.IrType.{bits_of}
 use Rattle.rv_base.specs.Regs.{number_of}
@@ -17,20 +16,20 @@ use Rattle.rv_ops.specs.Operations.{is_exchanged, rrr_op, rri_op}
 use Rattle.rv_encode.specs.Operations.{load_op, store_op}
 use Rattle.rv_inst.specs.Addresses.{Location, Based, AtLabel, AtConstant, location_of}
 use Rattle.rv_ops.specs.Memory.{is_float_load, is_float_store, store_size}
-use Rattle.rv_inst.specs.Bits.{computed, extended}
-pub use Rattle.rv_inst.specs.Effects.{Environment, Exit, Next, To, Leave, Break, Trap, Data, Meaning, compares, goes, symbol_at}
+use Rattle.rv_inst.specs.Bits.{computed}
+pub use Rattle.rv_inst.specs.Effects.{constant_of, Environment, Exit, Next, To, Leave, Break, Trap, Data, Meaning, compares, goes, symbol_at}
 use Rattle.rv_inst.specs.Operands.{all_of, written_in, Return, inst_temporaries, try_call_of, return_of}
 use Rattle.rv_inst.specs.Returns.{StackLoad, restores, frame_above}
 use Rattle.rv_inst.specs.Descriptions.{Description, UnitWord, Word, Computes, Gives, description_of}
 use Rattle.rv_inst.specs.declared.inst.Line.{Line}
 use Rattle.rv_inst.specs.declared.inst.Line.TheVariants.{Inst as Put, Bind}
 use Rattle.rv_inst.specs.declared.inst.Inst.{Inst}
-use Rattle.rv_inst.specs.declared.inst.Inst.TheVariants.{Nop0, Nop4, EBreak, SequencePoint, Args, Rets, DummyUse, Unwind, EmitIsland, RawData, Lui, Auipc, LoadInlineConst, AluRRR, AluRRImm12, Mov, MovFromPReg, Select, Load, Store, LoadAddr, Ret, Jal, CondBr, BrTable, Udf, Jalr, StackProbeLoop, Call, CallInd, ReturnCall, ReturnCallInd}
+use Rattle.rv_inst.specs.declared.inst.Inst.TheVariants.{Nop0, Nop4, EBreak, SequencePoint, Args, Rets, DummyUse, Unwind, EmitIsland, RawData, Lui, AluRRR, AluRRImm12, Mov, MovFromPReg, Select, Load, Store, LoadAddr, Ret, Jal, CondBr, BrTable, Udf, Jalr, StackProbeLoop, Call, CallInd, ReturnCall, ReturnCallInd}
 use Rattle.rv_inst.specs.declared.inst.CondBrTarget.{CondBrTarget}
 use Rattle.rv_inst.specs.declared.inst.CondBrTarget.TheVariants.{Label, Fallthrough}
 use Rattle.rv_machine.specs.State.{Values, reg, set_reg, store, wrap, low64}
 use Rattle.rv_machine.specs.Memory.{load_result, store_bytes}
-use Rattle.rv_machine.specs.Arithmetic.{low_word, extend_word}
+use Rattle.rv_machine.specs.Arithmetic.{low_word}
 use Rattle.rv_machine.specs.Effects.{alu_result}
 
 -- ---- values
@@ -42,10 +41,6 @@ alu_rrr op x y = if is_exchanged op then alu_result (rrr_op op) y x 0 else alu_r
 -- an operation of a register and an immediate: the manual's operation of that name
 abbrev pub alu_rri : AluOPRRI → ℕ → ℤ → ℕ
 alu_rri op x n = alu_result (rri_op op) x 0 (low64 n)
-
--- the value of an inline constant: of 32 bits, its low word, sign-extended; else its low 64 bits
-abbrev pub constant_of : IrType → ℕ → ℕ
-constant_of type n = if bits_of type == 32 then extend_word n else wrap n
 
 -- the address of a location
 abbrev pub address_at : Environment → Values → Location → ℕ
@@ -146,8 +141,6 @@ inst_meaning env (Unwind inst) v = goes Next v
 inst_meaning env (EmitIsland needed_space) v = goes Next v
 inst_meaning env (RawData bytes) v = goes Data v
 inst_meaning env (Lui rd imm) v = goes Next (set_reg v (number_of rd.reg) (wrap (low64 imm.value * 2 ^ 12)))
-inst_meaning env (Auipc rd imm) v = goes Next (set_reg v (number_of rd.reg) (wrap (env.start + low64 imm.value * 2 ^ 12)))
-inst_meaning env (LoadInlineConst rd type imm) v = goes Next (set_reg v (number_of rd.reg) (constant_of type imm))
 inst_meaning env (AluRRR op rd rs1 rs2) v = goes Next (set_reg v (number_of rd.reg) (alu_rrr op (reg v (number_of rs1)) (reg v (number_of rs2))))
 inst_meaning env (AluRRImm12 op rd rs imm) v = goes Next (set_reg v (number_of rd.reg) (alu_rri op (reg v (number_of rs)) imm.value))
 inst_meaning env (Mov rd rm type) v = goes Next (set_reg v (number_of rd.reg) (reg v (number_of rm)))

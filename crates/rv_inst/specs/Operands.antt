@@ -19,8 +19,6 @@ use Rattle.rv_base.specs.declared.flags.IsaFlags.{IsaFlags}
 use Rattle.rv_base.specs.declared.label.MachLabel.{MachLabel}
 use Rattle.rv_base.specs.declared.regs.Reg.{Reg}
 use Rattle.rv_base.specs.declared.regs.Reg.TheVariants.{Real}
-use Rattle.rv_base.specs.declared.regs.RegClass.{RegClass}
-use Rattle.rv_base.specs.declared.regs.RegClass.TheVariants.{Int, Float, Vector}
 use Rattle.rv_base.specs.declared.regs.Writable.{Writable}
 use Rattle.rv_base.specs.Regs.{class_of, number_of}
 use Rattle.rv_base.specs.declared.unwind.UnwindInst.{UnwindInst}
@@ -29,6 +27,7 @@ use Rattle.rv_base.specs.declared.value_regs.ValueRegs.{ValueRegs}
 use Rattle.rv_base.specs.declared.value_regs.ValueRegs.TheVariants.{One, Two}
 use Rattle.rv_ops.specs.Memory.{load_size, is_float_load, is_float_store}
 use Rattle.mach_uses.specs.Labels.{name_more}
+pub use Rattle.rv_inst.specs.Classes.{is_float_class}
 use Rattle.rv_inst.specs.Forms.{short_jalr}
 use Rattle.rv_inst.specs.Returns.{StackLoad, result_loads, loads_unless}
 use Rattle.rv_inst.specs.declared.inst.Line.{Line}
@@ -36,7 +35,7 @@ use Rattle.rv_inst.specs.declared.inst.Line.TheVariants.{Inst as Put, Bind}
 use Rattle.rv_inst.specs.declared.inst.Family.{Family}
 use Rattle.rv_inst.specs.declared.inst.Family.TheVariants.{Pseudo, Integer, Memory, Control, Loop, Calls}
 use Rattle.rv_inst.specs.declared.inst.Inst.{Inst}
-use Rattle.rv_inst.specs.declared.inst.Inst.TheVariants.{Nop0, Nop4, EBreak, SequencePoint, Args, Rets, DummyUse, Unwind, EmitIsland, RawData, Lui, Auipc, LoadInlineConst, AluRRR, AluRRImm12, Mov, MovFromPReg, Select, Load, Store, LoadAddr, Ret, Jal, CondBr, BrTable, Udf, Jalr, StackProbeLoop, Call, CallInd, ReturnCall, ReturnCallInd}
+use Rattle.rv_inst.specs.declared.inst.Inst.TheVariants.{Nop0, Nop4, EBreak, SequencePoint, Args, Rets, DummyUse, Unwind, EmitIsland, RawData, Lui, AluRRR, AluRRImm12, Mov, MovFromPReg, Select, Load, Store, LoadAddr, Ret, Jal, CondBr, BrTable, Udf, Jalr, StackProbeLoop, Call, CallInd, ReturnCall, ReturnCallInd}
 use Rattle.rv_inst.specs.Descriptions.{Description, Word, Computes, Gives, all_in, description_of, registers_in, sequence_registers, temporaries_in}
 use Rattle.rv_inst.specs.declared.tail_calls.TailCall.{TailCall}
 use Rattle.rv_inst.specs.declared.targets.Targets.{Targets}
@@ -100,11 +99,6 @@ address_targets read (Const k) = RefersConstant k read
 address_targets read (LabelAt l) = Refers l
 
 -- whether a register is one of f0 to f31
-abbrev pub is_float_class : RegClass → Bool
-is_float_class Int = false
-is_float_class Float = true
-is_float_class Vector = false
-
 abbrev pub is_float : Reg → Bool
 is_float r = is_float_class (class_of r)
 
@@ -160,8 +154,6 @@ operands_of (Unwind inst) = only Pseudo (unwind_registers inst)
 operands_of (EmitIsland needed_space) = only Pseudo []
 operands_of (RawData bytes) = only Pseudo []
 operands_of (Lui rd imm) = only Integer (rd.reg ∷ [])
-operands_of (Auipc rd imm) = only Integer (rd.reg ∷ [])
-operands_of (LoadInlineConst rd type imm) = only Integer (rd.reg ∷ [])
 operands_of (AluRRR op rd rs1 rs2) = only Integer (rd.reg ∷ rs1 ∷ rs2 ∷ [])
 operands_of (AluRRImm12 op rd rs imm) = only Integer (rd.reg ∷ rs ∷ [])
 operands_of (Mov rd rm type) = record (only Integer (rd.reg ∷ rm ∷ [])) { floats = is_float rd.reg }

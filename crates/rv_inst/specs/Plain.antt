@@ -8,7 +8,7 @@ use Rattle.rv_base.specs.declared.regs.Reg.{Reg}
 use Rattle.rv_ops.specs.Memory.{is_float_load, is_float_store}
 use Rattle.rv_ops.specs.Operations.{immediate_of, shift_limit}
 use Rattle.rv_inst.specs.declared.inst.Inst.{Inst}
-use Rattle.rv_inst.specs.declared.inst.Inst.TheVariants.{Nop0, Nop4, EBreak, SequencePoint, Args, Rets, DummyUse, Unwind, EmitIsland, RawData, Lui, Auipc, LoadInlineConst, AluRRR, AluRRImm12, Mov, MovFromPReg, Select, Load, Store, LoadAddr, Ret, Jal, CondBr, BrTable, Udf, Jalr, StackProbeLoop, Call, CallInd, ReturnCall, ReturnCallInd}
+use Rattle.rv_inst.specs.declared.inst.Inst.TheVariants.{Nop0, Nop4, EBreak, SequencePoint, Args, Rets, DummyUse, Unwind, EmitIsland, RawData, Lui, AluRRR, AluRRImm12, Mov, MovFromPReg, Select, Load, Store, LoadAddr, Ret, Jal, CondBr, BrTable, Udf, Jalr, StackProbeLoop, Call, CallInd, ReturnCall, ReturnCallInd}
 use Rattle.rv_inst.specs.Addresses.{is_distant}
 use Rattle.rv_inst.specs.Context.{Context}
 use Rattle.rv_inst.specs.Operands.{tail_call_of, target_labels}
@@ -47,8 +47,6 @@ is_plain (Unwind inst) = false
 is_plain (EmitIsland needed_space) = false
 is_plain (RawData bytes) = false
 is_plain (Lui rd imm) = is_usable rd.reg
-is_plain (Auipc rd imm) = false
-is_plain (LoadInlineConst rd type imm) = false
 is_plain (AluRRR op rd rs1 rs2) = list_all is_usable (rd.reg ∷ rs1 ∷ rs2 ∷ [])
 is_plain (AluRRImm12 op rd rs imm) = list_all is_usable (rd.reg ∷ rs ∷ []) && not (is_beyond (shift_limit (immediate_of op)) imm.value)
 is_plain (Mov rd rm type) = list_all is_usable (rd.reg ∷ rm ∷ []) && is_int_type type

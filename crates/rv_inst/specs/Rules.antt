@@ -10,7 +10,6 @@ use Rattle.rv_base.specs.declared.call.RetLocation.{RetLocation}
 use Rattle.rv_base.specs.declared.call.RetLocation.TheVariants.{Reg as InReg, Stack as OnStack}
 use Rattle.rv_base.specs.declared.frame.FrameLayout.{FrameLayout}
 use Rattle.rv_base.specs.declared.ir_type.IrType.{IrType}
-use Rattle.rv_base.specs.declared.ir_type.IrType.TheVariants.{I8, I16, I32, I64, I128, F16, F32, F64, F128, Vector as VectorOf}
 use Rattle.rv_base.specs.declared.label.MachLabel.{MachLabel}
 use Rattle.rv_base.specs.declared.regs.PReg.{PReg}
 use Rattle.rv_base.specs.declared.regs.Reg.{Reg}
@@ -23,7 +22,6 @@ use Rattle.rv_base.specs.declared.value_regs.ValueRegs.TheVariants.{One, Two}
 use Rattle.rv_base.specs.ValueRegs.{count_of}
 use Rattle.rv_base.specs.declared.constant.Constant.{Constant}
 use Rattle.rv_base.specs.AMode.{registers_of, own_offset, base_of}
-use Rattle.rv_base.specs.IrType.{bits_of}
 use Rattle.rv_base.specs.Regs.{class_of}
 use Rattle.mach_labels.specs.Table.{first_inner}
 use Rattle.rv_ops.specs.Memory.{load_class, store_class}
@@ -31,15 +29,16 @@ use Rattle.rv_ops.specs.Operations.{immediate_of, shift_limit}
 use Rattle.rv_inst.specs.declared.inst.Line.{Line}
 use Rattle.rv_inst.specs.declared.inst.Line.TheVariants.{Inst as Put, Bind}
 use Rattle.rv_inst.specs.declared.inst.Inst.{Inst}
-use Rattle.rv_inst.specs.declared.inst.Inst.TheVariants.{Nop0, Nop4, EBreak, SequencePoint, Args, Rets, DummyUse, Unwind, EmitIsland, RawData, Lui, Auipc, LoadInlineConst, AluRRR, AluRRImm12, Mov, MovFromPReg, Select, Load, Store, LoadAddr, Ret, Jal, CondBr, BrTable, Udf, Jalr, StackProbeLoop, Call, CallInd, ReturnCall, ReturnCallInd}
+use Rattle.rv_inst.specs.declared.inst.Inst.TheVariants.{Nop0, Nop4, EBreak, SequencePoint, Args, Rets, DummyUse, Unwind, EmitIsland, RawData, Lui, AluRRR, AluRRImm12, Mov, MovFromPReg, Select, Load, Store, LoadAddr, Ret, Jal, CondBr, BrTable, Udf, Jalr, StackProbeLoop, Call, CallInd, ReturnCall, ReturnCallInd}
 use Rattle.rv_inst.specs.declared.inst.CondBrTarget.{CondBrTarget}
 use Rattle.rv_inst.specs.declared.inst.CondBrTarget.TheVariants.{Label as ToLabel, Fallthrough}
 use Rattle.rv_inst.specs.declared.error.Rule.{Rule}
 use Rattle.rv_inst.specs.declared.error.Rule.TheVariants.{Virtual, Class, Reserved, Zero, Clash, BadType, Range, Rounding, Width, Constant as ConstantRule, EmptyTable, NoTarget, Label, TailArgs, DataSize}
 use Rattle.rv_inst.specs.Addresses.{is_distant}
 use Rattle.rv_inst.specs.Context.{Context}
-use Rattle.rv_inst.specs.Operands.{all_of, is_float_class, written_in, result_registers, inst_registers, inst_labels, tail_call_of, targets_of}
+use Rattle.rv_inst.specs.Operands.{all_of, written_in, result_registers, inst_registers, inst_labels, tail_call_of, targets_of}
 use Rattle.rv_inst.specs.Returns.{result_load}
+pub use Rattle.rv_inst.specs.Classes.{is_int_class, is_vector_class, same_class, class_for, has_class, is_int_type, is_word_type}
 use Rattle.rv_inst.specs.Descriptions.{Description, UnitWord, Word, Computes, Gives, all_in, changed_by, description_of, result_in, sequence_registers}
 use Rattle.rv_inst.specs.declared.sequence.Sequence.{Sequence}
 use Rattle.rv_inst.specs.declared.units.Facts.{Facts}
@@ -54,11 +53,6 @@ abbrev pub is_virtual : Reg → Bool
 is_virtual (Real p) = false
 is_virtual (AVirtual class index) = true
 
-abbrev pub is_int_class : RegClass → Bool
-is_int_class Int = true
-is_int_class Float = false
-is_int_class Vector = false
-
 abbrev pub is_other_class : Reg → Bool
 is_other_class r = not (is_int_class (class_of r))
 
@@ -69,16 +63,6 @@ is_reserved_x p = is_int_class p.class && nat_le 30 p.number
 abbrev pub is_reserved : Reg → Bool
 is_reserved (Real p) = is_reserved_x p
 is_reserved (AVirtual class index) = false
-
-abbrev pub is_vector_class : RegClass → Bool
-is_vector_class Int = false
-is_vector_class Float = false
-is_vector_class Vector = true
-
-abbrev pub same_class : RegClass → RegClass → Bool
-same_class Int s = is_int_class s
-same_class Float s = is_float_class s
-same_class Vector s = is_vector_class s
 
 -- whether a register is of another class than this
 abbrev pub is_not_of : RegClass → Reg → Bool
@@ -153,19 +137,6 @@ is_stack r = is_real_x 2 r
 abbrev pub is_stack_or_frame : PReg → Bool
 is_stack_or_frame p = is_x 2 p || is_x 8 p
 
--- the class of a type's registers; integers and floating-point numbers of 128 bits have none
-abbrev pub class_for : IrType → Option RegClass
-class_for I8 = Some Int
-class_for I16 = Some Int
-class_for I32 = Some Int
-class_for I64 = Some Int
-class_for I128 = None
-class_for F16 = Some Float
-class_for F32 = Some Float
-class_for F64 = Some Float
-class_for F128 = None
-class_for (VectorOf v) = Some Vector
-
 abbrev pub is_outside : Option RegClass → RegClass → Bool
 is_outside None class = false
 is_outside (Some asked) class = not (same_class class asked)
@@ -215,14 +186,6 @@ is_fifth r = is_real_x 5 r
 
 -- ---- types and numbers
 
-abbrev pub has_class : Option RegClass → RegClass → Bool
-has_class None class = false
-has_class (Some asked) class = same_class asked class
-
--- an integer of at most 64 bits
-abbrev pub is_int_type : IrType → Bool
-is_int_type type = has_class (class_for type) Int
-
 -- a floating-point number of at most 64 bits
 abbrev pub is_float_type : IrType → Bool
 is_float_type type = has_class (class_for type) Float
@@ -244,10 +207,6 @@ is_loaded d = is_loaded_from d.location
 -- whether it is on the stack, and of another type
 abbrev pub is_unloadable : CallRetPair → Bool
 is_unloadable d = is_stacked d && not (is_loaded d)
-
--- an integer of 32 or 64 bits
-abbrev pub is_word_type : IrType → Bool
-is_word_type type = is_int_type type && nat_le 32 (bits_of type)
 
 abbrev pub is_beyond : Option ℕ → ℤ → Bool
 is_beyond None n = false
@@ -299,7 +258,7 @@ unit_faults w = record (has_other_class (list_any is_out_of_place w.places)) { r
 
 -- of one whose description gives it: its registers are integer ones, and a result that is computed in steps isn't x0
 abbrev pub facts_faults : Facts → Faults
-facts_faults f = record (has_other_class (list_any is_other_class (all_in f.regs))) { zeroed = f.in_steps && list_any is_zero (result_in f.regs.rd); range = f.beyond }
+facts_faults f = record (has_other_class (list_any is_other_class (all_in f.regs))) { zeroed = f.in_steps && list_any is_zero (result_in f.regs.rd); type = f.mistyped; range = f.beyond }
 
 abbrev pub described_faults : Description → Faults
 described_faults (Word w) = unit_faults w
@@ -322,8 +281,6 @@ faults_of (Unwind inst) = has_other_class false
 faults_of (EmitIsland needed_space) = has_other_class false
 faults_of (RawData bytes) = record (has_other_class false) { size = not (length bytes == 4 || length bytes == 8) }
 faults_of (Lui rd imm) = has_other_class (list_any is_other_class (rd.reg ∷ []))
-faults_of (Auipc rd imm) = has_other_class (list_any is_other_class (rd.reg ∷ []))
-faults_of (LoadInlineConst rd type imm) = record (has_other_class (list_any is_other_class (rd.reg ∷ []))) { zeroed = list_any is_zero (rd.reg ∷ []); type = not (is_word_type type) }
 faults_of (AluRRR op rd rs1 rs2) = has_other_class (list_any is_other_class (rd.reg ∷ rs1 ∷ rs2 ∷ []))
 faults_of (AluRRImm12 op rd rs imm) = record (has_other_class (list_any is_other_class (rd.reg ∷ rs ∷ []))) { range = is_beyond (shift_limit (immediate_of op)) imm.value }
 faults_of (Mov rd rm type) = record (has_other_class (differ_in_class rd.reg rm)) { type = not (is_movable (class_of rm) type) }

@@ -1,8 +1,7 @@
 -- How many bytes an instruction puts, which operation stands for one of one machine word, what it records, where it asks for an island,
 -- and how many bytes it counts for.
-use Rattle.std.specs.Prelude.{ℕ, ◌+◌, ◌-◌, ◌/◌, ◌*◌, length, nat_eq, if◌then◌else◌, Option, Some, None, pos, Bool, true, false, List, [], ◌∷◌, count_by, ℤ, ◌-ℤ◌, ◌++◌, unwrap_or}
+use Rattle.std.specs.Prelude.{ℕ, ◌+◌, ◌-◌, ◌*◌, length, nat_eq, if◌then◌else◌, Option, Some, None, pos, Bool, true, false, List, [], ◌∷◌, count_by, ℤ, ◌-ℤ◌, ◌++◌, unwrap_or}
 use Rattle.std.proofs.Common.{refl}
-use Rattle.rv_base.specs.IrType.{bits_of}
 use Rattle.rv_base.specs.Regs.{class_of, number_of}
 use Rattle.rv_base.specs.declared.call.TryCallInfo.{TryCallInfo}
 use Rattle.rv_base.specs.declared.flags.IsaFlags.{IsaFlags}
@@ -20,13 +19,11 @@ use Rattle.rv_ops.specs.FloatFields.{width_of}
 use Rattle.rv_ops.specs.declared.memory.LoadOP.{LoadOP}
 use Rattle.rv_ops.specs.declared.memory.StoreOP.{StoreOP}
 use Rattle.rv_machine.specs.declared.decoding.Decoded.{Decoded}
-use Rattle.rv_machine.specs.declared.ops.MOp.TheVariants.{Base}
-use Rattle.rv_machine.specs.declared.ops.BaseOp.TheVariants.{Auipc as AuipcOp}
-use Rattle.rv_encode.specs.Operations.{decoded, decoded_rri, has_load, has_store, decoded_fpu_rrr}
+use Rattle.rv_encode.specs.Operations.{decoded_rri, has_load, has_store, decoded_fpu_rrr}
 use Rattle.mach_records.specs.declared.records.Event.TheVariants as event
 use Rattle.mach_records.specs.declared.records.FinalizedRelocTarget.TheVariants.{ExternalName as ToName}
 use Rattle.mach_records.specs.declared.records.MachRecord.{MachRecord}
-use Rattle.rv_inst.specs.Addresses.{Location, Based, AtLabel, AtConstant, location_of, is_near, inline_size}
+use Rattle.rv_inst.specs.Addresses.{Location, Based, AtLabel, AtConstant, location_of, is_near}
 use Rattle.rv_inst.specs.Context.{Context}
 use Rattle.rv_inst.specs.Forms.{short_rrr, short_rri, short_lui, short_jalr, short_ebreak, short_load, short_store, jump_size}
 pub use Rattle.rv_inst.specs.InstCode.{Size, Exactly, AtMost, IsOfSize, most_of, Request, InstCode, words, one_word, trap_size, is_byte, extend_operation}
@@ -40,7 +37,7 @@ use Rattle.rv_inst.specs.Descriptions.{Description, UnitWord, Word, Computes, Gi
 use Rattle.rv_inst.specs.declared.inst.Line.{Line}
 use Rattle.rv_inst.specs.declared.inst.Line.TheVariants.{Inst as Put, Bind}
 use Rattle.rv_inst.specs.declared.inst.Inst.{Inst}
-use Rattle.rv_inst.specs.declared.inst.Inst.TheVariants.{Nop0, Nop4, EBreak, SequencePoint, Args, Rets, DummyUse, Unwind, EmitIsland, RawData, Lui, Auipc, LoadInlineConst, AluRRR, AluRRImm12, Mov, MovFromPReg, Select, Load, Store, LoadAddr, Ret, Jal, CondBr, BrTable, Udf, Jalr, StackProbeLoop, Call, CallInd, ReturnCall, ReturnCallInd}
+use Rattle.rv_inst.specs.declared.inst.Inst.TheVariants.{Nop0, Nop4, EBreak, SequencePoint, Args, Rets, DummyUse, Unwind, EmitIsland, RawData, Lui, AluRRR, AluRRImm12, Mov, MovFromPReg, Select, Load, Store, LoadAddr, Ret, Jal, CondBr, BrTable, Udf, Jalr, StackProbeLoop, Call, CallInd, ReturnCall, ReturnCallInd}
 use Rattle.rv_inst.specs.declared.inst.CondBrTarget.{CondBrTarget}
 use Rattle.rv_inst.specs.declared.inst.CondBrTarget.TheVariants.{Label, Fallthrough}
 
@@ -148,8 +145,6 @@ inst_code context (Unwind inst) = record (words (Exactly 0)) { records = λ star
 inst_code context (EmitIsland needed_space) = after_island 0 (λ rest. needed_space) needed_space
 inst_code context (RawData bytes) = words (Exactly (length bytes))
 inst_code context (Lui rd imm) = one_word (short_lui context.flags (number_of rd.reg) imm.value)
-inst_code context (Auipc rd imm) = one_word (decoded (Base AuipcOp) (number_of rd.reg) 0 0 imm.value)
-inst_code context (LoadInlineConst rd type imm) = words (Exactly (inline_size context.flags (bits_of type / 8)))
 inst_code context (AluRRR op rd rs1 rs2) = one_word (short_rrr context.flags op (number_of rd.reg) (number_of rs1) (number_of rs2))
 inst_code context (AluRRImm12 op rd rs imm) = one_word (short_rri context.flags op (number_of rd.reg) (number_of rs) imm.value)
 inst_code context (Mov rd rm type) = record (words (move_size (number_of rd.reg) (number_of rm))) { operation = move_operation context.flags (class_of rd.reg) type (number_of rd.reg) (number_of rm) }

@@ -146,7 +146,6 @@ pub fn has_zero(inst: &Inst) -> bool
     ensures { result ≡ has_zero inst.now }
 {
     match inst {
-        Inst::LoadInlineConst { rd, ty: _, imm: _ } => any_is_zero(&[rd.reg]),
         Inst::Load {
             rd,
             op: _,

@@ -11,7 +11,7 @@ use crate::addresses::is_distant;
 use crate::inst::{Family, Inst};
 use crate::results::{any_is_high, any_is_unloadable};
 use crate::sequence::sequence_has_bad_type;
-use crate::units::facts_are_beyond;
+use crate::units::{facts_are_beyond, facts_are_mistyped};
 use rv_base::{CallRetPair as Def, IrType, Reg, RegClass};
 use rv_imms::Imm12;
 use rv_ops::AluOPRRI;
@@ -27,7 +27,8 @@ pub fn is_int_type(ty: IrType) -> bool
     }
 }
 
-fn is_word_type(ty: IrType) -> bool
+/// Returns whether a type is an integer of 32 or 64 bits.
+pub fn is_word_type(ty: IrType) -> bool
     ensures { result ≡ is_word_type ty }
 {
     match ty {
@@ -65,12 +66,13 @@ pub fn has_bad_type(inst: &Inst) -> bool
     ensures { result ≡ has_bad_type inst.now }
 {
     match inst {
-        Inst::LoadInlineConst { rd: _, ty, imm: _ } => !is_word_type(*ty),
         Inst::Mov { rd: _, rm, ty } => is_bad_move(*rm, *ty),
         Inst::Call { info } => any_is_unloadable(info.as_ref().defs.as_slice()),
         Inst::CallInd { info } => any_is_unloadable(info.as_ref().defs.as_slice()),
         _ => match inst.family() {
             Family::Loop => sequence_has_bad_type(inst),
+            Family::Integer | Family::Memory | Family::Control | Family::Symbols =>
+                facts_are_mistyped(inst),
             _ => false,
         },
     }

@@ -203,8 +203,6 @@ pub fn integer_has(test: RegisterTest, inst: &Inst) -> bool
 {
     match inst {
         Inst::Lui { rd, imm: _ } => any_of(test, &[rd.reg]),
-        Inst::Auipc { rd, imm: _ } => any_of(test, &[rd.reg]),
-        Inst::LoadInlineConst { rd, ty: _, imm: _ } => any_of(test, &[rd.reg]),
         Inst::AluRRR {
             alu_op: _,
             rd,

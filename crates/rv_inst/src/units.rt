@@ -9,11 +9,12 @@ ghost use Rattle.rv_inst.specs.Faults.{has_bad_rounding, has_bad_width, is_mispl
 ghost use Rattle.rv_inst.specs.Operands.{family_of, inst_registers};
 ghost use Rattle.rv_inst.specs.RegisterTests.{test_of, place_test};
 ghost use Rattle.rv_inst.specs.Rules.{facts_faults, is_not_of, is_zero};
-ghost use Rattle.rv_inst.specs.Descriptions.{IsFineUnit, UnitWord, all_in, all_replaced, conversion_trap, described_regs, facts_of, is_beyond_by, only_regs, place, places_in, registers_by_facts, registers_in, regs, result_in, source_in, stepwise, targets_by_facts, trap_in, unit_word, with_registers};
+ghost use Rattle.rv_inst.specs.Descriptions.{IsFineUnit, UnitWord, all_in, all_replaced, conversion_trap, described_regs, facts_of, is_beyond_by, is_mistyped_by, only_regs, place, places_in, registers_by_facts, registers_in, regs, result_in, source_in, stepwise, targets_by_facts, trap_in, unit_word, with_registers};
 ghost use Rattle.rv_inst.specs.declared.inst.Family.TheVariants.{Float};
 
 use crate::clashes::{any_is_zero, same_class};
 use crate::inst::Inst;
+use crate::ranges::is_word_type;
 use crate::registers::{RegisterTest, any_of, holds};
 use crate::targets::Targets;
 use rv_base::{Reg, RegClass, TrapCode, WritableReg};
@@ -44,6 +45,8 @@ pub struct Facts {
     pub regs: InstRegs,
     /// Whether its result is computed in steps, and so isn't x0.
     pub in_steps: bool,
+    /// Whether it has a type that it doesn't take.
+    pub mistyped: bool,
     /// Whether a number is out of its range.
     pub beyond: bool,
     /// The label whose address it takes, where it takes one.
@@ -248,6 +251,17 @@ pub fn facts_have_zero(inst: &Inst) -> bool
     }
 }
 
+/// Returns whether such an instruction has a type that it doesn't take.
+#[inline(never)]
+pub fn facts_are_mistyped(inst: &Inst) -> bool
+    ensures { result ≡ is_mistyped_by (facts_of inst.now) }
+{
+    match inst.facts() {
+        Some(facts) => facts.mistyped,
+        None => false,
+    }
+}
+
 /// Returns whether such an instruction has a number that is out of its range.
 #[inline(never)]
 pub fn facts_are_beyond(inst: &Inst) -> bool
@@ -284,6 +298,11 @@ impl Inst {
             } => Some(Facts {
                 beyond: *from_bits < 1 || *from_bits > 64,
                 ..only_regs(regs(Some(*rd), Some(*rn), None, None))
+            }),
+            Inst::Auipc { rd, .. } => Some(only_regs(regs(Some(*rd), None, None, None))),
+            Inst::LoadInlineConst { rd, ty, .. } => Some(Facts {
+                mistyped: !is_word_type(*ty),
+                ..stepwise(*rd)
             }),
             Inst::LabelAddress { dst, label } => Some(Facts {
                 targets: Targets::Refers(*label),
@@ -454,6 +473,15 @@ impl Inst {
                 from_bits,
                 to_bits,
             },
+            Inst::Auipc { rd, imm } => Inst::Auipc {
+                rd: registers.rd.unwrap_or(rd),
+                imm,
+            },
+            Inst::LoadInlineConst { rd, ty, imm } => Inst::LoadInlineConst {
+                rd: registers.rd.unwrap_or(rd),
+                ty,
+                imm,
+            },
             Inst::LabelAddress { dst, label } => Inst::LabelAddress {
                 dst: registers.rd.unwrap_or(dst),
                 label,
@@ -497,6 +525,7 @@ fn only_regs(regs: InstRegs) -> Facts
     Facts {
         regs,
         in_steps: false,
+        mistyped: false,
         beyond: false,
         targets: Targets::Nowhere,
     }

@@ -20,7 +20,7 @@ use Rattle.rv_base.specs.declared.value_regs.ValueRegs.TheVariants.{One, Two}
 use Rattle.rv_base.specs.AMode.{registers_of}
 use Rattle.rv_ops.specs.declared.compare.IntegerCompare.{IntegerCompare}
 use Rattle.rv_inst.specs.declared.inst.Inst.{Inst}
-use Rattle.rv_inst.specs.declared.inst.Inst.TheVariants.{Nop0, Nop4, EBreak, SequencePoint, Args, Rets, DummyUse, Unwind, EmitIsland, RawData, Lui, Auipc, LoadInlineConst, AluRRR, AluRRImm12, Mov, MovFromPReg, Select, Load, Store, LoadAddr, Ret, Jal, CondBr, BrTable, Udf, Jalr, StackProbeLoop, Call, CallInd, ReturnCall, ReturnCallInd}
+use Rattle.rv_inst.specs.declared.inst.Inst.TheVariants.{Nop0, Nop4, EBreak, SequencePoint, Args, Rets, DummyUse, Unwind, EmitIsland, RawData, Lui, AluRRR, AluRRImm12, Mov, MovFromPReg, Select, Load, Store, LoadAddr, Ret, Jal, CondBr, BrTable, Udf, Jalr, StackProbeLoop, Call, CallInd, ReturnCall, ReturnCallInd}
 use Rattle.rv_inst.specs.Operands.{all_of, written_in, location_registers, arg_registers, ret_registers, use_registers, def_registers, inst_registers}
 use Rattle.rv_inst.specs.Rules.{is_virtual, is_reserved}
 use Rattle.rv_inst.specs.Descriptions.{Description, Word, Computes, Gives, description_of, registers_in, result_in, sources_in, third}
@@ -164,8 +164,6 @@ quiet test (Unwind inst) placed c own = refl
 quiet test (EmitIsland needed_space) placed c own = refl
 quiet test (RawData bytes) placed c own = refl
 quiet test (Lui rd imm) placed c own = either c.0 refl
-quiet test (Auipc rd imm) placed c own = either c.0 refl
-quiet test (LoadInlineConst rd type imm) placed c own = either c.0 refl
 quiet test (AluRRR op rd rs1 rs2) placed c own = either c.1.1.0 (either c.0 (either c.1.0 refl))
 quiet test (AluRRImm12 op rd rs imm) placed c own = either c.1.0 (either c.0 refl)
 quiet test (Mov rd rm type) placed c own = either c.1.0 (either c.0 refl)

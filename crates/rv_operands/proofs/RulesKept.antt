@@ -22,7 +22,7 @@ use Rattle.rv_ops.specs.declared.memory.StoreOP.{StoreOP}
 use Rattle.rv_ops.specs.Memory.{load_class, store_class}
 use Rattle.rv_inst.specs.declared.inst.SelectInfo.{SelectInfo}
 use Rattle.rv_inst.specs.declared.inst.Inst.{Inst}
-use Rattle.rv_inst.specs.declared.inst.Inst.TheVariants.{Nop0, Nop4, EBreak, SequencePoint, Args, Rets, DummyUse, Unwind, EmitIsland, RawData, Lui, Auipc, LoadInlineConst, AluRRR, AluRRImm12, Mov, MovFromPReg, Select, Load, Store, LoadAddr, Ret, Jal, CondBr, BrTable, Udf, Jalr, StackProbeLoop, Call, CallInd, ReturnCall, ReturnCallInd}
+use Rattle.rv_inst.specs.declared.inst.Inst.TheVariants.{Nop0, Nop4, EBreak, SequencePoint, Args, Rets, DummyUse, Unwind, EmitIsland, RawData, Lui, AluRRR, AluRRImm12, Mov, MovFromPReg, Select, Load, Store, LoadAddr, Ret, Jal, CondBr, BrTable, Udf, Jalr, StackProbeLoop, Call, CallInd, ReturnCall, ReturnCallInd}
 use Rattle.rv_inst.specs.Operands.{all_of, written_in}
 use Rattle.rv_inst.specs.Faults.{is_misplaced, has_zero, has_clash}
 use Rattle.rv_inst.specs.Rules.{is_virtual, is_reserved, is_out_of_place, is_uneven, values_differ, select_clash, clash, is_fifth, is_other_class, is_stack_or_frame, is_zero, described_faults, results_clash}
@@ -197,8 +197,6 @@ three (Unwind inst) c = record { class = refl; zero = refl; clash = refl }
 three (EmitIsland needed_space) c = record { class = refl; zero = refl; clash = refl }
 three (RawData bytes) c = record { class = refl; zero = refl; clash = refl }
 three (Lui rd imm) c = record { class = either (not_other rd.reg c.classes.0) refl; zero = refl; clash = refl }
-three (Auipc rd imm) c = record { class = either (not_other rd.reg c.classes.0) refl; zero = refl; clash = refl }
-three (LoadInlineConst rd type imm) c = record { class = either (not_other rd.reg c.classes.0) refl; zero = either c.free.0.not_zero refl; clash = refl }
 three (AluRRR op rd rs1 rs2) c = record { class = either (not_other rd.reg c.classes.1.1.0) (either (not_other rs1 c.classes.0) (either (not_other rs2 c.classes.1.0) refl)); zero = refl; clash = refl }
 three (AluRRImm12 op rd rs imm) c = record { class = either (not_other rd.reg c.classes.1.0) (either (not_other rs c.classes.0) refl); zero = refl; clash = refl }
 three (Mov rd rm type) c = record { class = alike (class_of rd.reg) (class_of rm) c.classes.1.0; zero = refl; clash = refl }

@@ -14,7 +14,7 @@ use Rattle.rv_base.specs.declared.value_regs.ValueRegs.{ValueRegs}
 use Rattle.rv_base.specs.declared.value_regs.ValueRegs.TheVariants.{One, Two}
 use Rattle.rv_base.specs.Regs.{number_of}
 use Rattle.rv_inst.specs.declared.inst.Inst.{Inst}
-use Rattle.rv_inst.specs.declared.inst.Inst.TheVariants.{Nop0, Nop4, EBreak, SequencePoint, Args, Rets, DummyUse, Unwind, EmitIsland, RawData, Lui, Auipc, LoadInlineConst, AluRRR, AluRRImm12, Mov, MovFromPReg, Select, Load, Store, LoadAddr, Ret, Jal, CondBr, BrTable, Udf, Jalr, StackProbeLoop, Call, CallInd, ReturnCall, ReturnCallInd}
+use Rattle.rv_inst.specs.declared.inst.Inst.TheVariants.{Nop0, Nop4, EBreak, SequencePoint, Args, Rets, DummyUse, Unwind, EmitIsland, RawData, Lui, AluRRR, AluRRImm12, Mov, MovFromPReg, Select, Load, Store, LoadAddr, Ret, Jal, CondBr, BrTable, Udf, Jalr, StackProbeLoop, Call, CallInd, ReturnCall, ReturnCallInd}
 use Rattle.rv_inst.specs.Operands.{inst_temporaries}
 use Rattle.rv_operands.specs.Operand.{Operand}
 use Rattle.rv_operands.specs.Operands.{address_operands, read_operands, written_operands, arg_operand, ret_operand, use_operand, def_operand, located_operand, row_of, operands_of}
@@ -69,8 +69,6 @@ temporaries (Unwind inst) = refl
 temporaries (EmitIsland needed_space) = refl
 temporaries (RawData bytes) = refl
 temporaries (Lui rd imm) = refl
-temporaries (Auipc rd imm) = refl
-temporaries (LoadInlineConst rd type imm) = refl
 temporaries (AluRRR op rd rs1 rs2) = refl
 temporaries (AluRRImm12 op rd rs imm) = refl
 temporaries (Mov rd rm type) = refl

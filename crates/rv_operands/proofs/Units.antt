@@ -1,5 +1,5 @@
 -- The registers of an instruction that is described by them, and of a sequence, taken out of it, handed over and put back.
-use Rattle.std.specs.Prelude.{ℕ, List, [], Option, Some, None, is_some, true, Result, option_map}
+use Rattle.std.specs.Prelude.{List, [], Option, Some, None, is_some, true, Result, option_map}
 use Rattle.std.proofs.Common.{◌≡◌, refl, ap, sym, ◌∙◌, subst}
 use Rattle.rv_base.specs.declared.constraint.Constraint.{Constraint}
 use Rattle.rv_base.specs.declared.out_of_memory.OutOfMemory.{OutOfMemory}
@@ -24,7 +24,7 @@ use Rattle.rv_inst.specs.declared.inst.CondBrTarget.{CondBrTarget}
 use Rattle.rv_inst.specs.declared.inst.SelectInfo.{SelectInfo}
 use Rattle.rv_inst.specs.declared.inst.Family.TheVariants.{Integer, Memory, Control, Symbols, Float}
 use Rattle.rv_inst.specs.declared.inst.Inst.{Inst}
-use Rattle.rv_inst.specs.declared.inst.Inst.TheVariants.{Nop0, Lui, Auipc, LoadInlineConst, AluRRR, AluRRImm12, Mov, MovFromPReg, Select, Load, Store, LoadAddr, CondBr, BrTable, Jalr}
+use Rattle.rv_inst.specs.declared.inst.Inst.TheVariants.{Nop0, Lui, AluRRR, AluRRImm12, Mov, MovFromPReg, Select, Load, Store, LoadAddr, CondBr, BrTable, Jalr}
 use Rattle.rv_inst.specs.declared.sequence.Computation.{Computation}
 use Rattle.rv_inst.specs.declared.sequence.Sequence.{Sequence}
 use Rattle.rv_inst.specs.declared.units.InstRegs.{InstRegs}
@@ -56,18 +56,16 @@ symbol_asks Nop0 e = absurd (cc)
 symbol_asks inst e = cc
 
 -- of integer instructions, of those of memory and of those that go elsewhere all do so that aren't handed over each in its own way
-pub integer_asks : (inst : Inst) → ((rd : Writable Reg) (imm : Imm20) → inst ≡ Lui rd imm → ⊥) → ((rd : Writable Reg) (imm : Imm20) → inst ≡ Auipc rd imm → ⊥) → ((rd : Writable Reg) (type : IrType) (imm : ℕ) → inst ≡ LoadInlineConst rd type imm → ⊥) →
+pub integer_asks : (inst : Inst) → ((rd : Writable Reg) (imm : Imm20) → inst ≡ Lui rd imm → ⊥) →
     ((op : AluOPRRR) (rd : Writable Reg) (rs1 rs2 : Reg) → inst ≡ AluRRR op rd rs1 rs2 → ⊥) → ((op : AluOPRRI) (rd : Writable Reg) (rs : Reg) (imm : Imm12) → inst ≡ AluRRImm12 op rd rs imm → ⊥) → ((rd : Writable Reg) (rm : Reg) (type : IrType) → inst ≡ Mov rd rm type → ⊥) →
     ((rd : Writable Reg) (rm : PReg) → inst ≡ MovFromPReg rd rm → ⊥) → ((info : SelectInfo) → inst ≡ Select info → ⊥) → family_of inst ≡ Integer → constraints_of inst ≡ regs_requests (described_regs inst)
-integer_asks (Lui rd imm) lui auipc constant rrr rri mov preg select e = absurd (lui rd imm refl)
-integer_asks (Auipc rd imm) lui auipc constant rrr rri mov preg select e = absurd (auipc rd imm refl)
-integer_asks (LoadInlineConst rd type imm) lui auipc constant rrr rri mov preg select e = absurd (constant rd type imm refl)
-integer_asks (AluRRR op rd rs1 rs2) lui auipc constant rrr rri mov preg select e = absurd (rrr op rd rs1 rs2 refl)
-integer_asks (AluRRImm12 op rd rs imm) lui auipc constant rrr rri mov preg select e = absurd (rri op rd rs imm refl)
-integer_asks (Mov rd rm type) lui auipc constant rrr rri mov preg select e = absurd (mov rd rm type refl)
-integer_asks (MovFromPReg rd rm) lui auipc constant rrr rri mov preg select e = absurd (preg rd rm refl)
-integer_asks (Select info) lui auipc constant rrr rri mov preg select e = absurd (select info refl)
-integer_asks inst lui auipc constant rrr rri mov preg select e = cc
+integer_asks (Lui rd imm) lui rrr rri mov preg select e = absurd (lui rd imm refl)
+integer_asks (AluRRR op rd rs1 rs2) lui rrr rri mov preg select e = absurd (rrr op rd rs1 rs2 refl)
+integer_asks (AluRRImm12 op rd rs imm) lui rrr rri mov preg select e = absurd (rri op rd rs imm refl)
+integer_asks (Mov rd rm type) lui rrr rri mov preg select e = absurd (mov rd rm type refl)
+integer_asks (MovFromPReg rd rm) lui rrr rri mov preg select e = absurd (preg rd rm refl)
+integer_asks (Select info) lui rrr rri mov preg select e = absurd (select info refl)
+integer_asks inst lui rrr rri mov preg select e = cc
 
 pub memory_asks : (inst : Inst) → ((rd : Writable Reg) (op : LoadOP) (flags : MemFlagsData) (from : AMode) → inst ≡ Load rd op flags from → ⊥) → ((src : Reg) (op : StoreOP) (flags : MemFlagsData) (to : AMode) → inst ≡ Store src op flags to → ⊥) →
     ((rd : Writable Reg) (mem : AMode) → inst ≡ LoadAddr rd mem → ⊥) → family_of inst ≡ Memory → constraints_of inst ≡ regs_requests (described_regs inst)

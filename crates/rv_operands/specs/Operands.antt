@@ -20,7 +20,7 @@ use Rattle.rv_base.specs.declared.value_regs.ValueRegs.TheVariants.{One, Two}
 use Rattle.rv_base.specs.Regs.{class_of, int_reg}
 use Rattle.rv_ops.specs.Memory.{load_class, store_class}
 use Rattle.rv_inst.specs.declared.inst.Inst.{Inst}
-use Rattle.rv_inst.specs.declared.inst.Inst.TheVariants.{Nop0, Nop4, EBreak, SequencePoint, Args, Rets, DummyUse, Unwind, EmitIsland, RawData, Lui, Auipc, LoadInlineConst, AluRRR, AluRRImm12, Mov, MovFromPReg, Select, Load, Store, LoadAddr, Ret, Jal, CondBr, BrTable, Udf, Jalr, StackProbeLoop, Call, CallInd, ReturnCall, ReturnCallInd}
+use Rattle.rv_inst.specs.declared.inst.Inst.TheVariants.{Nop0, Nop4, EBreak, SequencePoint, Args, Rets, DummyUse, Unwind, EmitIsland, RawData, Lui, AluRRR, AluRRImm12, Mov, MovFromPReg, Select, Load, Store, LoadAddr, Ret, Jal, CondBr, BrTable, Udf, Jalr, StackProbeLoop, Call, CallInd, ReturnCall, ReturnCallInd}
 use Rattle.rv_inst.specs.declared.inst.SelectInfo.{SelectInfo}
 use Rattle.rv_inst.specs.declared.sequence.Sequence.{Sequence}
 use Rattle.rv_inst.specs.declared.units.PlacedReg.{PlacedReg}
@@ -151,8 +151,6 @@ row_of (Unwind inst) = record (row []) { named = unwind_registers inst }
 row_of (EmitIsland needed_space) = row []
 row_of (RawData bytes) = row []
 row_of (Lui rd imm) = row (writes rd ∷ [])
-row_of (Auipc rd imm) = row (writes rd ∷ [])
-row_of (LoadInlineConst rd type imm) = row (writes rd ∷ [])
 row_of (AluRRR op rd rs1 rs2) = row (reads rs1 ∷ reads rs2 ∷ writes rd ∷ [])
 row_of (AluRRImm12 op rd rs imm) = row (reads rs ∷ writes rd ∷ [])
 row_of (Mov rd rm type) = row (record { register = rm; class = Some (class_of rd.reg); access = Reads } ∷ record { register = rd.reg; class = Some (class_of rm); access = Writes } ∷ [])

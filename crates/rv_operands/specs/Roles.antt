@@ -6,7 +6,7 @@ use Rattle.rv_base.specs.declared.regs.Writable.{Writable}
 use Rattle.rv_base.specs.declared.call.TryCallInfo.{TryCallInfo}
 use Rattle.rv_inst.specs.Descriptions.{Description, description_of}
 use Rattle.rv_inst.specs.declared.inst.Inst.{Inst}
-use Rattle.rv_inst.specs.declared.inst.Inst.TheVariants.{Nop0, Nop4, EBreak, SequencePoint, Args, Rets, DummyUse, Unwind, EmitIsland, RawData, Lui, Auipc, LoadInlineConst, AluRRR, AluRRImm12, Mov, MovFromPReg, Select, Load, Store, LoadAddr, Ret, Jal, CondBr, BrTable, Udf, Jalr, StackProbeLoop, Call, CallInd, ReturnCall, ReturnCallInd}
+use Rattle.rv_inst.specs.declared.inst.Inst.TheVariants.{Nop0, Nop4, EBreak, SequencePoint, Args, Rets, DummyUse, Unwind, EmitIsland, RawData, Lui, AluRRR, AluRRImm12, Mov, MovFromPReg, Select, Load, Store, LoadAddr, Ret, Jal, CondBr, BrTable, Udf, Jalr, StackProbeLoop, Call, CallInd, ReturnCall, ReturnCallInd}
 use Rattle.rv_operands.specs.declared.kinds.CallType.{CallType}
 use Rattle.rv_operands.specs.declared.kinds.CallType.TheVariants.{None as NoCall, Regular, TailCall}
 use Rattle.rv_operands.specs.declared.kinds.MachTerminator.{MachTerminator}
@@ -51,8 +51,6 @@ roles_of (Unwind inst) = plain
 roles_of (EmitIsland needed_space) = plain
 roles_of (RawData bytes) = plain
 roles_of (Lui rd imm) = plain
-roles_of (Auipc rd imm) = plain
-roles_of (LoadInlineConst rd type imm) = plain
 roles_of (AluRRR op rd rs1 rs2) = plain
 roles_of (AluRRImm12 op rd rs imm) = plain
 roles_of (Mov rd rm type) = record plain { moved = Some (rd, rm) }

@@ -19,7 +19,7 @@ use Rattle.rv_base.specs.Regs.{class_of}
 use Rattle.rv_ops.specs.declared.compare.IntegerCompare.{IntegerCompare}
 use Rattle.rv_inst.specs.declared.inst.SelectInfo.{SelectInfo}
 use Rattle.rv_inst.specs.declared.inst.Inst.{Inst}
-use Rattle.rv_inst.specs.declared.inst.Inst.TheVariants.{Nop0, Nop4, EBreak, SequencePoint, Args, Rets, DummyUse, Unwind, EmitIsland, RawData, Lui, Auipc, LoadInlineConst, AluRRR, AluRRImm12, Mov, MovFromPReg, Select, Load, Store, LoadAddr, Ret, Jal, CondBr, BrTable, Udf, Jalr, StackProbeLoop, Call, CallInd, ReturnCall, ReturnCallInd}
+use Rattle.rv_inst.specs.declared.inst.Inst.TheVariants.{Nop0, Nop4, EBreak, SequencePoint, Args, Rets, DummyUse, Unwind, EmitIsland, RawData, Lui, AluRRR, AluRRImm12, Mov, MovFromPReg, Select, Load, Store, LoadAddr, Ret, Jal, CondBr, BrTable, Udf, Jalr, StackProbeLoop, Call, CallInd, ReturnCall, ReturnCallInd}
 use Rattle.rv_inst.specs.Descriptions.{Description, Given, UnitWord, Word, Computes, Gives, description_of, in_order, registers_in, regs}
 use Rattle.rv_inst.specs.declared.sequence.Sequence.{Sequence}
 use Rattle.rv_inst.specs.declared.units.InstRegs.{InstRegs}
@@ -117,8 +117,6 @@ shape_of (Unwind inst) = Unwind inst
 shape_of (EmitIsland needed_space) = EmitIsland needed_space
 shape_of (RawData bytes) = RawData bytes
 shape_of (Lui rd imm) = Lui (blanked rd) imm
-shape_of (Auipc rd imm) = Auipc (blanked rd) imm
-shape_of (LoadInlineConst rd type imm) = LoadInlineConst (blanked rd) type imm
 shape_of (AluRRR op rd rs1 rs2) = AluRRR op (blanked rd) (blank rs1) (blank rs2)
 shape_of (AluRRImm12 op rd rs imm) = AluRRImm12 op (blanked rd) (blank rs) imm
 shape_of (Mov rd rm type) = Mov (blanked rd) (blank rm) type

@@ -54,14 +54,6 @@ fn integer_operands<V: OperandVisitor>(inst: Inst, collector: &mut V) -> Handed
             let handed = writes_one(&mut rd, collector);
             (Inst::Lui { rd, imm }, handed)
         }
-        Inst::Auipc { mut rd, imm } => {
-            let handed = writes_one(&mut rd, collector);
-            (Inst::Auipc { rd, imm }, handed)
-        }
-        Inst::LoadInlineConst { mut rd, ty, imm } => {
-            let handed = writes_one(&mut rd, collector);
-            (Inst::LoadInlineConst { rd, ty, imm }, handed)
-        }
         Inst::AluRRR {
             alu_op,
             mut rd,

@@ -5,6 +5,6 @@ pub returns-in_default : goal.returns-in_default
 returns-in_default g c =
     let n = c.in_default in
     record {
-      handed = λ family. c.described_operands.ensures.handed (integer_asks _ n.not-Lui n.not-Auipc n.not-LoadInlineConst n.not-AluRRR n.not-AluRRImm12 n.not-Mov n.not-MovFromPReg n.not-Select family);
+      handed = λ family. c.described_operands.ensures.handed (integer_asks _ n.not-Lui n.not-AluRRR n.not-AluRRImm12 n.not-Mov n.not-MovFromPReg n.not-Select family);
       same = λ family. c.described_operands.ensures.same;
     }
