@@ -1,13 +1,13 @@
 -- The records of lines: handlers with the offsets of their labels, saved registers, and the bytes that relocations fill.
 use Rattle.{rv_asm.proofs.LabelNames.bound_place, rv_asm.proofs.LinesInBuffer.gap_within, rv_asm.proofs.RefusalOrder.{AllBound, all_both, all_first}}
-use Rattle.rv_asm.proofs.Words.{[], Abs8, access_records, AllByRecursion, ap, append-nil, arith, Bind, Bool, broken_rule, Buffer, Call, CallInd, Constant, ConstPlace, Context, end_of, ExternalName, false, field_size, FillsInLine, finalized_handler, first_in, flat_map-append}
-use Rattle.rv_asm.proofs.Words.{FrameLayout, from_of, Gap, GapAsked, handler_label, inl, inr, Inst, inst_records, inst_registers, is_some, is_virtual, IsApart, IsGap, IsOfSize, IsOutside, keeps, label_start, LabelUse, length, Line, line_records, LineSpan, LinesStand, List, list_any, Load}
-use Rattle.rv_asm.proofs.Words.{LoadExtNameFar, LoadExtNameGot, locate, MachLabel, MachRecord, MachReloc, map, named_labels, None, offset_or_zero, Option, patch_records, place_of, Put, record_relocs, record_unwinds, records_from, refl, Reloc, relocs_in, Request, request_of}
-use Rattle.rv_asm.proofs.Words.{return_records, ReturnCall, ReturnCallInd, same_Some, SavesReal, Shape, slice_get, slice_get_within, Some, sp_to_fp_of, SpansIn, StandOutside, start_of, StepSaves, Store, subst, suc, sym, to_of, TrapCode, tries_in, true, try_labels, TryCallInfo, unwinds_in}
+use Rattle.rv_asm.proofs.Words.{[], Abs8, access_records, AllByRecursion, ap, append-nil, arith, Bind, Bool, broken_rule, Buffer, Constant, ConstPlace, Context, end_of, ExternalName, false, field_size, FillsInLine, finalized_handler, first_in, flat_map-append}
+use Rattle.rv_asm.proofs.Words.{FrameLayout, from_of, Gap, GapAsked, handler_label, inl, inr, Inst, inst_records, inst_registers, is_some, is_virtual, IsApart, IsGap, IsOfSize, IsOutside, keeps, label_start, LabelUse, length, Line, line_records, LineSpan, LinesStand, List, list_any}
+use Rattle.rv_asm.proofs.Words.{locate, MachLabel, MachRecord, MachReloc, map, named_labels, None, offset_or_zero, Option, patch_records, place_of, Put, record_relocs, record_unwinds, records_from, refl, Reloc, relocs_in, Request, request_of}
+use Rattle.rv_asm.proofs.Words.{return_records, same_Some, SavesReal, Shape, slice_get, slice_get_within, Some, sp_to_fp_of, SpansIn, StandOutside, start_of, StepSaves, subst, suc, sym, to_of, TrapCode, tries_in, true, try_labels, TryCallInfo, unwinds_in}
 use Rattle.{rv_asm.proofs.Words.{unwrap_or, UserStackMap, Virtual, zero, ℕ, ⊎_elim, ◌++◌, ◌+◌, ◌-◌, ◌<◌, ◌∙◌, ◌∷◌, ◌≡◌, ◌≢◌, ◌≤◌, ◌⊎◌}, rv_base.specs.declared.call.CallInfo.CallInfo, rv_base.specs.declared.call.TryCallHandler.TryCallHandler}
 use Rattle.{rv_base.specs.declared.call.TryCallHandler.TheVariants.{Default, Tag}, rv_base.specs.declared.unwind.UnwindInst.UnwindInst, rv_base.specs.declared.unwind.UnwindInst.TheVariants.SaveReg, rv_inst.specs.Descriptions.conversion_trap, rv_ops.specs.Fpu.is_to_integer}
 use Rattle.mach_records.specs.declared.records.FinalizedMachExceptionHandler.TheVariants as to
-use Rattle.rv_inst.specs.declared.inst.Inst.TheVariants.{BrTable, EmitIsland, FpuRR, LoadExtNameNear, Unwind}
+use Rattle.rv_inst.specs.declared.inst.Inst.TheVariants.{BrTable, EmitIsland, FpuRR, LoadExtNameNear, Unwind, Call, CallInd, Load, LoadExtNameFar, LoadExtNameGot, ReturnCall, ReturnCallInd, Store}
 
 -- ---- records by their kinds
 

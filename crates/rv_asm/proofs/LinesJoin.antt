@@ -1,6 +1,6 @@
 -- The join of lines: code in which each line stands and leads on runs as its job says, on the integer core and on the machine with all units.
 use Rattle.{rv_asm.proofs.Images.{from_long, placed_again, placed_at}, rv_asm.proofs.LinesInBuffer.found_from, rv_asm.proofs.RefusalOrder.{AllBound, bind_at, exit_bound, ExitBound, return_bound}, rv_asm.proofs.Spans.line_at}
-use Rattle.rv_asm.proofs.Words.{[], address_of, address_of_name, Addresses, Answer, ap, append_assoc, AreOutside, AreValues, arith, At, AtReturn, AtStart, Bind, binding_line, Bool, Break, broken_rule, but_then_same, bytes_from, Call, CallInd, cases_lt, Code, code_limit, Comes, ComesOut, context_of}
+use Rattle.rv_asm.proofs.Words.{[], address_of, address_of_name, Addresses, Answer, ap, append_assoc, AreOutside, AreValues, arith, At, AtReturn, AtStart, Bind, binding_line, Bool, Break, broken_rule, but_then_same, bytes_from, cases_lt, Code, code_limit, Comes, ComesOut, context_of}
 use Rattle.rv_asm.proofs.Words.{Data, effect_from, effect_of, EmitVState, End, end_of, EndsAsMeant, Enters, Entry, entry_point, Environment, environment, environment_at, environment_of, Exit, exit_from, exit_of, false, field_size, first_constant, fiter, fiter_after, fiter_none, FrameLayout}
 use Rattle.rv_asm.proofs.Words.{FullEnds, FullMeaning, FullRuns, FullState, FullValues, FullyAsks, if◌then◌else◌, InData, inl, inr, Inst, inst_exit, inst_full_resumes, inst_full_runs, inst_meaning, inst_resumes, inst_runs, inst_temporaries, integer_run, is_bound, is_stuck, IsaFlags, IsBack, IsEntry}
 use Rattle.rv_asm.proofs.Words.{IsExit, IsOn, IsPlaced, IsPlacedAt, IsRecorded, IsState, IsStopped, IsTrapAt, iter, iter_after, iter_none, Job, Leads, LeadsOn, Leave, length, Line, LineAt, Lines, List, lit≤, ltb-false, ltb-true, MachLabel, MachRecord, MachReloc, meaning_agrees, meaning_of}
@@ -9,6 +9,7 @@ use Rattle.rv_asm.proofs.Words.{RunsAsListed, RunsOn, Same, same_but, same_Some,
 use Rattle.{rv_asm.proofs.Words.{wrap, writes_of, WritesOutside, zero, ℕ, ⊎_elim, ◌%◌, ◌*◌, ◌++◌, ◌+◌, ◌<◌, ◌∙◌, ◌∷◌, ◌≡◌, ◌≤◌, ◌⊎◌}, rv_full.specs.Vectors.is_legal, rv_inst.proofs.Meaning.{effect_agrees, exit_agrees, writes_agree}, rv_inst.specs.Core.{is_integer, is_integer_in, is_integer_line}}
 use Rattle.{rv_inst.specs.Environments.{AgreeOn, SameLabels}, std.proofs.lemmas.List.append-nil}
 use Rattle.mach_records.specs.declared.records.Event.TheVariants as event
+use Rattle.rv_inst.specs.declared.inst.Inst.TheVariants.{Call, CallInd}
 
 pub same_itself : (v : Values) → Same v v
 same_itself v = record { regs = λ n lt. refl; mem = λ a. refl }

@@ -30,10 +30,10 @@ pub use Rattle.rv_inst.{specs.declared.inst.CondBrTarget.TheVariants.{Fallthroug
 pub use Rattle.rv_inst.{specs.declared.job.Job.Job, specs.declared.label_use.LabelUse.LabelUse, specs.declared.label_use.LabelUse.TheVariants.{B12, PCRel32, PCRelLo12I, Jal20, PCRelHi20, RVCJump}, specs.declared.targets.Targets.Targets}
 pub use Rattle.{rv_inst.specs.declared.targets.Targets.TheVariants.{Branches, Jumps, Nowhere, Refers, RefersConstant}, rv_listing.specs.CodeRanges.{CallFits, CodeFits, ConstFits, EntryFits, HandlerFits, LabelFits, MapFits, PatchFits, RelocFits, ReturnFits, SpanFits, TrapFits, TryFits, UnwindFits}}
 pub use Rattle.rv_machine.{specs.Memory.store_bytes, specs.State.{Memory, store}, specs.Steps.iter}
-pub use Rattle.rv_runs.proofs.Words.{access_slots, AddressOf, AllByRecursion, Answer, AreOutside, AreValues, AVirtual as Virtual, Base, byte, Call, CallInd, ComesOut, compares, complement_of, CondBr, Context, context_by, Decoded, EmitVState, EndsAsMeant, Enters, Environment}
+pub use Rattle.rv_runs.proofs.Words.{access_slots, AddressOf, AllByRecursion, Answer, AreOutside, AreValues, AVirtual as Virtual, Base, byte, ComesOut, compares, complement_of, Context, context_by, Decoded, EmitVState, EndsAsMeant, Enters, Environment}
 pub use Rattle.rv_runs.proofs.Words.{environment, Exit, ExternalName, fetch, fiter_after, fiter_none, FrameLayout, FullEnds, FullMeaning, FullState, FullValues, GapIn, Inst, inst_exit, inst_meaning, inst_rule, inst_temporaries, Int, integer_decodes, integer_run}
-pub use Rattle.rv_runs.proofs.Words.{IntegerCompare, is_integer_op as is_integer, is_virtual, IsaFlags, IsPlacedAt, IsState, Label, Leave, list_any, Load, load_result, LoadExtNameFar, LoadExtNameGot, low64, low_word, Next, Records, number_of, Op, operation_of, parts_of}
-pub use Rattle.rv_runs.proofs.Words.{PartsStand, Put, put, Real, Reg, reg, RegClass, Resumes, Return, return_of, ReturnCall, ReturnCallInd, Same, SameBut, Site, size_of, Slot, slots_alone, State, Store, tail_call_of, TailCall, To, TrapCode, try_call_of, try_exit, TryCallInfo}
+pub use Rattle.rv_runs.proofs.Words.{IntegerCompare, is_integer_op as is_integer, is_virtual, IsaFlags, IsPlacedAt, IsState, Label, Leave, list_any, load_result, low64, low_word, Next, Records, number_of, Op, operation_of, parts_of}
+pub use Rattle.rv_runs.proofs.Words.{PartsStand, Put, put, Real, Reg, reg, RegClass, Resumes, Return, return_of, Same, SameBut, Site, size_of, Slot, slots_alone, State, tail_call_of, TailCall, To, TrapCode, try_call_of, try_exit, TryCallInfo}
 pub use Rattle.{rv_runs.{proofs.Words.{UserStackMap, Values, wrap}, specs.FullInstRuns.FullyAsks}, rv_sequences.specs.Emitted.{Appends, AppendsIsland, AppendsSequence, Buffer, HasWindows, IsFarUse, IslandAsked, IslandIfNeeded, IsSoundBuffer, pending}}
 pub use Rattle.rv_sequences.{specs.Images.{AllClear, EndsWithin, FieldsEnd, FieldsStand, HoldsDistance, IsFilled, IsFilledWith, IsLinkedWith, KeepsOutside}, specs.NewConstants.{AddsConstants, StandInTurn}, specs.Puts.{AllBytes, Puts}}
 pub use Rattle.std.proofs.Common.{[], ap, append-nil, append_assoc, arith, Bool, cond, drop, Err, false, inl, inr, length, List, lit<, lit≤, map, None, not, Option, pos, refl, Result, slice_index, Some, subst, suc, sym, take, true, zero, ℕ, ℤ, ⊎_elim, ◌%◌, ◌*◌, ◌++◌, ◌+◌}
