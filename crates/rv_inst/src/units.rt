@@ -286,6 +286,7 @@ pub fn facts_targets(inst: &Inst) -> Targets
 
 impl Inst {
     /// What is asked of an instruction of integer registers, where its description gives it.
+    #[inline(always)]
     pub fn facts(&self) -> Option<Facts>
         ensures { result ≡ facts_of self.now }
     {
@@ -513,12 +514,14 @@ impl Inst {
     }
 }
 
+#[inline(always)]
 fn regs(rd: Option<WritableReg>, rs1: Option<Reg>, rs2: Option<Reg>, rs3: Option<Reg>) -> InstRegs
     ensures { result ≡ regs rd rs1 rs2 rs3 }
 {
     InstRegs { rd, rs1, rs2, rs3 }
 }
 
+#[inline(always)]
 fn only_regs(regs: InstRegs) -> Facts
     ensures { result ≡ only_regs regs }
 {
@@ -531,6 +534,7 @@ fn only_regs(regs: InstRegs) -> Facts
     }
 }
 
+#[inline(always)]
 fn stepwise(rd: WritableReg) -> Facts
     ensures { result ≡ stepwise rd }
 {
