@@ -1,20 +1,17 @@
 -- Code that was built and finished keeps what is promised of it.
-use Rattle.mach_buffer.proofs.LastVeneers.{padding_for}
-use Rattle.{rv_asm.proofs.AfterLastIsland.{constants_left, uses_waiting}, rv_asm.proofs.Images.{data_there, fields_after, fields_within, is_filled, keeps_outside, placed_at, puts_split, reloc_ends, trap_if_there, trap_reported, trap_there}, rv_asm.proofs.LabelNames.{bound_place, finished_short}}
-use Rattle.{rv_asm.proofs.LineRecords.{LineSpread, constants_unfilled, fields_apart, fields_in_lines, handlers_reported, lines_save}, rv_asm.proofs.LinesInBuffer.{gap_within, outside_more}, rv_asm.proofs.LinesJoin.{full_runs, IsThreaded, Known, LineIn, site_of, threaded_runs}}
-use Rattle.{rv_asm.proofs.RefusalOrder.{accepted_frame, accepted_lines, AllBound, bind_at, names_bound, no_rule_broken, none_stuck, parts, sum_small}, rv_asm.proofs.Spans.line_at}
+use Rattle.{mach_buffer.proofs.LastVeneers.padding_for, rv_asm.{proofs.AfterLastIsland.{constants_left, uses_waiting}, proofs.Images.{data_there, fields_after, fields_within, is_filled, keeps_outside, placed_at, puts_split, reloc_ends, trap_if_there, trap_reported, trap_there}, proofs.LabelNames.{bound_place, finished_short}}}
+use Rattle.rv_asm.{proofs.LineRecords.{LineSpread, constants_unfilled, fields_apart, fields_in_lines, handlers_reported, lines_save}, proofs.LinesInBuffer.{gap_within, outside_more}, proofs.LinesJoin.{full_runs, IsThreaded, Known, LineIn, site_of, threaded_runs}}
+use Rattle.rv_asm.{proofs.RefusalOrder.{accepted_frame, accepted_lines, AllBound, bind_at, names_bound, no_rule_broken, none_stuck, parts, sum_small}, proofs.Spans.line_at}
 use Rattle.rv_asm.proofs.Words.{[], access_slots, Addresses, adds_end, AddsConstants, AfterLastIsland, Fixup, AllByRecursion, AllBytes, ap, AreWindows, arith, B12, backward_of, Base, Bind, binding_line, binds_from, branch_to, broken_rule, Buffer, bytes_of, calls_in, cases_eq, Code, code_limit}
-use Rattle.rv_asm.proofs.Words.{CodeFits, comes_from, cond, cond_both, CondBrTarget, Constant, constants_end, constants_of, constants_taken, constants_waiting, ConstPlace, context_of, core, Decoded, decoded_branch, EmitVState, end_before, end_of, Fallthrough, false, fetch, Finishes}
-use Rattle.rv_asm.proofs.Words.{forward_of, from_of, FullRuns, Gap, gap_is, gap_stands, GapAsked, GapIn, GoesToLabel, GoStraight, has_operation, has_veneer_of, HasConstants, HasFullOperations, HasOperations, HasTail, InReach, Inst, integer_decodes, IntegerCompare, is_bound, is_integer, is_reached}
-use Rattle.rv_asm.proofs.Words.{is_stuck, IsaFlags, IsApart, IsFilled, IsFinished, IsFinishedTo, IsGap, IsGapOf, IsIn, IsOutside, IsOwnForm, IsPlaced, IsPlacedAt, IsSpan, IsTrapAt, Jal20, Job, jump_kind, KeepsOutside, Kinds, Label, label_kinds, label_reached, label_start, LabelUse, Lasts}
-use Rattle.rv_asm.proofs.Words.{lasts_after_slots, lasts_more, le-leb, length, length_padded, Line, LinesStand, List, MachLabel, MachReloc, map, maps_in, marks_of, Memory, named_labels, nat_eq, nat_tests, None, offset_in, offset_or_zero, one_slot, Op, operation_of, Option, own_stands, padded_for}
-use Rattle.rv_asm.proofs.Words.{padding, parts_are_self_contained, parts_of, parts_stand, PartsIn, patches_in, pending, place_of, pos, Put, put_all, put_at, put_constant, put_constant_at, put_each, put_veneer, puts_bytes, reads_operation, recorded, recorded_get, records_from, records_of, refl}
-use Rattle.rv_asm.proofs.Words.{relocs_in, Reported, Request, request_of, returns_from, RunsAsListed, RVCJump, same_Some, SavesReal, Shape, shape_of, Site, size_of, size_sum, slice_get, slice_get-append, slice_get-append_last, Slot, slots_alone, SlotsIn, Some, StandApart, start_of, subst, suc, sym}
-use Rattle.{rv_asm.proofs.Words.{to_of, ToLabel, TrapCode, traps_in, tries_in, true, unplaced_of, unwinds_in, Use, use_at, uses_in, uses_of, VCodeConstant, veneers_end, zero, ℕ, ℤ, ⊎_elim, ◌%◌, ◌&&◌, ◌*◌, ◌++◌, ◌+◌, ◌-ℤ◌, ◌<◌, ◌^◌, ◌∙◌, ◌∷◌, ◌≡◌, ◌≤◌, ◌⊎◌}, rv_asm.specs.Jumps.{GoesTo, HasJumps}}
-use Rattle.rv_asm.proofs.CodeRanges.{code_fits}
-use Rattle.{rv_asm.specs.Refusal.{lines_refusal, refusal}, rv_code.specs.Operations.{decoded_jump, short_jump}, rv_machine.specs.Layout.compressed}
+use Rattle.rv_asm.proofs.Words.{CodeFits, comes_from, cond, cond_both, CondBrTarget, Constant, constants_end, constants_of, constants_taken, constants_waiting, ConstPlace, context_of, core, Decoded, decoded_branch, EmitVState, end_before, end_of, Fallthrough, false, fetch, Finishes, forward_of}
+use Rattle.rv_asm.proofs.Words.{from_of, FullRuns, Gap, gap_is, gap_stands, GapAsked, GapIn, GoesToLabel, GoStraight, has_operation, has_veneer_of, HasConstants, HasFullOperations, HasOperations, HasTail, InReach, Inst, integer_decodes, IntegerCompare, is_bound, is_integer, is_reached, is_stuck}
+use Rattle.rv_asm.proofs.Words.{IsaFlags, IsApart, IsFilled, IsFinished, IsFinishedTo, IsGap, IsGapOf, IsIn, IsOutside, IsOwnForm, IsPlaced, IsPlacedAt, IsSpan, IsTrapAt, Jal20, Job, jump_kind, KeepsOutside, Kinds, Label, label_kinds, label_reached, label_start, LabelUse, Lasts, lasts_after_slots}
+use Rattle.rv_asm.proofs.Words.{lasts_more, le-leb, length, length_padded, Line, LinesStand, List, MachLabel, MachReloc, map, maps_in, marks_of, Memory, named_labels, nat_eq, nat_tests, None, offset_in, offset_or_zero, one_slot, Op, operation_of, Option, own_stands, padded_for, padding}
+use Rattle.rv_asm.proofs.Words.{parts_are_self_contained, parts_of, parts_stand, PartsIn, patches_in, pending, place_of, pos, Put, put_all, put_at, put_constant, put_constant_at, put_each, put_veneer, puts_bytes, reads_operation, recorded, recorded_get, records_from, records_of, refl, relocs_in}
+use Rattle.rv_asm.proofs.Words.{Reported, Request, request_of, returns_from, RunsAsListed, RVCJump, same_Some, SavesReal, Shape, shape_of, Site, size_of, size_sum, slice_get, slice_get-append, slice_get-append_last, Slot, slots_alone, SlotsIn, Some, StandApart, start_of, subst, suc, sym, to_of}
+use Rattle.rv_asm.{proofs.Words.{ToLabel, TrapCode, traps_in, tries_in, true, unplaced_of, unwinds_in, Use, use_at, uses_in, uses_of, VCodeConstant, veneers_end, zero, ℕ, ℤ, ⊎_elim, ◌%◌, ◌&&◌, ◌*◌, ◌++◌, ◌+◌, ◌-ℤ◌, ◌<◌, ◌^◌, ◌∙◌, ◌∷◌, ◌≡◌, ◌≤◌, ◌⊎◌}, specs.Jumps.{GoesTo, HasJumps}, proofs.CodeRanges.code_fits}
+use Rattle.{rv_asm.specs.Refusal.{lines_refusal, refusal}, rv_code.specs.Operations.{decoded_jump, short_jump}, rv_inst.specs.declared.inst.Inst.TheVariants.{Jal, CondBr}, rv_machine.specs.Layout.compressed}
 use Rattle.rv_machine.specs.declared.ops.BaseOp.TheVariants as base_op
-use Rattle.rv_inst.specs.declared.inst.Inst.TheVariants.{Jal, CondBr}
 
 pub all_bytes : (bytes : List ℕ) → AllByRecursion (λ b. b < 256) bytes → AllBytes bytes
 all_bytes [] h k lt = absurd (omega arith)

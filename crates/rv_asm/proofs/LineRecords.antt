@@ -1,13 +1,13 @@
 -- The records of lines: handlers with the offsets of their labels, saved registers, and the bytes that relocations fill.
-use Rattle.{rv_asm.proofs.LabelNames.bound_place, rv_asm.proofs.LinesInBuffer.gap_within, rv_asm.proofs.RefusalOrder.{AllBound, all_both, all_first}}
-use Rattle.rv_asm.proofs.Words.{[], Abs8, access_records, AllByRecursion, ap, append-nil, arith, Bind, Bool, broken_rule, Buffer, Constant, ConstPlace, Context, end_of, ExternalName, false, field_size, FillsInLine, finalized_handler, first_in, flat_map-append}
-use Rattle.rv_asm.proofs.Words.{FrameLayout, from_of, Gap, GapAsked, handler_label, inl, inr, Inst, inst_records, inst_registers, is_some, is_virtual, IsApart, IsGap, IsOfSize, IsOutside, keeps, label_start, LabelUse, length, Line, line_records, LineSpan, LinesStand, List, list_any}
-use Rattle.rv_asm.proofs.Words.{locate, MachLabel, MachRecord, MachReloc, map, named_labels, None, offset_or_zero, Option, patch_records, place_of, Put, record_relocs, record_unwinds, records_from, refl, Reloc, relocs_in, Request, request_of}
-use Rattle.rv_asm.proofs.Words.{return_records, same_Some, SavesReal, Shape, slice_get, slice_get_within, Some, sp_to_fp_of, SpansIn, StandOutside, start_of, StepSaves, subst, suc, sym, to_of, TrapCode, tries_in, true, try_labels, TryCallInfo, unwinds_in}
-use Rattle.{rv_asm.proofs.Words.{unwrap_or, UserStackMap, Virtual, zero, ℕ, ⊎_elim, ◌++◌, ◌+◌, ◌-◌, ◌<◌, ◌∙◌, ◌∷◌, ◌≡◌, ◌≢◌, ◌≤◌, ◌⊎◌}, rv_base.specs.declared.call.CallInfo.CallInfo, rv_base.specs.declared.call.TryCallHandler.TryCallHandler}
-use Rattle.{rv_base.specs.declared.call.TryCallHandler.TheVariants.{Default, Tag}, rv_base.specs.declared.unwind.UnwindInst.UnwindInst, rv_base.specs.declared.unwind.UnwindInst.TheVariants.SaveReg, rv_inst.specs.Descriptions.conversion_trap, rv_ops.specs.Fpu.is_to_integer}
+use Rattle.rv_asm.{proofs.LabelNames.bound_place, proofs.LinesInBuffer.gap_within, proofs.RefusalOrder.{AllBound, all_both, all_first}}
+use Rattle.rv_asm.proofs.Words.{[], Abs8, access_records, AllByRecursion, ap, append-nil, arith, Bind, Bool, broken_rule, Buffer, Constant, ConstPlace, Context, end_of, ExternalName, false, field_size, FillsInLine, finalized_handler, first_in, flat_map-append, FrameLayout, from_of, Gap, GapAsked}
+use Rattle.rv_asm.proofs.Words.{handler_label, inl, inr, Inst, inst_records, inst_registers, is_some, is_virtual, IsApart, IsGap, IsOfSize, IsOutside, keeps, label_start, LabelUse, length, Line, line_records, LineSpan, LinesStand, List, list_any, locate, MachLabel, MachRecord, MachReloc, map}
+use Rattle.rv_asm.proofs.Words.{named_labels, None, offset_or_zero, Option, patch_records, place_of, Put, record_relocs, record_unwinds, records_from, refl, Reloc, relocs_in, Request, request_of, return_records, same_Some, SavesReal, Shape, slice_get, slice_get_within, Some, sp_to_fp_of, SpansIn}
+use Rattle.{rv_asm.proofs.Words.{StandOutside, start_of, StepSaves, subst, suc, sym, to_of, TrapCode, tries_in, true, try_labels, TryCallInfo, unwinds_in, unwrap_or, UserStackMap, Virtual, zero, ℕ, ⊎_elim, ◌++◌, ◌+◌, ◌-◌, ◌<◌, ◌∙◌, ◌∷◌, ◌≡◌, ◌≢◌, ◌≤◌, ◌⊎◌}, rv_base.specs.declared.call.CallInfo.CallInfo}
+use Rattle.{rv_base.{specs.declared.call.TryCallHandler.TryCallHandler, specs.declared.call.TryCallHandler.TheVariants.{Default, Tag}, specs.declared.unwind.UnwindInst.UnwindInst, specs.declared.unwind.UnwindInst.TheVariants.SaveReg}, rv_code.proofs.MadeOfPieces.{HasRoom, has_room}}
+use Rattle.rv_inst.{specs.Descriptions.{conversion_trap, recorded_of}, specs.Records.{Recorded, recorded, Nothing, TrapAfter, SlotInParts, AddressInParts, AddressLast}, specs.declared.inst.Inst.TheVariants.{BrTable, EmitIsland, FpuRR, Unwind, Call, CallInd, Load, ReturnCall, ReturnCallInd, Store}}
+use Rattle.rv_ops.specs.Fpu.{is_to_integer}
 use Rattle.mach_records.specs.declared.records.FinalizedMachExceptionHandler.TheVariants as to
-use Rattle.rv_inst.specs.declared.inst.Inst.TheVariants.{BrTable, EmitIsland, FpuRR, LoadExtNameNear, Unwind, Call, CallInd, Load, LoadExtNameFar, LoadExtNameGot, ReturnCall, ReturnCallInd, Store}
 
 -- ---- records by their kinds
 
@@ -172,14 +172,19 @@ patch_fill patchable begin end from to le = patch_cases (λ rs. FillInTurn (relo
 return_fill : (frame : FrameLayout) (at : ℕ) (entries : Option UserStackMap) (t : Option TryCallInfo) (more : List MachRecord) (from to : ℕ) → FillInTurn (relocs_in more) from to → FillInTurn (relocs_in (return_records frame at entries t ++ more)) from to
 return_fill frame at entries t more from to h = return_cases (λ t rs. FillInTurn (relocs_in (rs ++ more)) from to) frame at entries t h (λ t. h) (λ m. h) (λ m t. h)
 
+-- what is recorded of one whose description gives its code
+recorded_fill : (r : Recorded) (bytes start end : ℕ) → start + bytes ≤ end → HasRoom r bytes → FillInTurn (relocs_in (recorded r start end)) start end
+recorded_fill Nothing bytes start end le room = omega (arith, le)
+recorded_fill (TrapAfter after code) bytes start end le room = omega (arith, le)
+recorded_fill (SlotInParts name) bytes start end le room = (omega arith, (omega arith, omega (arith, le, room)))
+recorded_fill (AddressInParts name addend) bytes start end le room = (omega arith, (omega arith, omega (arith, le, room)))
+recorded_fill (AddressLast name addend) bytes start end le room = (omega (arith, le, room), omega (arith, le, room))
+
 -- what a line's relocations fill stands where the line does
 line_fill : (context : Context) (f : Shape LabelUse) (line : Line) (start from to end : ℕ) → LineSpread context line f start from to end → FillInTurn (relocs_in (line_records context start end line)) start end
 line_fill context f (Put (Load rd op flags mode)) start from to end h = access_fill _ flags.trap start end (spans_ascend h)
 line_fill context f (Put (Store src op flags mode)) start from to end h = access_fill _ flags.trap start end (spans_ascend h)
 line_fill context f (Put (FpuRR op width frm rd rs)) start from to end h = access_fill start (conversion_trap (is_to_integer op)) start end (spans_ascend h)
-line_fill context f (Put (LoadExtNameGot rd name)) start from to end h = (omega arith, (omega arith, omega (arith, h.first, h.gap, h.last, h.size)))
-line_fill context f (Put (LoadExtNameNear rd name offset)) start from to end h = (omega arith, (omega arith, omega (arith, h.first, h.gap, h.last, h.size)))
-line_fill context f (Put (LoadExtNameFar rd name offset)) start from to end h = (omega (arith, h.first, h.gap, h.last, h.size), omega (arith, h.first, h.gap, h.last, h.size))
 line_fill context f (Put (Call info)) start from to end h =
     (omega arith, return_fill context.frame _ info.stack_map info.try_call_info (patch_records info.patchable _ _) (start + 8) end (patch_fill info.patchable _ _ (start + 8) end (omega (arith, h.back.returns _ refl))))
 line_fill context f (Put (CallInd info)) start from to end h =
@@ -189,7 +194,9 @@ line_fill context f (Put (ReturnCall info)) start from to end h =
     let least = h.least refl in
     let before = gap_within context.flags (request_of context (ReturnCall info)) f from to h.gap in
     (omega (arith, h.first, before, least.filled), omega (arith, h.first, before, least.filled))
-line_fill context f (Put inst) start from to end h = spans_ascend h
+line_fill context f (Put inst) start from to end h =
+    let bytes = from - start + (end - to) in
+    recorded_fill (recorded_of inst) bytes start end (omega (arith, h.first, gap_within context.flags (request_of context inst) f from to h.gap, h.last)) (has_room context inst bytes h.size)
 line_fill context f (Bind label) start from to end h = omega arith
 
 -- ---- among the bytes of an instruction

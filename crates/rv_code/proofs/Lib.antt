@@ -1,6 +1,7 @@
 pub mod Words
 pub mod Steps
 pub mod Courses
+pub mod Forgetting
 pub mod MadeOfPieces
 pub mod Operands
 pub mod OperationActs

@@ -2,17 +2,15 @@
 use Rattle.{rv_base.{specs.AMode.{IsNear, base_of, own_offset, registers_of}, specs.declared.call.CallArgPair.CallArgPair, specs.declared.call.ReturnCallInfo.ReturnCallInfo, specs.declared.constant.Constant.Constant}, rv_code.proofs.Courses.{IsUsableAt, IsRealAt, IsApartAt}}
 use Rattle.rv_code.{proofs.Operands.{Keeps, AreUsable, are_usable, not_zero, listed, or_left, or_right, is_real, numbers_differ, keeps, none_of_both, not_false, usable_of, number_low, by_none, other_number, one_class}, proofs.OperationActs.{IsIntegerLoad, IsIntegerStore}}
 use Rattle.rv_code.proofs.StackLoads.{IsLoadable, IsLoadableAs, AreStackLoads, IsOtherAs, AreOthersAs}
-use Rattle.rv_code.proofs.Words.{address_targets, AllByRecursion, AMode, AreFineResults, AreOfClass, AreReal, breaks_none, CallInfo, CallRetPair, class_of, Const, Context, def_registers, differ_in_class, either_into, eqb-false, exceeds_arguments}
-use Rattle.rv_code.proofs.Words.{ExternalName, Float, FrameLayout, I8, InReg, Inst, inst_rule, inst_sum, Int, ints, is_base, is_buffer_label, is_distant, is_fifth, is_high, is_high_at, is_int_class, is_int_type, is_into_stack, is_loaded_from, is_not_of, is_on_stack}
-use Rattle.rv_code.proofs.Words.{is_other_class, is_out_of_place, is_reserved, is_shorter, is_stack, is_unloadable, is_vector_class, is_virtual, is_zero, IsFineAddress, IsFineResult, IsFineUnit, IsIntRegister, IsUsable, labels_of, lacks_constant}
-use Rattle.rv_code.proofs.Words.{lacks_named, Ld, leb-false, list_any, load_class, load_format, load_size, LoadOP, loads_unless, location_differs, location_loads, location_of, location_registers, ltb-false, MachLabel, MemFlagsData, number_of, OnStack}
-use Rattle.rv_code.proofs.Words.{or_parts, PReg, Real, Reg, RegClass, registers_in, RegOffset, restores, result_loads, results_clash, RetLocation, same_class, saved_load, saves_from, setup_loads, slice_get_within, sp_to_args_end, sp_to_fp_of}
-use Rattle.{rv_code.{proofs.Words.{StackLoad, inst_registers, is_float_load, is_misplaced, IsRealRegister, store_class, StoreOP, tail_call_of, UnitWord, use_registers, Vector, Virtual, Writable}, specs.Usable.{IsFineSequence, KeepsRules}}, rv_inst.specs.Context.context_by}
-use Rattle.rv_inst.{specs.Descriptions.{sequence_of, sequence_registers, third, unit_word}, specs.Frames.{is_unsaved, is_t0, is_bad_frame, is_bad_frame_for}, specs.declared.inst.Inst.TheVariants.Nop0, specs.declared.sequence.Sequence.Sequence, specs.declared.tail_calls.TailCall.TailCall}
-use Rattle.std.proofs.Common.{◌≡◌, ℕ, ◌<◌, false, List, [], ◌∷◌, length, Option, Some, None, refl, ap, subst, lit<, arith, ◌-◌, ◌^◌, not, ℤ, pos, negsuc, ◌+◌, true, ◌-ℤ◌, ◌++◌, ◌==◌, Bool, sym, ◌∙◌, ◌*◌, ◌≤◌, ◌||◌, ◌&&◌, if◌then◌else◌, int_lt, is_none, IfSome}
-use Rattle.std.proofs.Common.{slice_get, nat_le, rules, eqb-true, unwrap_or}
+use Rattle.rv_code.proofs.Words.{address_targets, AllByRecursion, AMode, AreFineResults, AreOfClass, AreReal, breaks_none, CallInfo, CallRetPair, class_of, Const, Context, def_registers, differ_in_class, either_into, eqb-false, exceeds_arguments, ExternalName, Float, FrameLayout, I8, InReg, Inst}
+use Rattle.rv_code.proofs.Words.{inst_rule, inst_sum, Int, ints, is_base, is_buffer_label, is_distant, is_fifth, is_high, is_high_at, is_int_class, is_int_type, is_into_stack, is_loaded_from, is_not_of, is_on_stack, is_other_class, is_out_of_place, is_reserved, is_shorter, is_stack, is_unloadable}
+use Rattle.rv_code.proofs.Words.{is_vector_class, is_virtual, is_zero, IsFineAddress, IsFineResult, IsFineUnit, IsIntRegister, IsUsable, labels_of, lacks_constant, lacks_named, Ld, leb-false, list_any, load_class, load_format, load_size, LoadOP, loads_unless, location_differs, location_loads}
+use Rattle.rv_code.proofs.Words.{location_of, location_registers, ltb-false, MemFlagsData, number_of, OnStack, or_parts, PReg, Real, Reg, RegClass, registers_in, RegOffset, restores, result_loads, results_clash, RetLocation, same_class, saved_load, saves_from, setup_loads, slice_get_within}
+use Rattle.{rv_code.{proofs.Words.{sp_to_args_end, sp_to_fp_of, StackLoad, inst_registers, is_float_load, is_misplaced, IsRealRegister, store_class, StoreOP, tail_call_of, UnitWord, use_registers, Vector, Virtual, Writable}, specs.Usable.{IsFineSequence, KeepsRules}}, rv_inst.specs.Context.context_by}
+use Rattle.rv_inst.{specs.Descriptions.{sequence_of, sequence_registers, third, unit_word}, specs.Frames.{is_unsaved, is_t0, is_bad_frame, is_bad_frame_for}, specs.declared.inst.Inst.TheVariants.{Nop0, Call, CallInd, Load, LoadAddr, ReturnCall, ReturnCallInd, Store}, specs.declared.sequence.Sequence.Sequence}
+use Rattle.rv_inst.specs.declared.tail_calls.TailCall.{TailCall}
+use Rattle.std.{proofs.Common.{◌≡◌, ℕ, ◌<◌, false, List, [], ◌∷◌, length, Option, Some, None, refl, ap, subst, lit<, arith, ◌-◌, ◌^◌, not, ℤ, pos, negsuc, ◌+◌, true, ◌-ℤ◌, ◌++◌, ◌==◌, Bool, sym, ◌∙◌, ◌*◌, ◌≤◌, ◌||◌, ◌&&◌, if◌then◌else◌, int_lt, is_none, IfSome, slice_get, nat_le, rules, eqb-true}, proofs.Common.unwrap_or}
 use Rattle.rv_inst.specs.declared.error.Rule.TheVariants as rule
-use Rattle.rv_inst.specs.declared.inst.Inst.TheVariants.{Call, CallInd, LabelAddress, Load, LoadAddr, ReturnCall, ReturnCallInd, Store}
 
 -- ---- what an instruction that is of some kind, and breaks no rule, gives.
 
@@ -122,9 +120,6 @@ load_addr_kept frame rd mem k =
     let all = are_usable (rd.reg ∷ registers_of mem) k.real k.placed k.free in
     let real = not_zero rd.reg all.0 k.counted in
     record { usable = all.0; real = real; based = usable_at frame mem all.1; apart = apart_at frame rd.reg mem all.0 all.1 k.apart real }
-
-pub label_address_kept : (dst : Writable Reg) (label : MachLabel) → Keeps (LabelAddress dst label) → IsUsable dst.reg × (0 < number_of dst.reg)
-label_address_kept dst label k = let usable = (are_usable (dst.reg ∷ []) k.real k.placed k.free).0 in (usable, not_zero dst.reg usable (or_left (is_zero dst.reg) false k.counted))
 
 -- ---- what a frame that a tail call can take away gives.
 

@@ -1,19 +1,18 @@
 -- What lines of loads, stores, addresses, numbers and symbols add to a buffer, and that their parts are self-contained.
 use Rattle.{mach_records.specs.declared.records.Event.Event, mach_uses.specs.declared.uses.Use.Use, rv_base.specs.declared.unwind.UnwindInst.UnwindInst, rv_code.proofs.OperationActs.{jump_len, least_even, least_few, load_sized, lui_sized, rri_sized, rrr_sized, store_sized}}
-use Rattle.rv_code.proofs.Words.{Constant, Do, Piece, Rri, Word64, Writable, immediate_pieces, number_pieces, offset_pieces, slots_of, access_slots, Add, Addi, address_slots, address_targets, Fixup, Allocate, AMode, AreClosed, AreSelfContained, AtConstant, AtLabel, Base}
-use Rattle.rv_code.proofs.Words.{Based, boxing_slots, cast_signed, Const, constant_label, constant_named, Context, Data, Decoded, decoded, decoded_load, decoded_store, FrameLayout, half_load_slots, has_load, has_store, Here, Inst, inst_constant, inst_records, inst_size}
-use Rattle.rv_code.proofs.Words.{ints, is_near, is_splittable, IsaFlags, IsOfSize, IsReal, Jal20, jump_size, label_of, LabelUse, Lh, load_line_slots, load_over, load_own_size, load_size, load_slots, LoadOP, Location, location_of, low64, low_word, lower_of}
-use Rattle.rv_code.proofs.Words.{MachRecord, marks_of, MemFlagsData, moved_to_float, moved_to_integer, name_more, named_by, Names, names_of, Records, number_of, number_slots, offset_slots, Op, Or, PCRelHi20, PCRelLo12I, Real, records_of, Reg, RegClass, Sh, short_jump}
-use Rattle.rv_code.proofs.Words.{short_load, short_lui, short_rri, short_rrr, short_store, size_of, Slot, slot_size, store_line_slots, store_own_size, store_slots, StoreOP, target_uses, to_le_bytes, TrapCode, upper_of, use_at, uses_in, uses_of, uses_start}
-use Rattle.rv_code.{proofs.Words.{VCodeConstant, Virtual, w64, Action, chosen, Rrr, op_of, slots_for, zca_load, zca_store}, specs.Accesses.{Access, access_pieces, address_pieces, based_pieces, boxing_pieces, far_pieces, half_load_pieces, half_store_pieces, load_pieces, store_access, store_pieces}}
-use Rattle.{rv_code.specs.Pieces.Lui, rv_inst.{specs.Halves.{boxing_size, high_bits, is_moved_first, load_line_own_size, store_line_own_size}, specs.Records.access_records}}
+use Rattle.rv_code.proofs.Words.{Constant, Do, Piece, Rri, Word64, Writable, immediate_pieces, number_pieces, offset_pieces, slots_of, access_slots, Add, Addi, address_slots, address_targets, Fixup, Allocate, AMode, AreClosed, AreSelfContained, AtConstant, AtLabel, Base, Based, boxing_slots}
+use Rattle.rv_code.proofs.Words.{cast_signed, Const, constant_label, constant_named, Context, Data, Decoded, decoded, decoded_load, decoded_store, FrameLayout, half_load_slots, has_load, has_store, Here, Inst, inst_constant, inst_records, inst_size, ints, is_near, is_splittable, IsaFlags, IsOfSize}
+use Rattle.rv_code.proofs.Words.{IsReal, Jal20, jump_size, label_of, LabelUse, Lh, load_line_slots, load_over, load_own_size, load_size, load_slots, LoadOP, Location, location_of, low64, low_word, lower_of, MachRecord, marks_of, MemFlagsData, moved_to_float, moved_to_integer, name_more, named_by, Names}
+use Rattle.rv_code.proofs.Words.{names_of, Records, number_of, number_slots, offset_slots, Op, Or, PCRelHi20, PCRelLo12I, Real, records_of, Reg, RegClass, Sh, short_jump, short_load, short_lui, short_rri, short_rrr, short_store, size_of, Slot, slot_size, store_line_slots, store_own_size, store_slots}
+use Rattle.rv_code.proofs.Words.{StoreOP, target_uses, to_le_bytes, TrapCode, upper_of, use_at, uses_in, uses_of, uses_start, VCodeConstant, Virtual, w64, Action, chosen, Rrr, op_of, slots_for, zca_load, zca_store}
+use Rattle.{rv_code.{specs.Accesses.{Access, access_pieces, address_pieces, based_pieces, boxing_pieces, far_pieces, half_load_pieces, half_store_pieces, load_pieces, store_access, store_pieces}, specs.Pieces.Lui}, rv_inst.specs.Halves.{boxing_size, high_bits, is_moved_first, load_line_own_size, store_line_own_size}}
+use Rattle.rv_inst.{specs.Records.access_records, specs.declared.inst.Inst.TheVariants.{Load, LoadAddr, Store, Unwind}}
 use Rattle.std.proofs.Common.{◌≡◌, ℕ, ◌+◌, List, [], ◌∷◌, ◌%◌, eqb-true, length, Option, refl, arith, ◌-◌, ◌≤◌, Bool, true, false, ◌++◌, Some, None, ℤ, pos, ap, sym, ◌∙◌, subst, append_assoc, lit≤, append-nil, ◌==◌, ◌^◌, ◌<◌, not, if◌then◌else◌, ◌&&◌, rules}
 use Rattle.rv_ops.specs.declared.memory.LoadOP.TheVariants as loads
 use Rattle.rv_ops.specs.declared.memory.StoreOP.TheVariants as stores
 use Rattle.rv_code.specs.Pieces as piece
 use Rattle.rv_machine.specs.declared.ops.BaseOp.TheVariants as base
 use Rattle.mach_records.specs.declared.records.Event.TheVariants as event
-use Rattle.rv_inst.specs.declared.inst.Inst.TheVariants.{Load, LoadAddr, Store, Unwind}
 
 -- slots that allocate and bind no label
 abbrev pub IsPlain : List Slot → Type 0

@@ -1,16 +1,19 @@
 -- Instructions that pieces make: how long they are, and that they are self-contained.
-use Rattle.{rv_base.{specs.declared.ir_type.IrType.TheVariants.I32, specs.declared.value_regs.ValueRegs.TheVariants.{One, Two}}, rv_code.{proofs.Courses.read_low, proofs.Evaluation.{action_sized, piece_even, slots_long, trap_long}}}
-use Rattle.rv_code.{proofs.LineSlots.{IsPlain, is_low, offset_by, closed_append, number_by, size_append}, proofs.LongSlots.{even_plain, even_closed, literal_even}, proofs.OperationActs.{jalr_sized, jump_len, least_few, window_long}}
-use Rattle.rv_code.proofs.Words.{Constant, Slli, Trap, TrapCode, VCodeConstant, Writable, and_parts, cast_signed, jump_size, low_word, number_pieces, slots_of, uses_in, w64, written_in, AddressOf, Allocate, ExternalName, Here, Literal}
-use Rattle.rv_code.proofs.Words.{NameAddress, Names, OfLabel, OfSymbol, Records, Slot, SlotOf, Symbol, Take, Word32, Word64, address_event, is_word_type, literal_of, literal_size, literal_slots, slot_size}
-use Rattle.rv_code.proofs.Words.{slots_for, symbol_slots, IsInRange, low64, lower_of, offset_pieces, Addi, Action, after, all_of, Andi, AreAmong, AreClosed, AreClosedPieces, AreSelfContained, AtMost, B12, backward_of, Bind, bits_of, Branch, canonical_type, choice_pieces}
-use Rattle.rv_code.proofs.Words.{class_of, complement_of, Context, Do, Exactly, extend_pieces, forward_of, GoNowhere, here_at, I64, Inst, inst_constant, inst_records, inst_size, Int, IntCC, IntegerCompare, IrType, is_byte, IsaFlags, IsBoundIn, IsBoundNear}
-use Rattle.rv_code.proofs.Words.{IsOfSize, Jal20, Jump, jump_kind, LabelUse, move_action, move_op, move_pieces, move_size, moves_then, named_by, names_of, New, number_of, op_of, own_labels, Piece, piece_most, piece_size, pieces_most, pieces_size, PReg}
-use Rattle.rv_code.{proofs.Words.{records_of, Reg, RegClass, request_of, right_shift, Rri, RVCJump, same_numbers, select_pieces, SelectInfo, size_of}, specs.Pieces.{Go, Jalr, LoadFrom, Name}, specs.Probes.{probe_pieces, probe_turn}, specs.Sequences.{pieces_by, sequence_pieces, zeros_pieces}}
-use Rattle.{rv_code.specs.Traps.trap_if_pieces, rv_inst.{specs.Descriptions.most_words, specs.declared.sequence.Computation.Computation, specs.declared.sequence.Computation.TheVariants.Zeros, specs.declared.sequence.Sequence.Sequence}}
-use Rattle.std.{proofs.Common.{rules, ◌≡◌, ℕ, ℤ, ◌+◌, ◌≤◌, Bool, true, false, nat_eq, [], ◌∷◌, List, length, Option, Some, None, is_some, unwrap_or, zero, ◌&&◌, arith, refl, lit≤, sym, subst, ap, lit<, suc, ◌*◌, ◌<◌, ◌++◌, map, pos, ◌∙◌, ◌-◌, if◌then◌else◌, ⊎_elim, ◌%◌}, proofs.Common.◌^◌}
+use Rattle.{rv_base.specs.declared.value_regs.ValueRegs.TheVariants.{One, Two}, rv_code.{proofs.Courses.read_low, proofs.Evaluation.{action_sized, piece_even, slots_long, trap_long}, proofs.LineSlots.{IsPlain, is_low, offset_by, closed_append, number_by, size_append, IsSummed}}}
+use Rattle.rv_code.{proofs.LongSlots.{even_plain, even_closed, literal_even}, proofs.OperationActs.{jalr_sized, jump_len, least_few, window_long}}
+use Rattle.rv_code.proofs.Words.{Constant, Slli, Trap, TrapCode, VCodeConstant, Writable, and_parts, cast_signed, jump_size, low_word, number_pieces, slots_of, uses_in, w64, written_in, AddressOf, Allocate, ExternalName, Here, Literal, NameAddress, Names, OfLabel, OfSymbol, Records, Slot, SlotOf}
+use Rattle.rv_code.proofs.Words.{Symbol, Take, Word32, Word64, address_event, literal_of, literal_size, literal_slots, slot_size, slots_for, symbol_slots, IsInRange, low64, lower_of, offset_pieces, Addi, Action, after, all_of, Andi, AreAmong, AreClosed, AreClosedPieces, AreSelfContained, AtMost, B12}
+use Rattle.rv_code.proofs.Words.{backward_of, Bind, bits_of, Branch, canonical_type, choice_pieces, class_of, complement_of, Context, Do, Exactly, extend_pieces, forward_of, GoNowhere, here_at, I64, Inst, inst_constant, inst_records, inst_size, Int, IntCC, IntegerCompare, IrType, is_byte, IsaFlags}
+use Rattle.rv_code.proofs.Words.{IsBoundIn, IsBoundNear, IsOfSize, Jal20, Jump, jump_kind, LabelUse, move_action, move_op, move_pieces, move_size, moves_then, named_by, names_of, New, number_of, op_of, own_labels, Piece, piece_most, piece_size, pieces_most, pieces_size, PReg, records_of, Reg, RegClass}
+use Rattle.rv_code.{proofs.Words.{request_of, right_shift, Rri, RVCJump, same_numbers, select_pieces, SelectInfo, size_of}, specs.Pieces.{Go, Jalr, LoadFrom, Name}, specs.Probes.{probe_pieces, probe_turn}, specs.Sequences.{pieces_by, sequence_pieces, zeros_pieces}, specs.Traps.trap_if_pieces}
+use Rattle.{rv_code.{proofs.Forgetting.{either, pieces_forget, slots_forget}, specs.Forgetting.slot_forgets, specs.InstParts.{parts_of, slots_alone}, specs.declared.state.EmitVState.EmitVState}, rv_inst.specs.Descriptions.{most_words, facts_of, given, none_is_some, recorded_of}}
+use Rattle.rv_inst.{specs.declared.sequence.Computation.Computation, specs.declared.sequence.Computation.TheVariants.Zeros, specs.declared.sequence.Sequence.Sequence, specs.Limits.sequence_limit, specs.Operands.inst_ways}
+use Rattle.rv_inst.{specs.Records.{Recorded, Nothing, TrapAfter, SlotInParts, AddressInParts, AddressLast}, specs.Sizes.most_bytes, specs.declared.units.Facts.Facts}
+use Rattle.rv_inst.specs.declared.inst.Inst.TheVariants.{Auipc, Extend, LabelAddress, LoadExtNameFar, LoadExtNameGot, LoadExtNameNear, LoadInlineConst, Mov, MovFromPReg, Select, StackProbeLoop, TrapIf, Udf}
+use Rattle.std.{proofs.Common.{rules, ◌≡◌, ℕ, ℤ, ◌+◌, ◌≤◌, Bool, true, false, nat_eq, [], ◌∷◌, List, length, Option, Some, None, is_some, unwrap_or, zero, ◌&&◌, arith, refl, lit≤, sym, subst, ap, lit<, suc, ◌*◌, ◌<◌, ◌++◌, map, pos, ◌∙◌, ◌-◌, if◌then◌else◌, ⊎_elim, ◌%◌, ◌^◌, inl, inr, ◌⊎◌}, proofs.lemmas.Option.same_Some}
+use Rattle.std.{specs.List.list_any, specs.Prelude.{not, ◌==◌}}
+use mathlib.Core.Bool.{or-false}
 use borrow.Author.Count.{below_more, below_none}
-use Rattle.rv_inst.specs.declared.inst.Inst.TheVariants.{Extend, LoadExtNameFar, LoadExtNameGot, LoadExtNameNear, LoadInlineConst, Mov, MovFromPReg, Select, StackProbeLoop, TrapIf, Udf}
 
 -- ---- how long pieces are, and that those which use no own label but what they allocate and bind are self-contained, in whatever forms.
 
@@ -201,7 +204,7 @@ mov_made context rd rm type = move_made context (Mov rd rm type) (class_of rd.re
 pub mov_from_preg_made : (context : Context) (rd : Writable Reg) (rm : PReg) → IsMadeOf context (MovFromPReg rd rm) (move_pieces Int I64 (number_of rd.reg) rm.number)
 mov_from_preg_made context rd rm = move_made context (MovFromPReg rd rm) Int I64 (number_of rd.reg) rm.number refl refl (λ start end. refl) (λ start end. refl) refl
 
-pub extend_made : (context : Context) (rd : Writable Reg) (rn : Reg) (signed : Bool) (from_bits to_bits : ℕ) → IsMadeOf context (Extend rd rn signed from_bits to_bits) (extend_pieces (number_of rd.reg) (number_of rn) signed from_bits)
+extend_made : (context : Context) (rd : Writable Reg) (rn : Reg) (signed : Bool) (from_bits to_bits : ℕ) → IsMadeOf context (Extend rd rn signed from_bits to_bits) (extend_pieces (number_of rd.reg) (number_of rn) signed from_bits)
 extend_made context rd rn signed from_bits to_bits =
     let inst = Extend rd rn signed from_bits to_bits in
     let low = Rri Andi (number_of rd.reg) (number_of rn) (pos 255) in
@@ -270,7 +273,7 @@ udf_made context code =
     let t = trap_long context.flags in
     made_by context (Udf code) (Trap code ∷ []) (record { among = tt; bound = λ k lt. absurd (omega arith) }) (omega arith) (lit≤ tt) tt (lit≤ tt) refl (λ start end. refl) (λ start. refl) refl
 
-pub trap_if_made : (context : Context) (cmp : IntegerCompare) (code : TrapCode) → IsMadeOf context (TrapIf cmp code) (trap_if_pieces cmp code)
+trap_if_made : (context : Context) (cmp : IntegerCompare) (code : TrapCode) → IsMadeOf context (TrapIf cmp code) (trap_if_pieces cmp code)
 trap_if_made context cmp code =
     let P = IsBoundIn (trap_if_pieces cmp code) in
     let t = trap_long context.flags in
@@ -322,12 +325,18 @@ literal_made context inst rd l fits asks uses records none =
     let few = elim l as (λ l. 12 + literal_size l + 0 ≤ 2046) [ Word32 n ↦ lit≤ tt | _ ↦ lit≤ tt ] in
     made_by context inst (Constant rd l ∷ []) (record { among = tt; bound = λ k lt. absurd (omega arith) }) fits few tt (lit≤ tt) asks uses records none
 
-pub constant_made : (context : Context) (rd : Writable Reg) (type : IrType) (imm : ℕ) → is_word_type type ≡ true → IsMadeOf context (LoadInlineConst rd type imm) (Constant (number_of rd.reg) (literal_of type imm) ∷ [])
-constant_made context rd I32 imm word = literal_made context (LoadInlineConst rd I32 imm) (number_of rd.reg) (Word32 imm) (omega arith) refl (λ start end. refl) (λ start. refl) refl
-constant_made context rd I64 imm word = literal_made context (LoadInlineConst rd I64 imm) (number_of rd.reg) (Word64 imm) (omega arith) refl (λ start end. refl) (λ start. refl) refl
-constant_made context rd _ imm word = absurd (cc)
+-- a constant of a type, which is of four bytes or of eight
+constant_size : (type : IrType) (imm : ℕ) → literal_size (literal_of type imm) ≡ (if bits_of type == 32 then 4 else 8)
+constant_size type imm = elim (bits_of type == 32) as (λ c. literal_size (if c then Word32 imm else Word64 imm) ≡ (if c then 4 else 8)) [ true ↦ refl | false ↦ refl ]
 
-pub far_made : (context : Context) (rd : Writable Reg) (name : ExternalName) (offset : ℤ) → IsMadeOf context (LoadExtNameFar rd name offset) (Constant (number_of rd.reg) (NameAddress name offset) ∷ [])
+constant_quiet : (flags : IsaFlags) (rd : ℕ) (type : IrType) (imm start : ℕ) → records_of start (slots_of flags (Constant rd (literal_of type imm) ∷ [])) ≡ []
+constant_quiet flags rd type imm start = elim (bits_of type == 32) as (λ c. records_of start (slots_of flags (Constant rd (if c then Word32 imm else Word64 imm) ∷ [])) ≡ []) [ true ↦ refl | false ↦ refl ]
+
+constant_made : (context : Context) (rd : Writable Reg) (type : IrType) (imm : ℕ) → IsMadeOf context (LoadInlineConst rd type imm) (Constant (number_of rd.reg) (literal_of type imm) ∷ [])
+constant_made context rd type imm =
+    literal_made context (LoadInlineConst rd type imm) (number_of rd.reg) (literal_of type imm) (omega (arith, constant_size type imm)) refl (λ start end. refl) (constant_quiet context.flags (number_of rd.reg) type imm) refl
+
+far_made : (context : Context) (rd : Writable Reg) (name : ExternalName) (offset : ℤ) → IsMadeOf context (LoadExtNameFar rd name offset) (Constant (number_of rd.reg) (NameAddress name offset) ∷ [])
 far_made context rd name offset =
     let jump = jump_len context.flags (pos (8 + jump_size context.flags)) in
     literal_made context (LoadExtNameFar rd name offset) (number_of rd.reg) (NameAddress name offset) (omega arith) refl (λ start end. refl) (λ start. ap (λ at. record { offset = at; event = address_event name offset } ∷ []) (omega arith)) refl
@@ -336,8 +345,60 @@ symbol_made : (context : Context) (inst : Inst) (rd : ℕ) (symbol : Symbol) →
     ((start : ℕ) → records_of start (symbol_slots rd symbol) ≡ inst_records context start (start + 8) inst) → inst_constant inst ≡ None → IsMadeOf context inst (Take rd (OfSymbol symbol) ∷ [])
 symbol_made context inst rd symbol fits asks uses records none = made_by context inst (Take rd (OfSymbol symbol) ∷ []) (record { among = tt; bound = λ k lt. absurd (omega arith) }) fits (lit≤ tt) (tt, tt) (lit≤ tt) asks uses records none
 
-pub got_made : (context : Context) (rd : Writable Reg) (name : ExternalName) → IsMadeOf context (LoadExtNameGot rd name) (Take (number_of rd.reg) (OfSymbol (SlotOf name)) ∷ [])
+got_made : (context : Context) (rd : Writable Reg) (name : ExternalName) → IsMadeOf context (LoadExtNameGot rd name) (Take (number_of rd.reg) (OfSymbol (SlotOf name)) ∷ [])
 got_made context rd name = symbol_made context (LoadExtNameGot rd name) (number_of rd.reg) (SlotOf name) refl refl (λ start end. refl) (λ start. refl) refl
 
-pub near_made : (context : Context) (rd : Writable Reg) (name : ExternalName) (offset : ℤ) → IsMadeOf context (LoadExtNameNear rd name offset) (Take (number_of rd.reg) (OfSymbol (AddressOf name offset)) ∷ [])
+near_made : (context : Context) (rd : Writable Reg) (name : ExternalName) (offset : ℤ) → IsMadeOf context (LoadExtNameNear rd name offset) (Take (number_of rd.reg) (OfSymbol (AddressOf name offset)) ∷ [])
 near_made context rd name offset = symbol_made context (LoadExtNameNear rd name offset) (number_of rd.reg) (AddressOf name offset) refl refl (λ start end. refl) (λ start. refl) refl
+
+-- ---- instructions whose descriptions give their code: what each becomes.
+
+-- Its slots are self-contained, and use and bind no label of their own, or are those of pieces. Beside veneers for the labels that it names
+-- it has no more bytes than one may have that asks for no island; and nothing is known of the setting after it where it jumps in four bytes.
+pub record IsGiven (context : Context) (setting : EmitVState) (inst : Inst) (f : Facts) : Type 0 where
+  pub slots : List Slot
+  pub parts : parts_of context setting inst ≡ slots_alone slots
+  pub contained : AreSelfContained slots
+  pub form : IsSummed context inst slots ⊎ ((pieces : List Piece) × (slots_of context.flags pieces ≡ slots) × IsMadeOf context inst pieces)
+  pub asks : request_of context inst ≡ None
+  pub few : most_bytes context inst + 8 * length (inst_ways inst) ≤ sequence_limit
+  pub forgets : list_any slot_forgets slots ≡ (f.jumps && not context.flags.has_zca)
+
+given_by : {context : Context} {setting : EmitVState} {inst : Inst} {f : Facts} (pieces : List Piece) → parts_of context setting inst ≡ slots_alone (slots_of context.flags pieces) → IsMadeOf context inst pieces → most_bytes context inst + 8 * length (inst_ways inst) ≤ sequence_limit →
+    pieces_forget (not context.flags.has_zca) pieces ≡ (f.jumps && not context.flags.has_zca) → IsGiven context setting inst f
+given_by {context} pieces parts made few forgets =
+    record { slots = slots_of context.flags pieces; parts = parts; contained = made_contained made; form = inr (pieces, refl, made); asks = made.asks; few = few; forgets = slots_forget context.flags pieces ∙ forgets }
+
+pub given_code : (context : Context) (setting : EmitVState) (inst : Inst) (e : is_some (facts_of inst) ≡ true) → IsGiven context setting inst (given (facts_of inst) e)
+given_code context setting (Auipc rd imm) e = record { slots = _; parts = refl; contained = (refl, tt); form = inl (record { plain = tt; fits = lit≤ tt; uses = λ allocated start. refl; records = λ start. refl; names = λ named. refl }); asks = refl; few = lit≤ tt; forgets = refl }
+given_code context setting (LabelAddress dst label) e = record { slots = _; parts = refl; contained = (tt, (tt, tt)); form = inl (record { plain = tt; fits = refl; uses = λ allocated start. refl; records = λ start. refl; names = λ named. refl }); asks = refl; few = lit≤ tt; forgets = refl }
+given_code context setting (LoadInlineConst rd type imm) e =
+    let few = elim (bits_of type == 32) as (λ c. (if c then 4 else 8) ≤ 8) [ true ↦ lit≤ tt | false ↦ lit≤ tt ] in
+    given_by _ refl (constant_made context rd type imm) (omega (arith, few, least_few context.flags)) (or-false _)
+given_code context setting (Extend rd rn signed from_bits to_bits) e = given_by _ refl (extend_made context rd rn signed from_bits to_bits) (lit≤ tt) (either (λ ps. pieces_forget (not context.flags.has_zca) ps ≡ false) (is_byte signed from_bits) _ _ refl refl)
+given_code context setting (TrapIf cmp code) e = given_by _ refl (trap_if_made context cmp code) (omega (arith, least_few context.flags)) refl
+given_code context setting (LoadExtNameGot rd name) e = given_by _ refl (got_made context rd name) (lit≤ tt) refl
+given_code context setting (LoadExtNameNear rd name offset) e = given_by _ refl (near_made context rd name offset) (lit≤ tt) refl
+given_code context setting (LoadExtNameFar rd name offset) e = given_by _ refl (far_made context rd name offset) (omega (arith, least_few context.flags)) (or-false _)
+given_code context setting inst e = absurd (none_is_some e)
+
+given_some : {A : Type 0} (o : Option A) (a : A) (e : is_some o ≡ true) → o ≡ Some a → given o e ≡ a
+given_some None a e is = absurd (none_is_some e)
+given_some (Some b) a e is = same_Some b a is
+
+pub code_given : (context : Context) (setting : EmitVState) (inst : Inst) (f : Facts) → facts_of inst ≡ Some f → IsGiven context setting inst f
+code_given context setting inst f is = let e = ap is_some is in subst (λ (f : Facts). IsGiven context setting inst f) (given_some (facts_of inst) f e is) (given_code context setting inst e)
+
+-- what fills a field has bytes for it
+abbrev pub HasRoom : Recorded → ℕ → Type 0
+HasRoom Nothing bytes = Unit {0}
+HasRoom (TrapAfter after code) bytes = Unit {0}
+HasRoom (SlotInParts name) bytes = 8 ≤ bytes
+HasRoom (AddressInParts name addend) bytes = 8 ≤ bytes
+HasRoom (AddressLast name addend) bytes = 8 ≤ bytes
+
+pub has_room : (context : Context) (inst : Inst) (bytes : ℕ) → IsOfSize (inst_size context inst) bytes → HasRoom (recorded_of inst) bytes
+has_room context (LoadExtNameGot rd name) bytes size = omega (arith, size)
+has_room context (LoadExtNameNear rd name offset) bytes size = omega (arith, size)
+has_room context (LoadExtNameFar rd name offset) bytes size = omega (arith, size)
+has_room context inst bytes size = tt

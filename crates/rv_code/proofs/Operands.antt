@@ -2,14 +2,14 @@
 use Rattle.{mach_labels.specs.Table.first_inner, rv_base.{specs.ValueRegs.{count_of as value_count}, specs.declared.value_regs.ValueRegs.ValueRegs}, rv_code.{proofs.Registers.{IsCount, count_of}, proofs.ReversedBytes.{Reversal, IsReversal}}}
 use Rattle.rv_code.proofs.Words.{all_of, AllByRecursion, and_parts, AreListed, AreMoves, AVirtual, bits_of, breaks_none, CallInfo, canonical_type, clash, class_of, Context, differ_at_places, differ_in_class, eqb-false, Float, has_bad_rounding}
 use Rattle.rv_code.proofs.Words.{has_bad_size, has_bad_type, has_bad_width, has_clash, has_empty_table, has_zero, I8, Inst, inst_registers, inst_rule, Int, IntegerCompare, IrType, is_buffer_label, is_float, is_float_class, is_int_class, is_int_type, is_misplaced}
-use Rattle.rv_code.proofs.Words.{is_movable, is_not_of, is_one_of, is_other_class, is_out_of_place, is_out_of_range, is_real_x, is_reserved, is_stack_or_frame, is_uneven, is_vector, is_vector_class, is_virtual, is_word_type, is_zero, IsFineChoice, IsFineTarget, IsFineTry}
+use Rattle.rv_code.proofs.Words.{is_movable, is_not_of, is_one_of, is_other_class, is_out_of_place, is_out_of_range, is_real_x, is_reserved, is_stack_or_frame, is_uneven, is_vector, is_vector_class, is_virtual, is_zero, IsFineChoice, IsFineTarget, IsFineTry}
 use Rattle.rv_code.proofs.Words.{IsIntRegister, IsListed, IsMove, IsRealRegister, IsUsable, labels_of, lacks_target, leb-false, leb-true, list_any, MachLabel, number_of, or_cases, or_parts, PReg, Real, Reg, RegClass}
-use Rattle.rv_code.{proofs.Words.{registers_in, same_class, same_register, SelectInfo, table_of, target_labels, targets_of, TrapCode, try_call_of, try_labels, TryCallInfo, values_differ, Vector, Writable, written_in}, specs.UnitRuns.{IsUsableIn, AreUsableIn}}
+use Rattle.rv_code.{proofs.Words.{registers_in, same_class, same_register, SelectInfo, table_of, target_labels, targets_of, try_call_of, try_labels, TryCallInfo, values_differ, Vector, Writable, written_in}, specs.UnitRuns.{IsUsableIn, AreUsableIn}}
 use Rattle.rv_inst.{proofs.PlainInsts.not_true, specs.Core.is_integer, specs.Descriptions.{counts, reverses, sequence_registers}, specs.Rules.sequence_faults, specs.declared.inst.Brev8Info.Brev8Info, specs.declared.inst.CondBrTarget.CondBrTarget}
 use Rattle.rv_inst.{specs.declared.inst.CondBrTarget.TheVariants.{Label as ToLabel}, specs.declared.inst.CountInfo.CountInfo, specs.declared.inst.Inst.TheVariants.Brev8, specs.declared.sequence.Computation.Computation, specs.declared.units.PlacedReg.PlacedReg}
 use Rattle.std.{proofs.Common.{⊎_elim, ◌≡◌, ◌⊎◌, inl, inr, ℕ, ◌<◌, Bool, true, false, List, [], ◌∷◌, ◌++◌, length, Option, Some, None, arith, refl, sym, subst, eqb-true, ◌∙◌, ◌≢◌, ◌==◌, not, ◌≤◌, rules, ◌%◌, ap, nat_le, ◌||◌, ◌&&◌}, proofs.lemmas.List.Folds.list_any-append}
 use Rattle.rv_inst.specs.declared.error.Rule.TheVariants as rule
-use Rattle.rv_inst.specs.declared.inst.Inst.TheVariants.{BrTable, CallInd, Extend, LoadInlineConst, Mov, MovFromPReg, RawData, Select, StackProbeLoop, TrapIf}
+use Rattle.rv_inst.specs.declared.inst.Inst.TheVariants.{BrTable, CallInd, Mov, MovFromPReg, RawData, Select, StackProbeLoop}
 
 -- ---- what an instruction that breaks no rule gives: integer registers below x30, numbers in range, and branches with a target.
 
@@ -150,21 +150,6 @@ other_number n (AVirtual class index) u h = absurd u.0
 pub not_zero : (r : Reg) → IsUsable r → is_zero r ≡ false → 0 < number_of r
 not_zero r u h = let other = other_number 0 r u h in omega arith
 
--- the register of a constant, and its type
-pub record ConstantKept (rd : Writable Reg) (type : IrType) : Type 0 where
-  pub usable : IsUsable rd.reg
-  pub counted : 0 < number_of rd.reg
-  pub typed : is_word_type type ≡ true
-
-pub constant_kept : (rd : Writable Reg) (type : IrType) (imm : ℕ) → Keeps (LoadInlineConst rd type imm) → ConstantKept rd type
-constant_kept rd type imm k =
-    let usable = (are_usable (rd.reg ∷ []) k.real k.placed k.free).0 in
-    record { usable = usable; counted = not_zero rd.reg usable (or_left (is_zero rd.reg) false k.counted); typed = not_false (is_word_type type) k.typed }
-
--- the registers of a trap's comparison
-pub trap_if_usable : (cmp : IntegerCompare) (code : TrapCode) → Keeps (TrapIf cmp code) → IsUsable cmp.rs1 × IsUsable cmp.rs2
-trap_if_usable cmp code k = let all = are_usable (cmp.rs1 ∷ cmp.rs2 ∷ []) k.real k.placed k.free in (all.0, all.1.0)
-
 -- the register with the address that is called
 pub call_usable : (info : CallInfo Reg) → Keeps (CallInd info) → IsUsable info.dest
 call_usable info k = is_usable info.dest (or_left (is_virtual info.dest) _ k.real) (or_left (is_other_class info.dest) _ k.placed) (or_left (is_reserved info.dest) _ k.free)
@@ -272,14 +257,11 @@ are_usable_in (p ∷ places) real placed free = (
   are_usable_in places (or_right (is_virtual p.reg) _ real) (or_right (is_out_of_place p) _ placed) (or_right (is_reserved p.reg) _ free),
 )
 
--- ---- what an extension and a choice that break no rule give.
+-- ---- what a number of bits and a choice that break no rule give.
 
--- usable registers, and from one bit to 64
-pub extend_kept : (rd : Writable Reg) (rn : Reg) (signed : Bool) (from_bits to_bits : ℕ) → Keeps (Extend rd rn signed from_bits to_bits) → IsUsable rd.reg × IsUsable rn × (1 ≤ from_bits) × (from_bits ≤ 64)
-extend_kept rd rn signed from_bits to_bits k =
-    let all = are_usable (rd.reg ∷ rn ∷ []) k.real k.placed k.free in
-    let range = and_parts (nat_le 1 from_bits) (nat_le from_bits 64) (not_false (nat_le 1 from_bits && nat_le from_bits 64) k.ranged) in
-    (all.0, all.1.0, leb-true 1 from_bits range.0, leb-true from_bits 64 range.1)
+-- from one bit to 64
+pub some_in_64 : (bits : ℕ) → not (nat_le 1 bits && nat_le bits 64) ≡ false → (1 ≤ bits) × (bits ≤ 64)
+some_in_64 bits ranged = let both = and_parts (nat_le 1 bits) (nat_le bits 64) (not_false (nat_le 1 bits && nat_le bits 64) ranged) in (leb-true 1 bits both.0, leb-true bits 64 both.1)
 
 -- a register that is moved to another at its place
 place_move : (r s : Reg) → is_virtual r ≡ false → is_virtual s ≡ false → differ_in_class r s ≡ false → is_vector r ≡ false → IsMove r s (canonical_type (class_of r))

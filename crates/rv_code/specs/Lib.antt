@@ -1,4 +1,5 @@
 pub mod Operations
+pub mod Forgetting
 pub mod Usable
 pub mod Choices
 pub mod Sequences

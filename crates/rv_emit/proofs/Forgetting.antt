@@ -1,104 +1,18 @@
--- Which instructions' code forgets the vector unit's setting: none does by its actions, so it is a matter of jumps and calls among its pieces.
-use Rattle.rv_emit.proofs.Terms.{Bind, AMode, ◌≢◌, bits_of, cast_signed, w64, ◌*◌, ◌≡◌, refl, sym, ap, ◌∙◌, arith, ints, rules, Bool, true, false, not, ◌&&◌, ◌||◌, if◌then◌else◌, nat_eq, ℕ, ℤ, pos, List, [], ◌∷◌, ◌++◌, Option, Some, None, length, map, ◌≤◌, IsaFlags, TrapCode, IrType, I64, Reg}
-use Rattle.rv_emit.proofs.Terms.{Int, number_of, Writable, MachLabel, TryCallInfo, Decoded, Base, decoded, low_word, LoadOP, StoreOP, Add, Addi, decoded_rri, decoded_rrr, has_load, has_store, Based, AtLabel, is_near, is_splittable, location_of, Context, Inst, Calls, family_of, loads_unless}
-use Rattle.rv_emit.proofs.Terms.{result_loads, StackLoad, decoded_jump, Piece, Do, Branch, Jump, Go, op_of, slots_for}
-use Rattle.rv_emit.proofs.Terms.{slots_of, Slot, Slots, Ask, SlotOf, EmitVState, parts_of, slots_alone, call_parts, number_slots, call_pieces, call_ind_pieces, try_pieces, extend_pieces, jump_slots, Buffer, bytes_of, pending, is_needed}
+-- Which instructions' code forgets the vector unit's setting.
+use Rattle.{rv_base.{specs.Regs.class_of, specs.declared.condcodes.IntCC.IntCC, specs.declared.mem_flags.MemFlagsData.MemFlagsData}, rv_code.{proofs.LineSlots.offset_by, proofs.MadeOfPieces.{moves_keep, number_keeps}}}
+use Rattle.rv_code.{proofs.Forgetting.{before_none, either, last_any, piece_forgets, pieces_forget, slots_forget}, specs.Forgetting.{is_inline, slot_forgets}, proofs.Registers.or_true}
+use Rattle.rv_code.{specs.Accesses.{Access, access_pieces, address_pieces, based_pieces, boxing_pieces, far_pieces, half_load_pieces, half_store_pieces, load_line_pieces, load_pieces, return_pieces, store_access, store_line_pieces, store_pieces}, specs.Choices.{choice_pieces, move_action, move_pieces, same_numbers, select_pieces}}
+use Rattle.rv_code.{specs.InstParts.result_slots, specs.Pieces.{Action, Rrr, Rri, Note, number_pieces, offset_pieces}, specs.Probes.{probe_pieces, probe_turn}, specs.Sequences.{pieces_by, sequence_pieces}}
+use Rattle.rv_emit.proofs.Terms.{Bind, AMode, ◌≢◌, ◌⊎◌, ⊎_elim, subst, code_given, bits_of, cast_signed, w64, ◌*◌, ◌≡◌, refl, sym, ap, ◌∙◌, arith, ints, Bool, true, false, not, ◌&&◌, ◌||◌, if◌then◌else◌, nat_eq, ℕ, ℤ, pos, List, [], ◌∷◌, ◌++◌, Option, Some, None, length, map, ◌≤◌, TrapCode, I64, Reg}
+use Rattle.rv_emit.proofs.Terms.{Int, number_of, Writable, MachLabel, TryCallInfo, low_word, LoadOP, StoreOP, Add, Addi, has_load, has_store, Based, AtLabel, is_near, is_splittable, location_of, Context, Inst, Calls, family_of, loads_unless, result_loads, StackLoad, Piece, Do, slots_of, Slot, Slots}
+use Rattle.{rv_emit.{proofs.Terms.{Ask, EmitVState, parts_of, slots_alone, call_parts, number_slots, call_pieces, call_ind_pieces, try_pieces, extend_pieces, jump_slots, Buffer, bytes_of, pending, is_needed}, specs.State.{parts_forget, setting_after, setting_beyond}}, rv_inst.specs.Addresses.{Location, AtConstant}}
+use Rattle.rv_inst.{specs.Descriptions.{facts_of, given, sequence_of}, specs.Operands.{all_of, written_in}, specs.Sizes.results_space, specs.declared.units.Facts.Facts, specs.declared.inst.Family.Family, specs.declared.inst.Family.TheVariants.{Integer, Loop, Symbols}}
+use Rattle.rv_inst.{specs.declared.inst.SelectInfo.SelectInfo, specs.declared.sequence.Computation.Computation, specs.declared.sequence.Computation.TheVariants.Zeros}
+use Rattle.{rv_inst.specs.declared.inst.Inst.TheVariants.{AluRRImm12, AluRRR, BrTable, Nop0, Call, CallInd, Load, LoadAddr, Lui, Mov, MovFromPReg, ReturnCall, ReturnCallInd, Select, StackProbeLoop, Store}, rv_ops.{specs.declared.memory.LoadOP.TheVariants.Lh, specs.declared.memory.StoreOP.TheVariants.Sh}, std.specs.List.list_any}
+use Rattle.std.specs.Prelude.{unwrap_or}
 use mathlib.Core.Bool.{or-false, or_self}
-use Rattle.{rv_base.{specs.Regs.class_of, specs.declared.condcodes.IntCC.IntCC, specs.declared.mem_flags.MemFlagsData.MemFlagsData}, rv_code.{proofs.LineSlots.offset_by, proofs.MadeOfPieces.{moves_keep, number_keeps}, proofs.OperationActs.{short_load_either, short_store_either}}}
-use Rattle.rv_code.{proofs.Registers.or_true, specs.Accesses.{Access, access_pieces, address_pieces, based_pieces, boxing_pieces, far_pieces, half_load_pieces, half_store_pieces, load_line_pieces, load_pieces, return_pieces, store_access, store_line_pieces, store_pieces}}
-use Rattle.rv_code.{specs.Choices.{choice_pieces, move_action, move_pieces, same_numbers, select_pieces}, specs.InstParts.result_slots, specs.Operations.short_jump, specs.Pieces.{Action, Rrr, Rri, Word32, OfSymbol, Constant, Take, LoadFrom, Note, number_pieces, offset_pieces}}
-use Rattle.{rv_code.{specs.Probes.{probe_pieces, probe_turn}, specs.Sequences.{pieces_by, sequence_pieces}}, rv_emit.{specs.Forgetting.{forgets, op_forgets, is_inline}, specs.State.{parts_forget, setting_after, setting_beyond, slot_forgets}}}
-use Rattle.{rv_encode.specs.Operations.{branch_op, load_of_format, load_op, load_row, store_of_format, store_op, store_row}, rv_inst.{specs.Addresses.{Location, AtConstant}, specs.Descriptions.{given, sequence_of}, specs.Forms.{chosen, form_lui, form_rri, form_rrr, immediate_form}}}
-use Rattle.rv_inst.{specs.Forms.{register_form, zca_rri, zca_rrr}, specs.Operands.{all_of, written_in}, specs.Sizes.{is_byte, results_space}, specs.declared.inst.Family.TheVariants.{Integer, Loop}, specs.declared.inst.SelectInfo.SelectInfo, specs.declared.sequence.Computation.Computation}
-use Rattle.{rv_inst.specs.declared.sequence.Computation.TheVariants.Zeros, rv_machine.{specs.Layout.compressed, specs.declared.ops.AluOp.AluOp, specs.declared.ops.MOp.TheVariants.Alu}, rv_ops.{specs.Compare.branch_of, specs.Memory.{load_format, store_format}}}
-use Rattle.{rv_ops.{specs.Operations.{RegisterForm, ImmediateForm, is_exchanged, rrr_op, rri_op, rrr_operation, rri_operation}, specs.declared.memory.LoadOP.TheVariants.Lh, specs.declared.memory.StoreOP.TheVariants.Sh}, std.{proofs.lemmas.List.Folds.list_any-append, specs.List.list_any}}
-use Rattle.std.specs.Prelude.{IfSome, unwrap_or}
-use Rattle.rv_machine.specs.declared.ops.BaseOp.TheVariants as base
-use Rattle.rv_ops.specs.declared.compare.BranchFunct3.TheVariants as branch
 use Rattle.rv_code.specs.Pieces as piece
 use Rattle.mach_records.specs.declared.records.Event.TheVariants as event
-use Rattle.rv_inst.specs.declared.inst.Inst.TheVariants.{AluRRImm12, AluRRR, BrTable, Call, CallInd, Extend, Load, LoadAddr, LoadInlineConst, Lui, Mov, MovFromPReg, ReturnCall, ReturnCallInd, Select, StackProbeLoop, Store}
-
--- ---- operations: those of actions, in whichever form they stand, are no jumps
-
-abbrev Stays : Decoded → Type 0
-Stays d = forgets d ≡ false
-
-either : {A : Type 0} (P : A → Type 0) (c : Bool) (x y : A) → P x → P y → P (if c then x else y)
-either P true x y h g = h
-either P false x y h g = g
-
-picked : (c : Bool) (x y : Option Decoded) → IfSome x Stays → IfSome y Stays → IfSome (if c then x else y) Stays
-picked c x y h g = either (λ o. IfSome o Stays) c x y h g
-
-chosen_stays : (form : Option Decoded) (whole : Decoded) → IfSome form Stays → Stays whole → Stays (chosen form whole)
-chosen_stays (Some d) whole h g = h
-chosen_stays None whole h g = g
-
-register_stays : (flags : IsaFlags) (way : Option RegisterForm) (op : AluOp) (rd rs1 rs2 : ℕ) → IfSome (register_form flags way op rd rs1 rs2) Stays
-register_stays flags None op rd rs1 rs2 = tt
-register_stays flags (Some way) op rd rs1 rs2 = search (rules, picked)
-
-immediate_stays : (flags : IsaFlags) (way : Option ImmediateForm) (op : AluOp) (rd rs : ℕ) (imm : ℤ) → IfSome (immediate_form flags way op rd rs imm) Stays
-immediate_stays flags None op rd rs imm = tt
-immediate_stays flags (Some way) op rd rs imm = search (rules, picked)
-
-load_stays : (op : LoadOP) (bytes : ℕ) → op_forgets bytes (load_row op) ≡ false
-load_stays op bytes = elim (load_format op) as (λ f. op_forgets bytes (load_of_format f (load_op op)) ≡ false) [ None ↦ refl | Some format ↦ refl ]
-
-store_stays : (op : StoreOP) (bytes : ℕ) → op_forgets bytes (store_row op) ≡ false
-store_stays op bytes = elim (store_format op) as (λ f. op_forgets bytes (store_of_format f (store_op op)) ≡ false) [ None ↦ refl | Some format ↦ refl ]
-
-action_stays : (flags : IsaFlags) (a : Action) → Stays (op_of flags a)
-action_stays flags (Rrr op rd a b) =
-    chosen_stays (form_rrr flags op rd a b) (decoded_rrr op rd a b) (picked flags.has_zca (zca_rrr flags op rd a b) None (register_stays flags (rrr_operation op).short (rrr_op op) rd a b) tt)
-    (either Stays (is_exchanged op) (decoded (Alu (rrr_op op)) rd b a (pos 0)) (decoded (Alu (rrr_op op)) rd a b (pos 0)) refl refl)
-action_stays flags (Rri op rd rs imm) = chosen_stays (form_rri flags op rd rs imm) (decoded_rri op rd rs imm) (picked flags.has_zca (zca_rri flags op rd rs imm) None (immediate_stays flags (rri_operation op).short (rri_op op) rd rs imm) tt) refl
-action_stays flags (piece.Lui rd imm) = chosen_stays (form_lui flags rd imm) _ (search (rules, picked)) refl
-action_stays flags (piece.Load op rd base offset) = short_load_either Stays flags op rd base offset (load_stays op 2) (load_stays op 4)
-action_stays flags (piece.Store op base src offset) = short_store_either Stays flags op base src offset (store_stays op 2) (store_stays op 4)
-action_stays flags a = refl
-
-jump_forgets : (flags : IsaFlags) (d : ℤ) → forgets (short_jump flags d) ≡ not flags.has_zca
-jump_forgets flags d = elim flags.has_zca as (λ c. forgets (if c then compressed (Base base.Jal) 0 0 0 d else decoded_jump d) ≡ not c) [ true ↦ refl | false ↦ refl ]
-
--- ---- pieces
-
--- whether a piece forgets, by whether a jump has four bytes
-abbrev piece_forgets : Bool → Piece → Bool
-piece_forgets wide (Constant rd l) = wide
-piece_forgets wide (Jump k) = wide
-piece_forgets wide (Go l) = wide
-piece_forgets wide (piece.Call link tmp name) = true
-piece_forgets wide (piece.Jalr link rs offset) = true
-piece_forgets wide p = false
-
-abbrev pieces_forget : Bool → List Piece → Bool
-pieces_forget wide ps = list_any (piece_forgets wide) ps
-
-piece_is : (flags : IsaFlags) (p : Piece) → list_any slot_forgets (slots_for flags p) ≡ piece_forgets (not flags.has_zca) p
-piece_is flags (Do a) = ap (λ c. c || false) (action_stays flags a)
-piece_is flags (Constant rd (Word32 n)) = or-false _ ∙ jump_forgets flags _
-piece_is flags (Constant rd l) = or-false _ ∙ jump_forgets flags _
-piece_is flags (Take rd (OfSymbol (SlotOf name))) = refl
-piece_is flags (LoadFrom op rd None l) = ap (λ c. (c || false) || false) (load_stays op 4)
-piece_is flags (LoadFrom op rd (Some code) l) = ap (λ c. (c || false) || false) (load_stays op 4)
-piece_is flags (Branch how a b k) = elim (branch_of how) as (λ o. ((op_forgets 4 (Base (branch_op o)) || false) || false) ≡ false) [ branch.Eq ↦ refl | _ ↦ refl ]
-piece_is flags (Jump k) = or-false _ ∙ or-false _ ∙ jump_forgets flags (pos 0)
-piece_is flags (Go l) = or-false _ ∙ or-false _ ∙ jump_forgets flags (pos 0)
-piece_is flags (piece.Jalr link rs offset) = or-false _ ∙ either (λ form. forgets (chosen form (decoded (Base base.Jalr) link rs 0 offset)) ≡ true) _ (Some (compressed (Base base.Jalr) link rs 0 (pos 0))) None refl refl
-piece_is flags p = refl
-
-slots_forget : (flags : IsaFlags) (ps : List Piece) → list_any slot_forgets (slots_of flags ps) ≡ pieces_forget (not flags.has_zca) ps
-slots_forget flags [] = refl
-slots_forget flags (p ∷ ps) = list_any-append slot_forgets (slots_for flags p) (slots_of flags ps) ∙ (λ i. piece_is flags p i || slots_forget flags ps i)
-
--- two lists, of which the second has one that is such, or none
-last_any : {A : Type 0} (test : A → Bool) (xs ys : List A) → list_any test ys ≡ true → list_any test (xs ++ ys) ≡ true
-last_any test xs ys e = list_any-append test xs ys ∙ ap (λ c. list_any test xs || c) e ∙ or_true (list_any test xs)
-
-before_none : (wide : Bool) (ps qs : List Piece) (c : Bool) → pieces_forget wide ps ≡ c → pieces_forget wide qs ≡ false → pieces_forget wide (ps ++ qs) ≡ c
-before_none wide ps qs c e none = list_any-append (piece_forgets wide) ps qs ∙ (λ i. e i || none i) ∙ or-false c
 
 -- ---- addresses, loads and stores: by whether their offset is made by immediates
 
@@ -163,8 +77,11 @@ select_none wide info =
     let choice = choice_none wide (written_in info.dst) in
     either (λ ps. pieces_forget wide ps ≡ false) (same_numbers (map number_of (all_of info.y)) (map number_of (written_in info.dst))) _ _ (choice (all_of info.y) (all_of info.x) _ _ _) (choice (all_of info.x) (all_of info.y) _ _ _)
 
-pub integers_stay : (context : Context) (inst : Inst) → family_of inst ≡ Integer → ((rd : Writable Reg) (type : IrType) (imm : ℕ) → inst ≢ LoadInlineConst rd type imm) → Forgets context inst false
-integers_stay context (LoadInlineConst rd type imm) family other = absurd (other rd type imm refl)
+-- one whose description gives its code: where that jumps
+given_forgets : (context : Context) (inst : Inst) (f : Facts) → facts_of inst ≡ Some f → Forgets context inst (f.jumps && not context.flags.has_zca)
+given_forgets context inst f is b setting = let g = code_given context setting inst f is in ap (λ c. setting_beyond c setting) (ap (parts_forget b) g.parts ∙ or-false _ ∙ g.forgets)
+
+integers_stay : (context : Context) (inst : Inst) → family_of inst ≡ Integer → facts_of inst ≡ None → Forgets context inst false
 integers_stay context (Lui rd imm) family other = made context (Lui rd imm) refl (Do (piece.Lui (number_of rd.reg) imm.value) ∷ []) refl (λ setting. refl)
 integers_stay context (AluRRR op rd rs1 rs2) family other = made context (AluRRR op rd rs1 rs2) refl (Do (Rrr op (number_of rd.reg) (number_of rs1) (number_of rs2)) ∷ []) refl (λ setting. refl)
 integers_stay context (AluRRImm12 op rd rs imm) family other = made context (AluRRImm12 op rd rs imm) refl (Do (Rri op (number_of rd.reg) (number_of rs) imm.value) ∷ []) refl (λ setting. refl)
@@ -172,10 +89,21 @@ integers_stay context (Mov rd rm type) family other =
     made context (Mov rd rm type) refl (move_pieces (class_of rd.reg) type (number_of rd.reg) (number_of rm)) (either (λ ps. pieces_forget (not context.flags.has_zca) ps ≡ false) (nat_eq (number_of rd.reg) (number_of rm)) [] (Do (move_action (class_of rd.reg) type (number_of rd.reg) (number_of rm)) ∷ []) refl refl) (λ setting. refl)
 integers_stay context (MovFromPReg rd rm) family other =
     made context (MovFromPReg rd rm) refl (move_pieces Int I64 (number_of rd.reg) rm.number) (either (λ ps. pieces_forget (not context.flags.has_zca) ps ≡ false) (nat_eq (number_of rd.reg) rm.number) [] (Do (move_action Int I64 (number_of rd.reg) rm.number) ∷ []) refl refl) (λ setting. refl)
-integers_stay context (Extend rd rn signed from_bits to_bits) family other =
-    made context (Extend rd rn signed from_bits to_bits) refl (extend_pieces (number_of rd.reg) (number_of rn) signed from_bits) (either (λ ps. pieces_forget (not context.flags.has_zca) ps ≡ false) (is_byte signed from_bits) _ _ refl refl) (λ setting. refl)
 integers_stay context (Select info) family other = made context (Select info) refl (select_pieces info) (select_none _ info) (λ setting. refl)
 integers_stay context inst family other = λ b setting. cc
+
+-- each that takes a symbol has such a description
+symbols_given : (inst : Inst) → family_of inst ≡ Symbols → facts_of inst ≢ None
+symbols_given Nop0 family none = absurd (cc)
+symbols_given inst family none = absurd (cc)
+
+-- by what its facts say
+pub facts_forget : (context : Context) (inst : Inst) (family : Family) (jumps : Bool) → family_of inst ≡ family → (family ≡ Integer) ⊎ (family ≡ Symbols) → ((f : Facts) → facts_of inst ≡ Some f → jumps ≡ (f.jumps && not context.flags.has_zca)) → (facts_of inst ≡ None → jumps ≡ false) → Forgets context inst jumps
+facts_forget context inst family jumps is which some none = on (facts_of inst) refl
+  where
+    on : (facts : Option Facts) → facts_of inst ≡ facts → Forgets context inst jumps
+    on (Some f) e = subst (Forgets context inst) (sym (some f e)) (given_forgets context inst f e)
+    on None e = ⊎_elim (λ integer. subst (Forgets context inst) (sym (none e)) (integers_stay context inst (is ∙ integer) e)) (λ symbols. absurd (symbols_given inst (is ∙ symbols) e)) which
 
 -- ---- loops: each jumps back to its start
 

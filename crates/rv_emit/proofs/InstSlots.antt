@@ -1,18 +1,17 @@
 -- How the code of an instruction is made: what it adds to a buffer, and that its parts are self-contained.
-use Rattle.{rv_code.{proofs.LineSlots.size_both, proofs.MadeOfPieces.{constant_made, far_made, got_made, near_made}, specs.Accesses.return_pieces, specs.InstParts.described_parts, specs.Slots.{uses_of, records_of}}, rv_emit.proofs.CallSlots.{IsCall, call_adds, call_blocks, call_is, call_ind_is}}
-use Rattle.rv_emit.{proofs.Islands.{KeepsLow, asked_keeps, room_named, room_records, room_sound}, proofs.OwnPieces.{Each, each_none, made_appends}, proofs.TableSlots.table_adds}
-use Rattle.rv_emit.proofs.Terms.{none_put, ◌≡◌, true, ◌⊎◌, inl, ℕ, ◌+◌, ◌*◌, ◌^◌, ◌≤◌, List, [], ◌∷◌, ◌++◌, length, Option, Some, None, pos, refl, ap, sym, ◌∙◌, arith, lit≤, subst, same_Some, number_of, TrapCode, code_limit, IntegerCompare, Context, inst_rule, UnitWord, Inst}
-use Rattle.rv_emit.proofs.Terms.{CondBrTarget, Fallthrough, TryCallInfo, StackLoad, Exactly, AtMost, IsOfSize, Request, first_in, space_in, request_of}
-use Rattle.rv_emit.proofs.Terms.{inst_size, inst_sum, inst_records, uses_in, return_of, filled_last, is_some, VCodeConstant, inst_constant, named_by, table_of, EmitVState, Decoded, Buffer, IsSoundBuffer, Appends, AppendsCode, HasReturn, IsFarUse, IslandAsked, bytes_of}
-use Rattle.rv_emit.proofs.Terms.{allocated_of, named_of, PutsParts, EmitsIn, Part, Ask, Slots, Slot, Op, size_of, names_of, AreSelfContained, PartsAreSelfContained, access_records, access_slots, branch_slots, call_parts, parts_of}
-use Rattle.rv_emit.proofs.Terms.{slots_of, Piece, HasSize, rrr_sized, rri_sized, lui_sized, jalr_sized, ebreak_sized, window_long, IsPlain, IsSummed, summed, plain_put, put_long, code_none, no_own, low_kept, IsMadeOf, made_contained, mov_made, mov_from_preg_made}
-use Rattle.rv_emit.proofs.Terms.{extend_made, select_made, trap_if_made, udf_made, sequence_made, load_summed, store_summed, load_contained, store_contained, load_addr_summed, address_contained, location_of, probe_made, unwind_summed, table_contained, table_short}
-use Rattle.rv_emit.proofs.Terms.{tail_contained, tail_contents, t0_contained, t0_contents, return_short, AreShortLoads, unless_short, results_short, table_fine, call_kept, call_ind_kept, constant_kept, data_kept, keeps}
-use Rattle.rv_inst.{specs.Descriptions.{Description, Word, Computes, Gives, description_of, is_made, most_words, none_is_some}, specs.declared.inst.CondBrTarget.TheVariants.{Label as ToLabel}}
+use Rattle.{rv_code.{proofs.LineSlots.size_both, specs.Accesses.return_pieces, specs.InstParts.described_parts, specs.Slots.{uses_of, records_of}}, rv_emit.{proofs.CallSlots.{IsCall, call_adds, call_blocks, call_is, call_ind_is}, proofs.Islands.{KeepsLow, asked_keeps, room_named, room_records, room_sound}}}
+use Rattle.rv_emit.{proofs.OwnPieces.{Each, each_none, made_appends}, proofs.TableSlots.table_adds}
+use Rattle.rv_emit.proofs.Terms.{none_put, ◌≡◌, true, false, ⊎_elim, ◌⊎◌, inl, ℕ, ◌+◌, ◌*◌, ◌^◌, ◌≤◌, List, [], ◌∷◌, ◌++◌, length, Option, Some, None, pos, refl, ap, sym, ◌∙◌, arith, lit≤, subst, same_Some, number_of, TrapCode, code_limit, IntegerCompare, Context, inst_rule, UnitWord, Inst}
+use Rattle.rv_emit.proofs.Terms.{CondBrTarget, Fallthrough, TryCallInfo, StackLoad, Exactly, AtMost, IsOfSize, Request, first_in, space_in, request_of, inst_size, inst_sum, inst_records, uses_in, return_of, filled_last, is_some, VCodeConstant, inst_constant, named_by, table_of, EmitVState, Decoded}
+use Rattle.rv_emit.proofs.Terms.{Buffer, IsSoundBuffer, Appends, AppendsCode, HasReturn, IsFarUse, IslandAsked, bytes_of, allocated_of, named_of, PutsParts, EmitsIn, Part, Ask, Slots, Slot, Op, size_of, names_of, AreSelfContained, PartsAreSelfContained, access_records, access_slots, branch_slots}
+use Rattle.rv_emit.proofs.Terms.{call_parts, parts_of, slots_of, Piece, HasSize, rrr_sized, rri_sized, lui_sized, jalr_sized, ebreak_sized, window_long, IsPlain, IsSummed, summed, plain_put, put_long, code_none, no_own, low_kept, IsMadeOf, made_contained, mov_made, mov_from_preg_made, IsGiven}
+use Rattle.rv_emit.proofs.Terms.{given_code, select_made, udf_made, sequence_made, load_summed, store_summed, load_contained, store_contained, load_addr_summed, address_contained, location_of, probe_made, unwind_summed, table_contained, table_short, tail_contained, tail_contents, t0_contained}
+use Rattle.{rv_emit.proofs.Terms.{t0_contents, return_short, AreShortLoads, unless_short, results_short, table_fine, call_kept, call_ind_kept, data_kept, keeps}, rv_inst.{specs.Descriptions.{Description, Word, Computes, Gives, description_of, facts_of, is_made, most_words, none_is_some}, specs.declared.units.Facts.Facts}}
+use Rattle.rv_inst.specs.declared.inst.CondBrTarget.TheVariants.{Label as ToLabel}
+use Rattle.rv_inst.specs.declared.inst.Inst.TheVariants.{AluRRImm12, AluRRR, Args, BrTable, Call, CallInd, CondBr, DummyUse, EBreak, EmitIsland, Jal, Jalr, Load, LoadAddr, Lui, Mov, MovFromPReg, Nop0, Nop4, RawData, Ret, Rets, ReturnCall, ReturnCallInd, Select, SequencePoint, StackProbeLoop, Store, Udf, Unwind}
 use Rattle.rv_code.specs.Pieces as piece
 use Rattle.mach_records.specs.declared.records.Event.TheVariants as event
 use Rattle.rv_ops.specs.declared.memory.LoadOP.TheVariants as loads
-use Rattle.rv_inst.specs.declared.inst.Inst.TheVariants.{AluRRImm12, AluRRR, Args, Auipc, BrTable, Call, CallInd, CondBr, DummyUse, EBreak, EmitIsland, Extend, Jal, Jalr, LabelAddress, Load, LoadAddr, LoadExtNameFar, LoadExtNameGot, LoadExtNameNear, LoadInlineConst, Lui, Mov, MovFromPReg, Nop0, Nop4, RawData, Ret, Rets, ReturnCall, ReturnCallInd, Select, SequencePoint, StackProbeLoop, Store, TrapIf, Udf, Unwind}
 
 -- ---- how the code of an instruction is made
 
@@ -129,6 +128,12 @@ described (Word w) e four most asks uses records none = unit w four most asks us
 described {context} {inst} (Computes s with) e four most asks uses records none = made (sequence_made context inst s most asks uses records none)
 described (Gives g) e four most asks uses records none = absurd (none_is_some e)
 
+-- one whose description gives its code
+given_is_code : {context : Context} {setting : EmitVState} {inst : Inst} {f : Facts} → IsGiven context setting inst f → IsCode context inst (parts_of context setting inst)
+given_is_code {context} {inst = inst} g =
+    let code = ⊎_elim (λ summed. plain summed g.asks g.contained) (λ pieces. subst (λ slots. IsCode context inst (Slots slots ∷ [])) pieces.1 (made pieces.2)) g.form in
+    subst (IsCode context inst) (sym g.parts) code
+
 -- a branch, and a jump or none
 branches : (context : Context) (kind : IntegerCompare) (taken not_taken : CondBrTarget) → IsCode context (CondBr taken not_taken kind) (Slots (branch_slots context.flags kind taken not_taken) ∷ [])
 branches context kind Fallthrough not_taken = plain (record { plain = tt; fits = refl; uses = λ allocated start. refl; records = λ start. refl; names = λ named. refl }) refl tt
@@ -148,20 +153,15 @@ inst_is_code context setting (RawData bytes) rule =
     let size : (length bytes ≡ 4) ⊎ (length bytes ≡ 8) = data_kept bytes (keeps context _ rule) in
     plain (record { plain = tt; fits = omega arith; uses = λ allocated start. refl; records = λ start. refl; names = λ named. refl }) refl (omega arith, tt)
 inst_is_code context setting (Lui rd imm) rule = operation (lui_sized context.flags (number_of rd.reg) imm.value) refl refl (record { uses = λ start end. refl; records = λ start end. refl; names = λ named. refl })
-inst_is_code context setting (Auipc rd imm) rule = operation (record { even = refl; some = omega arith; few = omega arith }) refl refl (record { uses = λ start end. refl; records = λ start end. refl; names = λ named. refl })
-inst_is_code context setting (LoadInlineConst rd type imm) rule = made (constant_made context rd type imm (constant_kept rd type imm (keeps context _ rule)).typed)
 inst_is_code context setting (AluRRR op rd rs1 rs2) rule = operation (rrr_sized context.flags op (number_of rd.reg) (number_of rs1) (number_of rs2)) refl refl (record { uses = λ start end. refl; records = λ start end. refl; names = λ named. refl })
 inst_is_code context setting (AluRRImm12 op rd rs imm) rule = operation (rri_sized context.flags op (number_of rd.reg) (number_of rs) imm.value) refl refl (record { uses = λ start end. refl; records = λ start end. refl; names = λ named. refl })
 inst_is_code context setting (Mov rd rm type) rule = made (mov_made context rd rm type)
 inst_is_code context setting (MovFromPReg rd rm) rule = made (mov_from_preg_made context rd rm)
-inst_is_code context setting (Extend rd rn signed from_bits to_bits) rule = made (extend_made context rd rn signed from_bits to_bits)
 inst_is_code context setting (Select info) rule = made (select_made context info)
 inst_is_code context setting (Load rd op flags from) rule = let at = location_of context.frame from in plain (load_summed context rd op flags from) refl (load_contained context.flags (number_of rd.reg) op flags.trap at)
 inst_is_code context setting (Store src op flags to) rule = let at = location_of context.frame to in plain (store_summed context to op flags src) refl (store_contained context.flags op (number_of src) flags.trap at)
 inst_is_code context setting (LoadAddr rd mem) rule = let at = location_of context.frame mem in plain (load_addr_summed context rd mem) refl (address_contained context.flags (number_of rd.reg) at)
-inst_is_code context setting (LabelAddress dst label) rule = plain (record { plain = tt; fits = refl; uses = λ allocated start. refl; records = λ start. refl; names = λ named. refl }) refl (tt, (tt, tt))
 inst_is_code context setting Ret rule = operation (jalr_sized context.flags 0 1 (pos 0)) refl refl (record { uses = λ start end. refl; records = λ start end. refl; names = λ named. refl })
-inst_is_code context setting (TrapIf cmp code) rule = made (trap_if_made context cmp code)
 inst_is_code context setting (Jal label) rule = plain (record { plain = tt; fits = omega (arith, window_long context.flags); uses = λ allocated start. refl; records = λ start. refl; names = λ named. refl }) refl (tt, tt)
 inst_is_code context setting (CondBr taken not_taken kind) rule = branches context kind taken not_taken
 inst_is_code context setting (BrTable index tmp1 tmp2 targets) rule =
@@ -173,9 +173,6 @@ inst_is_code context setting (BrTable index tmp1 tmp2 targets) rule =
 inst_is_code context setting (Udf code) rule = made (udf_made context code)
 inst_is_code context setting (Jalr rd base offset) rule = operation (jalr_sized context.flags (number_of rd.reg) (number_of base) offset.value) refl refl (record { uses = λ start end. refl; records = λ start end. refl; names = λ named. refl })
 inst_is_code context setting (StackProbeLoop guard_size probe_count tmp) rule = made (probe_made context guard_size probe_count tmp)
-inst_is_code context setting (LoadExtNameGot rd name) rule = made (got_made context rd name)
-inst_is_code context setting (LoadExtNameNear rd name offset) rule = made (near_made context rd name offset)
-inst_is_code context setting (LoadExtNameFar rd name offset) rule = made (far_made context rd name offset)
 inst_is_code context setting (Call info) rule = calling (call_is context info) (unless_short context.flags info.patchable info.defs (call_kept info (keeps context _ rule)).results)
 inst_is_code context setting (CallInd info) rule = calling (call_ind_is context info) (results_short context.flags info.defs (call_ind_kept info (keeps context _ rule)).results)
 inst_is_code context setting (ReturnCall info) rule =
@@ -190,7 +187,10 @@ inst_is_code context setting (ReturnCallInd info) rule =
     after refl (omega (arith, long)) refl refl (omega (arith, long)) (λ small. omega (arith, long)) c.plain (t0_contained context.flags context.frame info.new_stack_arg_size)
     (λ small. omega (arith, long, return_short context.flags context.frame info.new_stack_arg_size)) (λ allocated at. subst (Each (IsFarUse _)) (sym (c.uses allocated at)) (each_none _)) (λ start end. refl) (λ first at. c.records at) c.names
 inst_is_code context setting (Unwind inst) rule = plain (unwind_summed context inst) refl tt
-inst_is_code context setting inst rule = described (description_of inst refl) refl refl refl refl (λ start end. refl) (λ start end. refl) refl
+inst_is_code context setting inst rule = (elim (is_some (facts_of inst)) as (λ c. is_some (facts_of inst) ≡ c → IsCode context inst (parts_of context setting inst)) [
+  | true ↦ λ e. given_is_code (given_code context setting inst e)
+  | false ↦ λ none. let d = description_of inst refl in let e : is_made d ≡ true = cc in subst (IsCode context inst) (cc) (described d e (cc) (cc) (cc) (λ start end. cc) (λ start end. cc) (cc))
+]) refl
 
 -- each part of an instruction is self-contained
 pub parts_are_self_contained : (context : Context) (setting : EmitVState) (inst : Inst) → inst_rule context inst ≡ None → PartsAreSelfContained (parts_of context setting inst)

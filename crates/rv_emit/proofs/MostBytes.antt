@@ -1,11 +1,10 @@
 -- How many bytes the sequences of each kind have at most, and what counts for them.
 use Rattle.rv_base.specs.declared.call.RetLocation.TheVariants.{Reg as InReg, Stack as OnStack}
-use Rattle.rv_emit.proofs.Terms.{◌≡◌, ◌⊎◌, ℕ, ◌+◌, ◌*◌, ◌/◌, ◌≤◌, Bool, true, false, List, [], ◌∷◌, length, Option, Some, None, refl, arith, lit≤, pos, ◌-ℤ◌, cond, nat_eq, count_by, if◌then◌else◌, length-append, sp_to_fp_of, AMode, RegOffset, sym, ◌∙◌, IsSome}
-use Rattle.rv_emit.proofs.Terms.{IsFineResult, AreFineResults, call_kept, call_ind_kept, CallRetPair, RetLocation, TryCallInfo, Reg, IrType, I32, I64, bits_of, is_word_type, load_size, ways_of, ways_by, inst_ways, address_targets, Nowhere, Branches, IsaFlags, FrameLayout}
-use Rattle.rv_emit.proofs.Terms.{number_of, LoadOP, has_load, has_store, Context, inst_rule, Exactly, AtMost, most_of, move_size, branch_size, inline_size, most_bytes, call_limit, sequence_limit, call_request, request_of, inst_sum, no_extra, StackLoad, saves_from}
-use Rattle.rv_emit.proofs.Terms.{setup_loads, restores, typed_loads, location_loads, result_loads, loads_unless, result_load, is_on_stack, is_stacked, CondBrTarget, Fallthrough, Inst}
-use Rattle.{rv_emit.proofs.Terms.{least_few, saves_long, setup_few, table_fine, keeps, data_kept, constant_kept}, rv_inst.specs.declared.inst.CondBrTarget.TheVariants.Label, std.proofs.lemmas.List.Sums.sum_by-cons}
-use Rattle.rv_inst.specs.declared.inst.Inst.TheVariants.{BrTable, Call, CallInd, CondBr, EmitIsland, Jal, Load, LoadAddr, LoadExtNameFar, LoadInlineConst, Mov, MovFromPReg, RawData, ReturnCall, ReturnCallInd, Store, TrapIf, Udf}
+use Rattle.rv_emit.proofs.Terms.{◌≡◌, ◌⊎◌, ℕ, ◌+◌, ◌*◌, ◌≤◌, Bool, true, false, List, [], ◌∷◌, length, Option, Some, None, refl, arith, lit≤, pos, ◌-ℤ◌, cond, nat_eq, count_by, if◌then◌else◌, length-append, sp_to_fp_of, AMode, RegOffset, sym, ◌∙◌, IsSome, IsFineResult, AreFineResults, call_kept}
+use Rattle.rv_emit.proofs.Terms.{call_ind_kept, CallRetPair, RetLocation, TryCallInfo, Reg, load_size, ways_of, ways_by, inst_ways, address_targets, Nowhere, Branches, IsaFlags, FrameLayout, number_of, LoadOP, has_load, has_store, Context, inst_rule, Exactly, AtMost, most_of, move_size, branch_size}
+use Rattle.rv_emit.proofs.Terms.{most_bytes, call_limit, sequence_limit, call_request, request_of, inst_sum, no_extra, StackLoad, saves_from, setup_loads, restores, typed_loads, location_loads, result_loads, loads_unless, result_load, is_on_stack, is_stacked, CondBrTarget, Fallthrough, Inst, least_few}
+use Rattle.{rv_emit.proofs.Terms.{saves_long, setup_few, table_fine, keeps, data_kept, given_code, is_some, Unknown}, rv_inst.{specs.Descriptions.facts_of, specs.declared.inst.CondBrTarget.TheVariants.Label}}
+use Rattle.{rv_inst.specs.declared.inst.Inst.TheVariants.{BrTable, Call, CallInd, CondBr, EmitIsland, Jal, Load, LoadAddr, Mov, MovFromPReg, RawData, ReturnCall, ReturnCallInd, Store, Udf}, std.{proofs.lemmas.Bool.leb-true, proofs.lemmas.List.Sums.sum_by-cons}}
 
 -- ---- pieces
 
@@ -27,11 +26,6 @@ branch_few flags (Label t) (Label f) = omega (arith, least_few flags)
 
 move_few : (rd rs : ℕ) → most_of (move_size rd rs) ≤ 4
 move_few rd rs = elim (nat_eq rd rs) as (λ c. most_of (if c then Exactly 0 else AtMost 4) ≤ 4) [ true ↦ lit≤ tt | false ↦ lit≤ tt ]
-
-constant_few : (flags : IsaFlags) (type : IrType) → is_word_type type ≡ true → inline_size flags (bits_of type / 8) ≤ 20
-constant_few flags I32 word = omega (arith, least_few flags)
-constant_few flags I64 word = omega (arith, least_few flags)
-constant_few flags _ word = absurd (cc)
 
 -- a load for each result on the stack
 typed_one : (register offset : ℕ) (op : Option LoadOP) → IsSome op → length (typed_loads register offset op) ≡ 1
@@ -84,14 +78,12 @@ most_in_sequence context (Store src op flags to) rule asks = omega (arith, addre
 most_in_sequence context (LoadAddr rd mem) rule asks = omega (arith, address_ways 0 mem)
 most_in_sequence context (CondBr t f kind) rule asks = omega (arith, branch_ways t f, branch_few context.flags t f)
 most_in_sequence context (RawData bytes) rule asks = let size : (length bytes ≡ 4) ⊎ (length bytes ≡ 8) = data_kept bytes (keeps context _ rule) in omega arith
-most_in_sequence context (LoadInlineConst rd type imm) rule asks = omega (arith, constant_few context.flags type (constant_kept rd type imm (keeps context _ rule)).typed)
 most_in_sequence context (Mov rd rm type) rule asks = omega (arith, move_few (number_of rd.reg) (number_of rm))
 most_in_sequence context (MovFromPReg rd rm) rule asks = omega (arith, move_few (number_of rd.reg) rm.number)
-most_in_sequence context (TrapIf cmp code) rule asks = omega (arith, least_few context.flags)
 most_in_sequence context (Udf code) rule asks = omega (arith, least_few context.flags)
 most_in_sequence context (Jal label) rule asks = omega (arith, least_few context.flags)
-most_in_sequence context (LoadExtNameFar rd name offset) rule asks = omega (arith, least_few context.flags)
-most_in_sequence context inst rule asks = omega arith
+most_in_sequence context inst rule asks = (elim (is_some (facts_of inst)) as (λ c. is_some (facts_of inst) ≡ c → most_bytes context inst + 8 * length (inst_ways inst) ≤ sequence_limit)
+    [ true ↦ λ e. (given_code context Unknown inst e).few | false ↦ λ none. leb-true (most_bytes context inst + 8 * length (inst_ways inst)) sequence_limit (cc) ]) refl
 
 -- and with two islands, it counts for as many
 pub most_counts : (context : Context) (inst : Inst) → inst_rule context inst ≡ None → most_bytes context inst + 8 * length (inst_ways inst) + 34 ≤ inst_sum context inst

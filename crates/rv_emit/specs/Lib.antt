@@ -1,4 +1,3 @@
-pub mod Forgetting
 pub mod State
 pub mod Emission
 pub mod Standing

@@ -15,10 +15,10 @@ ghost use Rattle.rv_emit.specs.StackMaps.{with_map};
 ghost use Rattle.rv_inst.specs.Limits.{sequence_limit};
 ghost use Rattle.rv_inst.specs.Sizes.{request_of};
 ghost use Rattle.rv_inst.specs.Operands.{family_of};
-ghost use Rattle.rv_inst.specs.declared.inst.Family.TheVariants.{Pseudo, Integer, Memory, Control, Loop, Symbols, Calls};
+ghost use Rattle.rv_inst.specs.declared.inst.Family.TheVariants.{Pseudo, Integer, Memory, Control, Loop, Calls};
 
 use crate::calls::{put_call, put_call_ind};
-use crate::symbols::{put_far_symbol, put_near_symbol, put_slot_load, put_unwind};
+use crate::symbols::{put_symbol, put_unwind};
 use crate::units::put_unit;
 use mach_buffer::MachBuffer;
 use rv_base::{
@@ -247,27 +247,5 @@ fn put_loop(
             Some(sequence) => put_computation(sink, flags, sequence),
             None => Ok(()),
         },
-    }
-}
-
-#[inline(never)]
-fn put_symbol(
-    sink: &mut MachBuffer<LabelUse>,
-    flags: IsaFlags,
-    inst: &Inst,
-) -> Result<(), OutOfMemory>
-    requires rule { KeepsRules (registered_of sink.old) inst.now }
-    requires room { length (bytes_of sink.old) + sequence_limit < code_limit }
-    requires sound { IsSoundBuffer sink.old }
-    ensures parts { family_of inst.now ≡ Symbols → OnOk result (EmitsAnyhow flags inst.now sink.old sink.new) }
-    ensures refused { OnErr result (spoiled_of sink.new ≡ true) }
-{
-    match inst {
-        Inst::LoadExtNameGot { rd, name } => put_slot_load(sink, *rd, *name),
-        Inst::LoadExtNameNear { rd, name, offset } => put_near_symbol(sink, *rd, *name, *offset),
-        Inst::LoadExtNameFar { rd, name, offset } => {
-            put_far_symbol(sink, flags, *rd, *name, *offset)
-        }
-        _ => Ok(()),
     }
 }

@@ -1,16 +1,18 @@
 //! What emission still knows of the vector unit's setting after an instruction's sequence.
 
-ghost use Rattle.std.specs.Prelude.{◌≡◌, ◌<◌, ◌^◌, ◌&&◌, not, List, None};
+ghost use Rattle.std.specs.Prelude.{◌≡◌, ◌<◌, ◌^◌, ◌&&◌, false, not, List, None, Some};
 ghost use Rattle.rv_base.specs.declared.constant.Constant.{Constant};
 ghost use Rattle.rv_base.specs.Frame.{sp_to_args_end};
 ghost use Rattle.rv_inst.specs.Addresses.{location_of, is_splittable};
 ghost use Rattle.rv_inst.specs.Context.{context_by};
+ghost use Rattle.rv_inst.specs.Descriptions.{facts_of};
 ghost use Rattle.rv_inst.specs.Operands.{family_of};
 ghost use Rattle.rv_inst.specs.Sizes.{request_of};
-ghost use Rattle.rv_inst.specs.declared.inst.Family.TheVariants.{Integer, Memory, Control, Loop, Symbols};
+ghost use Rattle.rv_inst.specs.declared.inst.Family.TheVariants.{Memory, Control};
+ghost use Rattle.rv_inst.specs.declared.units.Facts.{Facts};
 ghost use Rattle.rv_code.specs.declared.state.EmitVState.{EmitVState as Setting};
 ghost use Rattle.rv_sequences.specs.Emitted.{Buffer};
-ghost use Rattle.rv_emit.specs.Forgetting.{is_inline};
+ghost use Rattle.rv_code.specs.Forgetting.{is_inline};
 ghost use Rattle.rv_emit.specs.State.{setting_after, setting_beyond};
 ghost use Rattle.rv_code.specs.Usable.{IsFineAddress, KeepsRules};
 
@@ -20,7 +22,7 @@ use rv_inst::{CondBrTarget, Family, Inst};
 
 /// Returns whether nothing is known of the setting after the sequence of an instruction that asks for no island: a `jalr` stands
 /// in it, or a `jal` of four bytes.
-#[tactic(auto, using(crate::proofs::Forgetting::calls_forget, crate::proofs::Forgetting::loops_forget))]
+#[tactic(auto, using(crate::proofs::Forgetting::calls_forget))]
 pub(crate) fn forgets_setting(flags: IsaFlags, frame: &FrameLayout, inst: &Inst) -> bool
     requires frame { sp_to_args_end frame.now < 2 ^ 31 }
     requires rule { (constants : List Constant) × KeepsRules constants inst.now }
@@ -28,25 +30,25 @@ pub(crate) fn forgets_setting(flags: IsaFlags, frame: &FrameLayout, inst: &Inst)
 {
     match inst.family() {
         Family::Pseudo => false,
-        Family::Integer => integer_forgets(flags, inst),
+        Family::Integer => facts_jump(flags, inst),
         Family::Memory => memory_forgets(flags, frame, inst),
         Family::Control => control_forgets(flags, inst),
         // Each loop jumps back to its start.
         Family::Loop => !flags.has_zca,
-        Family::Symbols => symbol_forgets(flags, inst),
+        Family::Symbols => facts_jump(flags, inst),
         Family::Calls => true,
         Family::Float => false,
     }
 }
 
-/// A constant that stands among the code is jumped over.
-#[tactic(auto, using(crate::proofs::Forgetting::integers_stay))]
-fn integer_forgets(flags: IsaFlags, inst: &Inst) -> bool
-    ensures { family_of inst.now ≡ Integer → (frame : FrameLayout) (constants : List Constant) (b : Buffer) (setting : Setting) → setting_after (context_by flags frame constants) b inst.now setting ≡ setting_beyond result setting }
+/// Returns whether the code of an instruction whose description gives it jumps in four bytes, over a constant that stands among it.
+fn facts_jump(flags: IsaFlags, inst: &Inst) -> bool
+    ensures given { (f : Facts) → facts_of inst.now ≡ Some f → result ≡ (f.jumps && not flags.has_zca) }
+    ensures others { facts_of inst.now ≡ None → result ≡ false }
 {
-    match inst {
-        Inst::LoadInlineConst { .. } => !flags.has_zca,
-        _ => false,
+    match inst.facts() {
+        Some(facts) => facts.jumps && !flags.has_zca,
+        None => false,
     }
 }
 
@@ -83,16 +85,6 @@ fn control_forgets(flags: IsaFlags, inst: &Inst) -> bool
             not_taken: CondBrTarget::Label(_),
             ..
         } => !flags.has_zca,
-        _ => false,
-    }
-}
-
-/// A symbol's address that stands among the code is jumped over.
-fn symbol_forgets(flags: IsaFlags, inst: &Inst) -> bool
-    ensures { family_of inst.now ≡ Symbols → (frame : FrameLayout) (constants : List Constant) (b : Buffer) (setting : Setting) → setting_after (context_by flags frame constants) b inst.now setting ≡ setting_beyond result setting }
-{
-    match inst {
-        Inst::LoadExtNameFar { .. } => !flags.has_zca,
         _ => false,
     }
 }

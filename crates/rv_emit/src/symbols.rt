@@ -6,61 +6,66 @@ ghost use Rattle.rv_base.specs.LabelUse.{code_limit};
 ghost use Rattle.rv_base.specs.Regs.{number_of};
 ghost use Rattle.rv_encode.specs.Registers.{IsIntRegister};
 ghost use Rattle.rv_inst.specs.LabelUseWords.{word_bytes};
+ghost use Rattle.rv_inst.specs.Limits.{sequence_limit};
+ghost use Rattle.rv_inst.specs.Operands.{family_of};
+ghost use Rattle.rv_inst.specs.declared.inst.Family.TheVariants.{Symbols};
+ghost use Rattle.rv_code.specs.Usable.{KeepsRules};
+ghost use Rattle.rv_emit.specs.Emission.{EmitsAnyhow};
 ghost use Rattle.mach_records.specs.declared.records.Event.TheVariants.{CallSite, Reloc as Relocates, Unwind as Unwinds};
 ghost use Rattle.mach_records.specs.declared.records.FinalizedRelocTarget.TheVariants.{ExternalName as ToName};
-ghost use Rattle.mach_buffer.specs.Buffer.{shape_of, bytes_of, spoiled_of};
+ghost use Rattle.mach_buffer.specs.Buffer.{shape_of, bytes_of, registered_of, spoiled_of};
 ghost use Rattle.mach_buffer.specs.Shape.{with_bytes, with_record};
 ghost use Rattle.rv_sequences.specs.Parts.{PutsAlone};
 ghost use Rattle.rv_sequences.specs.Emitted.{IsSoundBuffer};
 ghost use Rattle.rv_code.specs.InstParts.{call_to};
-ghost use Rattle.rv_code.specs.Pieces.{NameAddress, literal_slots, symbol_slots};
 ghost use Rattle.rv_sequences.specs.Puts.{eight_zeros};
-ghost use Rattle.rv_code.specs.Slots.{AddressOf, SlotOf, Records, address_event, call_event, lower_event};
+ghost use Rattle.rv_code.specs.Slots.{Records, address_event, call_event, lower_event};
 
 use crate::table::far_word;
 use mach_buffer::MachBuffer;
 use rv_base::{ExternalName, IsaFlags, OutOfMemory, Reloc, RelocTarget, UnwindInst, WritableReg};
 use rv_encode::enc_auipc;
 use rv_imms::Imm20;
-use rv_inst::LabelUse;
+use rv_inst::{Inst, LabelUse};
 use rv_ops::LoadOP;
 use rv_sequences::{addition_word, load_word, put_load_over};
 
-/// What stands in a symbol's slot: its address, by the distance to the slot.
-pub(crate) fn put_slot_load(
+/// What an instruction takes of a symbol.
+#[inline(never)]
+pub(crate) fn put_symbol(
     sink: &mut MachBuffer<LabelUse>,
-    rd: WritableReg,
-    name: ExternalName,
+    flags: IsaFlags,
+    inst: &Inst,
 ) -> Result<(), OutOfMemory>
-    requires rd { IsIntRegister rd.reg }
-    requires room { length (bytes_of sink.old) + 8 < code_limit }
+    requires rule { KeepsRules (registered_of sink.old) inst.now }
+    requires room { length (bytes_of sink.old) + sequence_limit < code_limit }
     requires sound { IsSoundBuffer sink.old }
-    ensures slots { OnOk result ((flags : IsaFlags) → PutsAlone flags (symbol_slots (number_of rd.reg) (SlotOf name)) sink.old sink.new) }
+    ensures parts { family_of inst.now ≡ Symbols → OnOk result (EmitsAnyhow flags inst.now sink.old sink.new) }
     ensures refused { OnErr result (spoiled_of sink.new ≡ true) }
 {
-    let upper = enc_auipc(rd, Imm20::ZERO);
-    let lower = load_word(LoadOP::Ld, rd, rd.reg);
-    put_pair(sink, Reloc::RiscvGotHi20, name, 0, upper, lower)?;
-    Ok(())
-}
-
-/// A symbol's address plus an offset, by the distance to it.
-pub(crate) fn put_near_symbol(
-    sink: &mut MachBuffer<LabelUse>,
-    rd: WritableReg,
-    name: ExternalName,
-    offset: i64,
-) -> Result<(), OutOfMemory>
-    requires rd { IsIntRegister rd.reg }
-    requires room { length (bytes_of sink.old) + 8 < code_limit }
-    requires sound { IsSoundBuffer sink.old }
-    ensures slots { OnOk result ((flags : IsaFlags) → PutsAlone flags (symbol_slots (number_of rd.reg) (AddressOf name offset)) sink.old sink.new) }
-    ensures refused { OnErr result (spoiled_of sink.new ≡ true) }
-{
-    let upper = enc_auipc(rd, Imm20::ZERO);
-    let lower = addition_word(rd);
-    put_pair(sink, Reloc::RiscvPCRelHi20, name, offset, upper, lower)?;
-    Ok(())
+    match inst {
+        // What stands in its slot, which is its address, by the distance to the slot.
+        Inst::LoadExtNameGot { rd, name } => {
+            let upper = enc_auipc(*rd, Imm20::ZERO);
+            let lower = load_word(LoadOP::Ld, *rd, rd.reg);
+            put_pair(sink, Reloc::RiscvGotHi20, *name, 0, upper, lower)?;
+            Ok(())
+        }
+        // Its address plus an offset, by the distance to it.
+        Inst::LoadExtNameNear { rd, name, offset } => {
+            let upper = enc_auipc(*rd, Imm20::ZERO);
+            let lower = addition_word(*rd);
+            put_pair(sink, Reloc::RiscvPCRelHi20, *name, *offset, upper, lower)?;
+            Ok(())
+        }
+        // Its address plus an offset, from among the code, which jumps over it.
+        Inst::LoadExtNameFar { rd, name, offset } => {
+            put_load_over(sink, flags, *rd, LoadOP::Ld, 8)?;
+            put_symbol_bytes(sink, *name, *offset)?;
+            Ok(())
+        }
+        _ => Ok(()),
+    }
 }
 
 /// Puts two words that a linker fills with the upper and the lower part of the distance from the first one to a symbol plus an
@@ -85,25 +90,6 @@ fn put_pair(
     sink.put4(upper)?;
     sink.add_reloc_to(Reloc::RiscvPCRelLo12I, start, 0)?;
     sink.put4(lower)?;
-    Ok(())
-}
-
-/// A symbol's address plus an offset, from among the code, which jumps over it.
-pub(crate) fn put_far_symbol(
-    sink: &mut MachBuffer<LabelUse>,
-    flags: IsaFlags,
-    rd: WritableReg,
-    name: ExternalName,
-    offset: i64,
-) -> Result<(), OutOfMemory>
-    requires rd { IsIntRegister rd.reg }
-    requires room { length (bytes_of sink.old) + 20 < code_limit }
-    requires sound { IsSoundBuffer sink.old }
-    ensures slots { OnOk result (PutsAlone flags (literal_slots flags (number_of rd.reg) (NameAddress name offset)) sink.old sink.new) }
-    ensures refused { OnErr result (spoiled_of sink.new ≡ true) }
-{
-    put_load_over(sink, flags, rd, LoadOP::Ld, 8)?;
-    put_symbol_bytes(sink, name, offset)?;
     Ok(())
 }
 

@@ -2,7 +2,7 @@
 -- machine has not; others compute one register of another by a sequence of words with a loop; and of others, of integer registers, the row
 -- itself gives what they mean and their code. All tables over instructions have one row for all of these, which goes by
 -- `description_of`. So an instruction that is neither here nor in a table has no row there, and fails to check.
-use Rattle.std.specs.Prelude.{◌≡◌, ℕ, Bool, true, false, is_some, not, ◌&&◌, nat_le, if◌then◌else◌, List, [], ◌∷◌, ◌++◌, ◌+◌, ◌-◌, ◌*◌, ◌/◌, ◌^◌, Option, Some, None, pos, map, option_map, slice_get, unwrap_or}
+use Rattle.std.specs.Prelude.{◌≡◌, ℕ, Bool, true, false, is_some, not, ◌&&◌, nat_le, if◌then◌else◌, List, [], ◌∷◌, ◌++◌, ◌+◌, ◌*◌, ◌==◌, ◌^◌, Option, Some, None, map, option_map, slice_get, unwrap_or}
 use Rattle.std.proofs.Common.{cond, subst}
 use Rattle.rv_base.specs.Regs.{class_of, number_of}
 use Rattle.rv_base.specs.declared.regs.Reg.{Reg}
@@ -16,9 +16,6 @@ use Rattle.rv_ops.specs.FloatFields.{is_width, takes_frm}
 use Rattle.rv_ops.specs.Fpu.{fpu_rr_files, fpu_rr_numbers, fpu_rr_widths, fpu_rrr_numbers, fpu_rrr_result, is_to_integer, takes_width}
 use Rattle.rv_encode.specs.Operations.{decoded_csr_imm, decoded_csr_reg, decoded_fli, decoded_fpu_rr, decoded_fpu_rrr, decoded_fpu_rrrr}
 use Rattle.rv_encode.specs.Registers.{IsRealRegister}
-use Rattle.mach_records.specs.declared.records.Event.TheVariants as event
-use Rattle.mach_records.specs.declared.records.FinalizedRelocTarget.TheVariants.{ExternalName as ToName}
-use Rattle.rv_base.specs.declared.reloc.Reloc.TheVariants.{RiscvGotHi20, RiscvPCRelHi20, Abs8}
 use Rattle.rv_encode.specs.Operations.{decoded, load_op}
 use Rattle.rv_inst.specs.Addresses.{inline_size}
 use Rattle.rv_base.specs.IrType.{bits_of}
@@ -29,7 +26,7 @@ use Rattle.rv_machine.specs.declared.ops.BaseOp.TheVariants.{Auipc as AuipcOp}
 use Rattle.rv_inst.specs.Context.{Context}
 use Rattle.rv_inst.specs.Effects.{Environment, Meaning, Next, Trap, compares, constant_of, goes, symbol_at}
 use Rattle.rv_inst.specs.InstCode.{AtMost, Exactly, InstCode, extend_operation, one_word, trap_size, words}
-use Rattle.rv_inst.specs.Records.{noted, part_records}
+use Rattle.rv_inst.specs.Records.{Recorded, Nothing, TrapAfter, SlotInParts, AddressInParts, AddressLast}
 use Rattle.rv_machine.specs.Memory.{load_result}
 use Rattle.rv_machine.specs.State.{Values, reg, set_reg, wrap, low64}
 use Rattle.rv_ops.specs.declared.memory.LoadOP.TheVariants.{Ld}
@@ -97,20 +94,21 @@ most_words ReversedBytes = 19
 -- ---- what a row itself gives
 
 -- its family; what the rules and a register allocator ask of it; the instruction with other registers, where these are given; what it means
--- among an environment; and its code in a context
+-- among an environment; its code in a context; and what it records
 pub record Given : Type 0 where
   pub family : Family
   pub facts : Facts
   pub with_registers : InstRegs → Inst
   pub meaning : Environment → Values → Meaning
   pub code : Context → InstCode
+  pub records : Recorded
 
 abbrev pub regs : Option (Writable Reg) → Option Reg → Option Reg → Option Reg → InstRegs
 regs rd rs1 rs2 rs3 = record { rd = rd; rs1 = rs1; rs2 = rs2; rs3 = rs3 }
 
--- these registers, of which any may be x0, and no type that may not be taken, number that may be out of its range, or label
+-- these registers, of which any may be x0, and no type that may not be taken, number that may be out of its range, label, or jump
 abbrev pub only_regs : InstRegs → Facts
-only_regs r = record { regs = r; in_steps = false; mistyped = false; beyond = false; targets = Nowhere }
+only_regs r = record { regs = r; in_steps = false; mistyped = false; beyond = false; targets = Nowhere; jumps = false }
 
 -- a result that is computed in steps, of no other register
 abbrev pub stepwise : Writable Reg → Facts
@@ -165,13 +163,15 @@ described (Auipc rd imm) = Some (Gives (record {
   with_registers = λ (r : InstRegs). Auipc (unwrap_or r.rd rd) imm;
   meaning = λ env v. sets v rd (wrap (env.start + low64 imm.value * 2 ^ 12));
   code = λ context. one_word (decoded (Base AuipcOp) (number_of rd.reg) 0 0 imm.value);
+  records = Nothing;
 }))
 described (LoadInlineConst rd type imm) = Some (Gives (record {
   family = Integer;
-  facts = record (stepwise rd) { mistyped = not (is_word_type type) };
+  facts = record (stepwise rd) { mistyped = not (is_word_type type); jumps = true };
   with_registers = λ (r : InstRegs). LoadInlineConst (unwrap_or r.rd rd) type imm;
   meaning = λ env v. sets v rd (constant_of type imm);
-  code = λ context. words (Exactly (inline_size context.flags (bits_of type / 8)));
+  code = λ context. words (Exactly (inline_size context.flags (if bits_of type == 32 then 4 else 8)));
+  records = Nothing;
 }))
 described (AluRRR op rd rs1 rs2) = None
 described (AluRRImm12 op rd rs imm) = None
@@ -183,6 +183,7 @@ described (Extend rd rn signed from_bits to_bits) = Some (Gives (record {
   with_registers = λ (r : InstRegs). Extend (unwrap_or r.rd rd) (unwrap_or r.rs1 rn) signed from_bits to_bits;
   meaning = λ env v. sets v rd (extended signed from_bits (reg v (number_of rn)));
   code = λ context. record (words (AtMost 8)) { operation = extend_operation context.flags (number_of rd.reg) (number_of rn) signed from_bits };
+  records = Nothing;
 }))
 described (Select info) = None
 described (Load rd op flags from) = None
@@ -194,6 +195,7 @@ described (LabelAddress dst label) = Some (Gives (record {
   with_registers = λ (r : InstRegs). LabelAddress (unwrap_or r.rd dst) label;
   meaning = λ env v. sets v dst (env.label label.number);
   code = λ context. words (Exactly 8);
+  records = Nothing;
 }))
 described Ret = None
 described (TrapIf cmp code) = Some (Gives (record {
@@ -201,7 +203,8 @@ described (TrapIf cmp code) = Some (Gives (record {
   facts = only_regs (regs None (Some cmp.rs1) (Some cmp.rs2) None);
   with_registers = λ (r : InstRegs). TrapIf (record cmp { rs1 = unwrap_or r.rs1 cmp.rs1; rs2 = unwrap_or r.rs2 cmp.rs2 }) code;
   meaning = λ env v. goes (if compares cmp v then Trap code else Next) v;
-  code = λ context. record (words (Exactly (4 + trap_size context.flags))) { records = λ start end. noted (start + 4) (event.Trap code) };
+  code = λ context. words (Exactly (4 + trap_size context.flags));
+  records = TrapAfter 4 code;
 }))
 described (Jal label) = None
 described (CondBr taken not_taken kind) = None
@@ -217,21 +220,24 @@ described (LoadExtNameGot rd name) = Some (Gives (record {
   facts = stepwise rd;
   with_registers = λ (r : InstRegs). LoadExtNameGot (unwrap_or r.rd rd) name;
   meaning = λ env v. sets v rd (load_result (load_op Ld) v.mem (env.slot name.number));
-  code = λ context. record (words (Exactly 8)) { records = λ start end. part_records start RiscvGotHi20 name (pos 0) };
+  code = λ context. words (Exactly 8);
+  records = SlotInParts name;
 }))
 described (LoadExtNameNear rd name offset) = Some (Gives (record {
   family = Symbols;
   facts = stepwise rd;
   with_registers = λ (r : InstRegs). LoadExtNameNear (unwrap_or r.rd rd) name offset;
   meaning = λ env v. sets v rd (symbol_at env name offset);
-  code = λ context. record (words (Exactly 8)) { records = λ start end. part_records start RiscvPCRelHi20 name offset };
+  code = λ context. words (Exactly 8);
+  records = AddressInParts name offset;
 }))
 described (LoadExtNameFar rd name offset) = Some (Gives (record {
   family = Symbols;
-  facts = stepwise rd;
+  facts = record (stepwise rd) { jumps = true };
   with_registers = λ (r : InstRegs). LoadExtNameFar (unwrap_or r.rd rd) name offset;
   meaning = λ env v. sets v rd (symbol_at env name offset);
-  code = λ context. record (words (Exactly (inline_size context.flags 8))) { records = λ start end. noted (end - 8) (event.Reloc Abs8 (ToName name) offset) };
+  code = λ context. words (Exactly (inline_size context.flags 8));
+  records = AddressLast name offset;
 }))
 described (Call info) = None
 described (CallInd info) = None
@@ -395,6 +401,15 @@ sources_in r = source_in r.rs1 ++ (source_in r.rs2 ++ source_in r.rs3)
 -- its registers, the result's first
 abbrev pub all_in : InstRegs → List Reg
 all_in r = result_in r.rd ++ sources_in r
+
+abbrev pub recorded_in : Option Description → Recorded
+recorded_in None = Nothing
+recorded_in (Some (Word w)) = Nothing
+recorded_in (Some (Computes s with)) = Nothing
+recorded_in (Some (Gives g)) = g.records
+
+abbrev pub recorded_of : Inst → Recorded
+recorded_of inst = recorded_in (described inst)
 
 abbrev pub registers_by_facts : Option Facts → List Reg
 registers_by_facts None = []

@@ -1,12 +1,12 @@
 -- What an instruction records.
-use Rattle.std.specs.Prelude.{◌≡◌, Bool, true, false, ℕ, ◌+◌, List, [], ◌∷◌, ◌++◌, Option, Some, None, slice_get, ℤ, pos}
+use Rattle.std.specs.Prelude.{◌≡◌, Bool, true, false, ℕ, ◌+◌, List, [], ◌∷◌, ◌++◌, ◌-◌, Option, Some, None, slice_get, ℤ, pos}
 use Rattle.rv_base.specs.declared.call.TryCallInfo.{TryCallInfo}
 use Rattle.rv_base.specs.declared.call.UserStackMap.{UserStackMap}
 use Rattle.rv_base.specs.declared.external_name.ExternalName.{ExternalName}
 use Rattle.rv_base.specs.declared.frame.FrameLayout.{FrameLayout}
 use Rattle.rv_base.specs.Frame.{sp_to_fp_of}
 use Rattle.rv_base.specs.declared.reloc.Reloc.{Reloc}
-use Rattle.rv_base.specs.declared.reloc.Reloc.TheVariants.{RiscvPCRelLo12I}
+use Rattle.rv_base.specs.declared.reloc.Reloc.TheVariants.{RiscvGotHi20, RiscvPCRelHi20, RiscvPCRelLo12I, Abs8}
 use Rattle.rv_base.specs.declared.trap.TrapCode.{TrapCode}
 use Rattle.mach_records.specs.declared.records.Event.{Event}
 use Rattle.mach_records.specs.declared.records.Event.TheVariants as event
@@ -27,6 +27,23 @@ access_records at (Some code) = noted at (event.Trap code)
 -- at the start
 abbrev pub part_records : ℕ → Reloc → ExternalName → ℤ → List MachRecord
 part_records start upper name addend = noted start (event.Reloc upper (ToName name) addend) ++ noted (start + 4) (event.Reloc RiscvPCRelLo12I (ToPlace start) (pos 0))
+
+-- what an instruction records whose description gives its code: nothing; a trap, so many bytes after its start; the distance to the slot of
+-- a symbol, or to a symbol plus an offset, in two parts at its start; or the address of a symbol plus an offset, in its last eight bytes
+pub data Recorded : Type 0 where
+  Nothing : Recorded
+  TrapAfter : ℕ → TrapCode → Recorded
+  SlotInParts : ExternalName → Recorded
+  AddressInParts : ExternalName → ℤ → Recorded
+  AddressLast : ExternalName → ℤ → Recorded
+
+-- by the offsets where its bytes begin and end
+abbrev pub recorded : Recorded → ℕ → ℕ → List MachRecord
+recorded Nothing start end = []
+recorded (TrapAfter bytes code) start end = noted (start + bytes) (event.Trap code)
+recorded (SlotInParts name) start end = part_records start RiscvGotHi20 name (pos 0)
+recorded (AddressInParts name addend) start end = part_records start RiscvPCRelHi20 name addend
+recorded (AddressLast name addend) start end = noted (end - 8) (event.Reloc Abs8 (ToName name) addend)
 
 -- a call that may be patched, where it is one, of so many bytes, which end at an offset
 abbrev pub patch_records : Bool → ℕ → ℕ → List MachRecord

@@ -30,7 +30,7 @@ pub use Rattle.rv_inst.specs.InstCode.{Size, Exactly, AtMost, IsOfSize, most_of,
 use Rattle.rv_inst.specs.Halves.{load_line_own_size, store_line_own_size, is_moved_first}
 use Rattle.rv_inst.specs.Limits.{address_limit, load_limit, store_limit, number_limit, step_limit, call_limit, return_limit, table_space}
 use Rattle.rv_inst.specs.Operands.{results_of}
-use Rattle.rv_inst.specs.Records.{noted, access_records, patch_records, return_records}
+use Rattle.rv_inst.specs.Records.{noted, access_records, patch_records, recorded, return_records}
 use Rattle.rv_inst.specs.Returns.{StackLoad, result_loads, loads_unless}
 use Rattle.rv_inst.specs.Rules.{is_stacked}
 use Rattle.rv_inst.specs.Descriptions.{Description, UnitWord, Word, Computes, Gives, description_of, most_words}
@@ -127,7 +127,7 @@ unit_code w = record (one_word w.operation) { records = λ start end. access_rec
 
 abbrev pub described_code : Context → Description → InstCode
 described_code context (Word w) = unit_code w
-described_code context (Gives g) = g.code context
+described_code context (Gives g) = record (g.code context) { records = recorded g.records }
 described_code context (Computes s with) = words (AtMost (4 * most_words s.computation))
 
 -- A trap where a comparison holds is a branch over a trap. What a label's or a constant's address is taken by, and auipc, have

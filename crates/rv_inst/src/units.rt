@@ -39,7 +39,7 @@ pub struct InstRegs {
     pub rs3: Option<Reg>,
 }
 
-/// What the rules and a register allocator ask of an instruction of integer registers, where its description gives it.
+/// What the rules, a register allocator and emission ask of an instruction of integer registers, where its description gives it.
 #[derive(Clone, Copy)]
 pub struct Facts {
     pub regs: InstRegs,
@@ -51,6 +51,8 @@ pub struct Facts {
     pub beyond: bool,
     /// The label whose address it takes, where it takes one.
     pub targets: Targets,
+    /// Whether its code jumps, over a constant that stands among it.
+    pub jumps: bool,
 }
 
 /// What is asked of a register in its place.
@@ -303,6 +305,7 @@ impl Inst {
             Inst::Auipc { rd, .. } => Some(only_regs(regs(Some(*rd), None, None, None))),
             Inst::LoadInlineConst { rd, ty, .. } => Some(Facts {
                 mistyped: !is_word_type(*ty),
+                jumps: true,
                 ..stepwise(*rd)
             }),
             Inst::LabelAddress { dst, label } => Some(Facts {
@@ -314,7 +317,10 @@ impl Inst {
             }
             Inst::LoadExtNameGot { rd, .. } => Some(stepwise(*rd)),
             Inst::LoadExtNameNear { rd, .. } => Some(stepwise(*rd)),
-            Inst::LoadExtNameFar { rd, .. } => Some(stepwise(*rd)),
+            Inst::LoadExtNameFar { rd, .. } => Some(Facts {
+                jumps: true,
+                ..stepwise(*rd)
+            }),
             _ => None,
         }
     }
@@ -531,6 +537,7 @@ fn only_regs(regs: InstRegs) -> Facts
         mistyped: false,
         beyond: false,
         targets: Targets::Nowhere,
+        jumps: false,
     }
 }
 

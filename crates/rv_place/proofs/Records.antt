@@ -25,15 +25,15 @@ use Rattle.rv_base.specs.Regs.{number_of}
 use Rattle.rv_inst.specs.Forms.{short_jalr}
 use Rattle.rv_machine.specs.State.{wrap}
 use Rattle.rv_inst.specs.Context.{Context, context_of}
-use Rattle.rv_inst.specs.Records.{access_records, patch_records, return_records}
+use Rattle.rv_inst.specs.Records.{Recorded, SlotInParts, AddressInParts, AddressLast, access_records, patch_records, recorded, return_records}
 use Rattle.rv_inst.specs.Relocations.{field_size}
 use Rattle.rv_inst.specs.Sizes.{Request, inst_records, request_of}
 use Rattle.rv_inst.specs.declared.code.Code.{Code}
 use Rattle.rv_inst.specs.declared.code.LineSpan.{LineSpan}
 use Rattle.rv_inst.specs.declared.inst.Inst.{Inst}
-use Rattle.rv_inst.specs.Descriptions.{conversion_trap}
+use Rattle.rv_inst.specs.Descriptions.{conversion_trap, recorded_of}
 use Rattle.rv_ops.specs.Fpu.{is_to_integer}
-use Rattle.rv_inst.specs.declared.inst.Inst.TheVariants.{Load, Store, LoadExtNameGot, LoadExtNameNear, LoadExtNameFar, Call, CallInd, ReturnCall, FpuRR}
+use Rattle.rv_inst.specs.declared.inst.Inst.TheVariants.{Load, Store, Call, CallInd, ReturnCall, FpuRR}
 use Rattle.rv_inst.specs.declared.inst.Line.{Line}
 use Rattle.rv_inst.specs.declared.inst.Line.TheVariants.{Inst as Put, Bind}
 use Rattle.rv_inst.specs.declared.job.Job.{Job}
@@ -117,13 +117,17 @@ pair_aimed : (b : Bool) → b ≡ true → not (b || false) ≡ false
 pair_aimed true e = refl
 pair_aimed false e = absurd (cc)
 
+-- what is recorded of one whose description gives its code
+recorded_aimed : (r : Recorded) (start end : ℕ) → AreAimed (relocs_in (recorded r start end)) (relocs_in (recorded r start end))
+recorded_aimed (SlotInParts name) start end = (refl, (pair_aimed _ (at_itself start), tt))
+recorded_aimed (AddressInParts name addend) start end = (refl, (pair_aimed _ (at_itself start), tt))
+recorded_aimed (AddressLast name addend) start end = (refl, tt)
+recorded_aimed r start end = tt
+
 inst_aimed : (context : Context) (start end : ℕ) (inst : Inst) → AreAimed (relocs_in (inst_records context start end inst)) (relocs_in (inst_records context start end inst))
 inst_aimed context start end (Load rd op flags from) = access_aimed (relocs_in (inst_records context start end (Load rd op flags from))) _ flags.trap
 inst_aimed context start end (Store src op flags to) = access_aimed (relocs_in (inst_records context start end (Store src op flags to))) _ flags.trap
 inst_aimed context start end (FpuRR op width frm rd rs) = access_aimed (relocs_in (inst_records context start end (FpuRR op width frm rd rs))) start (conversion_trap (is_to_integer op))
-inst_aimed context start end (LoadExtNameGot rd name) = (refl, (pair_aimed _ (at_itself start), tt))
-inst_aimed context start end (LoadExtNameNear rd name offset) = (refl, (pair_aimed _ (at_itself start), tt))
-inst_aimed context start end (LoadExtNameFar rd name offset) = (refl, tt)
 inst_aimed context start end (Call info) =
     let all = relocs_in (inst_records context start end (Call info)) in
     (refl, return_aimed all context.frame _ info.stack_map info.try_call_info (patch_records info.patchable _ _) (patch_aimed all info.patchable _ _))
@@ -131,7 +135,7 @@ inst_aimed context start end (CallInd info) =
     let rs = return_records context.frame (start + (short_jalr context.flags 1 (number_of info.dest) (pos 0)).len) info.stack_map info.try_call_info in
     subst (λ records. AreAimed (relocs_in rs) (relocs_in records)) (append-nil rs) (return_aimed (relocs_in rs) context.frame _ info.stack_map info.try_call_info [] tt)
 inst_aimed context start end (ReturnCall info) = (refl, tt)
-inst_aimed context start end inst = tt
+inst_aimed context start end inst = recorded_aimed (recorded_of inst) start end
 
 line_aimed : (context : Context) (start end : ℕ) (line : Line) → AreAimed (relocs_in (line_records context start end line)) (relocs_in (line_records context start end line))
 line_aimed context start end (Put inst) = inst_aimed context start end inst

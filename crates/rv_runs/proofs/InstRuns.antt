@@ -1,16 +1,14 @@
 -- Every instruction of the integer core that breaks no rule runs as it means.
-use Rattle.rv_code.proofs.OperationActs.{short_ebreak_is}
-use Rattle.{rv_base.specs.IrType.bits_of, rv_code.proofs.LineOperands.{label_address_kept, load_addr_kept, load_kept, store_kept}, rv_code.specs.Evaluation.literal_value, rv_code.specs.InstParts.literal_of, rv_code.specs.InstRuns.environment, rv_code.specs.Pieces.{NameAddress, OfLabel, OfSymbol, Word32, Word64}}
-use Rattle.{rv_code.specs.Slots.{AddressOf, SlotOf}, rv_inst.specs.Descriptions.{counts, sequence_registers}, rv_inst.specs.Meaning.{Environment, constant_of}, rv_inst.specs.declared.sequence.Computation.TheVariants.{Ones, Zeros}, rv_machine.specs.Arithmetic.extend_word}
-use Rattle.{rv_runs.proofs.{ProbeRuns.probe_out, ReverseRuns.reverse_out, SelectRuns.extend_out, SelectRuns.select_runs, TableRuns.table_out}, rv_runs.proofs.CallRuns.{call_ind_out, call_out, return_call_ind_runs, return_call_runs}}
-use Rattle.{rv_runs.proofs.Words.{ComesOut, IrType, Next, set_reg, wrap}, std.proofs.Common.{None, [], arith, false, if◌then◌else◌, lit<, nat_eq, not, pos, refl, subst, true, ℕ, ◌==◌, ◌∷◌, ◌≡◌}}
-use Rattle.rv_runs.proofs.Words.{EmitVState, FrameLayout, GapIn, Inst, Keeps, Label, Op, Site, State, Values, and_parts, call_usable}
-use Rattle.rv_runs.proofs.Words.{compares, decoded_addi, goes_none, inst_rule, is_bad_frame_for, is_float_load, is_float_store, is_integer, is_integer_in, jump_to, keeps, location_of, low_word, not_true, number_of, reg, restores, restores_float, signed, tail_call_of, target_fine, to, window_some}
-use Rattle.rv_code.proofs.Operands.{all_integers, are_usable, constant_kept, extend_kept, is_count, is_probe, is_reversal, is_table, move_usable, not_zero, or_left, preg_usable, reversal_of, trap_if_usable}
-use Rattle.{rv_code.proofs.OperationActs.short_ebreak_is, rv_code.proofs.OperationActs.ebreak_sized, rv_code.proofs.Registers.count_of, rv_code.specs.InstParts.trap_slots, rv_code.specs.InstRuns.RunsIn, rv_inst.specs.Forms.short_ebreak, rv_inst.specs.Rules.is_zero}
-use Rattle.rv_inst.specs.declared.inst.Inst.TheVariants.{Args, BrTable, Brev8, Cltz, DummyUse, EmitIsland, Jal, LabelAddress, LoadExtNameNear, Popcnt, RawData, Rets, SequencePoint, StackProbeLoop, TrapIf, Udf, Unwind, AluRRImm12, AluRRR, Auipc, Call, CallInd, CondBr, EBreak, Extend, Jalr, Load, LoadAddr, LoadExtNameFar, LoadExtNameGot, LoadInlineConst, Lui, Mov, MovFromPReg, Nop0, Nop4, Ret, ReturnCall, ReturnCallInd, Select, Store}
-use Rattle.rv_runs.proofs.{CountRuns.popcnt_out, CountRuns.zeros_out, Exits.RunsHere, Exits.break_out, Exits.comes_out, Exits.gap_out, Exits.starts_at, Exits.starts_beside, Exits.trap_out, Exits.trap_some, MemoryRuns.address_out, MemoryRuns.load_runs, MemoryRuns.store_runs}
-use Rattle.rv_runs.proofs.PlainRuns.{alu_rri_runs, alu_rrr_runs, auipc_runs, cond_br_runs, distant_out, jalr_runs, literal_out, jump_out, lui_runs, mov_runs, move_out, next_out, nothing_out, ret_runs, trap_if_out}
+use Rattle.{rv_base.specs.IrType.bits_of, rv_code.{proofs.OperationActs.{short_ebreak_is, ebreak_sized}, proofs.LineOperands.{load_addr_kept, load_kept, store_kept}, specs.Evaluation.literal_value, specs.InstParts.{literal_of, trap_slots}, specs.InstRuns.{environment, RunsIn}}}
+use Rattle.rv_code.{specs.Pieces.{NameAddress, OfLabel, OfSymbol, Word32, Word64}, specs.Slots.{AddressOf, SlotOf}, proofs.Operands.{all_integers, are_usable, is_count, is_probe, is_reversal, is_table, move_usable, not_zero, or_left, preg_usable, reversal_of, some_in_64}, proofs.Registers.count_of}
+use Rattle.rv_inst.{specs.Descriptions.{counts, sequence_registers}, specs.Meaning.{Environment, constant_of}, specs.declared.sequence.Computation.TheVariants.{Ones, Zeros}, specs.Forms.short_ebreak, specs.Rules.is_zero}
+use Rattle.rv_inst.specs.declared.inst.Inst.TheVariants.{Args, BrTable, Brev8, Cltz, DummyUse, EmitIsland, Jal, LabelAddress, LoadExtNameNear, Popcnt, RawData, Rets, SequencePoint, StackProbeLoop, TrapIf, Udf, Unwind, AluRRImm12, AluRRR, Auipc, Call, CallInd, CondBr, EBreak, Extend, Jalr, Load, LoadAddr, LoadExtNameFar}
+use Rattle.{rv_inst.specs.declared.inst.Inst.TheVariants.{LoadExtNameGot, LoadInlineConst, Lui, Mov, MovFromPReg, Nop0, Nop4, Ret, ReturnCall, ReturnCallInd, Select, Store}, rv_machine.specs.Arithmetic.extend_word, rv_runs.{proofs.ProbeRuns.probe_out, proofs.ReverseRuns.reverse_out}}
+use Rattle.rv_runs.{proofs.SelectRuns.{extend_out, select_runs}, proofs.TableRuns.table_out, proofs.CallRuns.{call_ind_out, call_out, return_call_ind_runs, return_call_runs}}
+use Rattle.rv_runs.proofs.Words.{ComesOut, IrType, Next, set_reg, wrap, EmitVState, FrameLayout, GapIn, Inst, Keeps, Label, Op, Site, State, Values, and_parts, call_usable, compares, decoded_addi, goes_none, inst_rule, is_bad_frame_for, is_float_load, is_float_store, is_integer, is_integer_in, jump_to}
+use Rattle.rv_runs.{proofs.Words.{keeps, location_of, low_word, not_true, number_of, reg, restores, restores_float, signed, tail_call_of, target_fine, to, window_some}, proofs.CountRuns.{popcnt_out, zeros_out}, proofs.Exits.{RunsHere, break_out, comes_out, gap_out, starts_at, starts_beside, trap_out, trap_some}}
+use Rattle.rv_runs.{proofs.MemoryRuns.{address_out, load_runs, store_runs}, proofs.PlainRuns.{alu_rri_runs, alu_rrr_runs, auipc_runs, cond_br_runs, distant_out, jalr_runs, literal_out, jump_out, lui_runs, mov_runs, move_out, next_out, nothing_out, ret_runs, trap_if_out}}
+use Rattle.std.proofs.Common.{None, [], arith, false, if◌then◌else◌, lit<, nat_eq, not, pos, refl, subst, true, ℕ, ◌==◌, ◌∷◌, ◌≡◌}
 
 -- a tail call of the integer core restores no floating-point register
 none_restored : (frame : FrameLayout) (inst : Inst) → is_integer_in frame inst ≡ true → restores_float frame (tail_call_of inst) ≡ false
@@ -34,19 +32,19 @@ module _ (site : Site) (setting : EmitVState) (start after : ℕ) (s : State) (v
   kept_out (RawData bytes) core k r e clear = comes_out s (goes_none site.context.flags s) e.pc (starts_beside [] e)
   kept_out (Lui rd imm) core k r e clear = lui_runs site setting start after s v rd imm (are_usable (rd.reg ∷ []) k.real k.placed k.free).0 e clear
   kept_out (Auipc rd imm) core k r e clear = auipc_runs site setting start after s v rd imm (are_usable (rd.reg ∷ []) k.real k.placed k.free).0 e clear
-  kept_out (LoadInlineConst rd type imm) core k r e clear = let c = constant_kept rd type imm k in subst (λ x. ComesOut site start after Next [] (set_reg v (number_of rd.reg) x) s) (literal_is (environment site start after) type imm) (literal_out (number_of rd.reg) (literal_of type imm) c.usable.1 c.counted e)
+  kept_out (LoadInlineConst rd type imm) core k r e clear = let h = (are_usable (rd.reg ∷ []) k.real k.placed k.free).0 in subst (λ x. ComesOut site start after Next [] (set_reg v (number_of rd.reg) x) s) (literal_is (environment site start after) type imm) (literal_out (number_of rd.reg) (literal_of type imm) h.1 (not_zero rd.reg h (or_left (is_zero rd.reg) false k.counted)) e)
   kept_out (AluRRR op rd rs1 rs2) core k r e clear = let all = are_usable (rd.reg ∷ rs1 ∷ rs2 ∷ []) k.real k.placed k.free in alu_rrr_runs site setting start after s v op rd rs1 rs2 all.0 all.1.0 all.1.1.0 e clear
   kept_out (AluRRImm12 op rd rs imm) core k r e clear = let all = are_usable (rd.reg ∷ rs ∷ []) k.real k.placed k.free in alu_rri_runs site setting start after s v op rd rs imm all.0 all.1.0 k.ranged e clear
   kept_out (Mov rd rm type) core k r e clear = let both = move_usable rd rm type core k in mov_runs site setting start after s v rd rm type both.0 both.1 e clear
   kept_out (MovFromPReg rd rm) core k r e clear = let both = preg_usable rd rm k in move_out (nat_eq (number_of rd.reg) rm.number) (number_of rd.reg) rm.number refl both.0.1 both.1.1 e
-  kept_out (Extend rd rn signed from_bits to_bits) core k r e clear = let h = extend_kept rd rn signed from_bits to_bits k in extend_out (number_of rd.reg) (number_of rn) from_bits signed h.0.1 h.1.1 h.2 h.3 e
+  kept_out (Extend rd rn signed from_bits to_bits) core k r e clear = let all = are_usable (rd.reg ∷ rn ∷ []) k.real k.placed k.free in let bits = some_in_64 from_bits k.ranged in extend_out (number_of rd.reg) (number_of rn) from_bits signed all.0.1 all.1.0.1 bits.0 bits.1 e
   kept_out (Select info) core k r e clear = select_runs site setting start after s v info (all_integers info core k) k e clear
   kept_out (Load rd op flags from) core k r e clear = let integer = not_true (is_float_load op) core in let a = load_kept site.context.frame rd op flags from integer k in load_runs site setting start after s v rd op flags from integer a.usable a.based a.real e clear
   kept_out (Store src op flags to) core k r e clear = let integer = not_true (is_float_store op) core in let a = store_kept site.context.frame to op flags src integer k in store_runs site setting start after s v to op flags src integer a.0 a.1 e clear
   kept_out (LoadAddr rd mem) core k r e clear = let a = load_addr_kept site.context.frame rd mem k in address_out (number_of rd.reg) (location_of site.context.frame mem) a.usable.1 a.real a.based a.apart e
-  kept_out (LabelAddress dst label) core k r e clear = let a = label_address_kept dst label k in distant_out (number_of dst.reg) (OfLabel label) a.0.1 a.1 e
+  kept_out (LabelAddress dst label) core k r e clear = let h = (are_usable (dst.reg ∷ []) k.real k.placed k.free).0 in distant_out (number_of dst.reg) (OfLabel label) h.1 (not_zero dst.reg h (or_left (is_zero dst.reg) false k.counted)) e
   kept_out Ret core k r e clear = ret_runs site setting start after s v e clear
-  kept_out (TrapIf cmp code) core k r e clear = let both = trap_if_usable cmp code k in trap_if_out cmp code (compares cmp v) refl both.0 both.1 e
+  kept_out (TrapIf cmp code) core k r e clear = let all = are_usable (cmp.rs1 ∷ cmp.rs2 ∷ []) k.real k.placed k.free in trap_if_out cmp code (compares cmp v) refl all.0 all.1.0 e
   kept_out (Jal label) core k r e clear = jump_out label (starts_at (jump_to site.context.flags (Label label) ∷ []) e) (let some = window_some site.context.flags in omega arith) e.stands.1.0 (starts_beside [] e)
   kept_out (CondBr t f kind) core k r e clear = let all = are_usable (kind.rs1 ∷ kind.rs2 ∷ []) k.real k.placed k.free in cond_br_runs site setting start after s v kind t f all.0 all.1.0 k.aimed e clear
   kept_out (BrTable index tmp1 tmp2 (default ∷ labels)) core k r e clear = table_out _ (number_of index) (number_of tmp1.reg) (number_of tmp2.reg) default labels (is_table index tmp1 tmp2 (default ∷ labels) k) e

@@ -1,17 +1,15 @@
 -- Instructions that become one operation, on either machine.
 use Rattle.rv_code.{proofs.LineSlots.access_is, proofs.Operands.are_usable_in, proofs.OperationActs.{Does, short_ebreak_is, short_jalr_does, short_load_does, short_lui_does, short_rri_does, short_rrr_does, short_store_does}, specs.Accesses.access_pieces, specs.Pieces.Action}
-use Rattle.{rv_inst.{proofs.Descriptions.IsUnit, specs.Rules.Faults, specs.Sizes.{address_operation, load_operation, move_op, move_operation, store_operation}}, rv_machine.{proofs.States.zero_state, proofs.UnitOperations.acts_integer, specs.Decode.{decode, int_decode}, specs.Steps.zero_at}}
-use Rattle.{rv_ops.{specs.FloatFields.width_of, specs.declared.float_fields.FpuOPWidth.TheVariants.D}, rv_runs.{proofs.Exits.{comes_out, same_but}, proofs.FullCallRuns.ends_at_once, proofs.PlainRuns.nothing_out}}
-use Rattle.rv_runs.proofs.UnitRuns.{fiter_one, parts_are, row_comes, shape_agrees, unit_next_at, unit_operation}
-use Rattle.rv_runs.proofs.Words.{Addi, Andi, Answer, AreUsableIn, AtStart, Based, CodeHas, Context, Decoded, Do, EmitVState, EndsAsMeant, Enters, Environment, Exit, Float, FullComesOut, FullEnds, FullMeaning, FullState}
-use Rattle.rv_runs.proofs.Words.{FullValues, Inst, IrType, IsAt, IsFullState, IsIntegerLoad, IsIntegerStore, IsPlacedAt, IsaFlags, LoadOP, Location, Memory, Next, Op, Part, PartsStand, Piece, Put, Reg, RegClass, Row}
-use Rattle.rv_runs.proofs.Words.{RowAsks, RowGoes, RowsAgree, Rri, SameFull, Sign, Site, State, StoreOP, TrapCode, Writable, access_slots, act, address_slots, answers_of, class_of, context_by, environment, family_of, fetch, fiter_none, format_of, full_at}
-use Rattle.rv_runs.proofs.Words.{goes_none, has_load, has_store, inst_exit, inst_meaning, inst_rule, inst_temporaries, integer_decodes, is_byte, is_float, is_float_class, is_float_load, is_float_store, is_integer, is_integer_family, is_integer_op, is_near, is_reserved}
-use Rattle.rv_runs.proofs.Words.{is_unit, is_virtual, keeps, list_any, load_slots, location_of, meaning_by, move_action, move_pieces, move_row, not_true, number_below, number_of, of_float_move, of_integers, op_of, operands_of, operation_of, operation_row, parts_of}
+use Rattle.rv_inst.{proofs.Descriptions.IsUnit, specs.Rules.Faults, specs.Sizes.{address_operation, load_operation, move_op, move_operation, store_operation}, specs.declared.inst.Inst.TheVariants.{AluRRImm12, AluRRR, Auipc, EBreak, Extend, Jalr, Load, LoadAddr, Lui, Mov, MovFromPReg, Nop4, Ret, Store}}
+use Rattle.{rv_machine.{proofs.States.zero_state, proofs.UnitOperations.acts_integer, specs.Decode.{decode, int_decode}, specs.Steps.zero_at}, rv_ops.{specs.FloatFields.width_of, specs.declared.float_fields.FpuOPWidth.TheVariants.D}, rv_runs.proofs.Exits.{comes_out, same_but}}
+use Rattle.rv_runs.{proofs.FullCallRuns.ends_at_once, proofs.PlainRuns.nothing_out, proofs.UnitRuns.{fiter_one, parts_are, row_comes, shape_agrees, unit_next_at, unit_operation}}
+use Rattle.rv_runs.proofs.Words.{Addi, Andi, Answer, AreUsableIn, AtStart, Based, CodeHas, Context, Decoded, Do, EmitVState, EndsAsMeant, Enters, Environment, Exit, Float, FullComesOut, FullEnds, FullMeaning, FullState, FullValues, Inst, IrType, IsAt, IsFullState, IsIntegerLoad, IsIntegerStore}
+use Rattle.rv_runs.proofs.Words.{IsPlacedAt, IsaFlags, LoadOP, Location, Memory, Next, Op, Part, PartsStand, Piece, Put, Reg, RegClass, Row, RowAsks, RowGoes, RowsAgree, Rri, SameFull, Sign, Site, State, StoreOP, TrapCode, Writable, access_slots, act, address_slots, answers_of, class_of, context_by}
+use Rattle.rv_runs.proofs.Words.{environment, family_of, fetch, fiter_none, format_of, full_at, goes_none, has_load, has_store, inst_exit, inst_meaning, inst_rule, inst_temporaries, integer_decodes, is_byte, is_float, is_float_class, is_float_load, is_float_store, is_integer, is_integer_family}
+use Rattle.rv_runs.proofs.Words.{is_integer_op, is_near, is_reserved, is_unit, is_virtual, keeps, list_any, load_slots, location_of, meaning_by, move_action, move_pieces, move_row, not_true, number_below, number_of, of_float_move, of_integers, op_of, operands_of, operation_of, operation_row, parts_of}
 use Rattle.rv_runs.{proofs.Words.{row_takes, same_Some, slots_alone, slots_of, store_slots, unit_row, values_of, wrap}, specs.FullInstRuns.FullyAsks}
 use Rattle.std.proofs.Common.{Bool, List, None, Option, Some, [], ap, arith, false, if◌then◌else◌, inl, inr, lit<, nat_eq, not, pos, refl, rules, subst, sym, true, unwrap_or, ℕ, ⊎_elim, ◌&&◌, ◌*◌, ◌++◌, ◌+◌, ◌<◌, ◌∙◌, ◌∷◌, ◌≡◌, ◌⊎◌}
 use Rattle.rv_code.specs.Pieces as piece
-use Rattle.rv_inst.specs.declared.inst.Inst.TheVariants.{AluRRImm12, AluRRR, Auipc, EBreak, Extend, Jalr, Load, LoadAddr, Lui, Mov, MovFromPReg, Nop4, Ret, Store}
 
 -- An instruction of one machine word becomes one operation, which is read where it starts.
 

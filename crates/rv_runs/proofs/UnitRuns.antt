@@ -2,19 +2,18 @@
 use Rattle.{rv_code.{specs.InstParts.unit_parts, specs.UnitRuns.{Agree, IsUsableCsr, IsUsableShape, IsUsableSource, IsUsableTarget}}, rv_encode.specs.Operations.{decoded_fpu_rrr, decoded_fpu_rrrr, decoded_csr_imm, decoded_csr_reg}, rv_full.specs.Atomics.{csr_result, csr_row}}
 use Rattle.rv_full.{specs.Floats.{float_shape, is_move, put_number, shape_row}, specs.Rows.{Absent, OneNumber, Takes, bits_of, entry_of, fits, noted, x_of}, specs.Steps.{Asks, Goes, Halts, fiter, fnext, next_by, stepped, unit_on}, specs.Units.set_frm, specs.declared.answer.Answer.TheVariants.Bits}
 use Rattle.{rv_full.{specs.declared.shapes.FloatShape.FloatShape, specs.declared.shapes.FloatShape.TheVariants.{Answered, ToFloat, ToInteger}, specs.declared.shapes.Sources.Sources, specs.declared.shapes.Target.Target}, rv_inst.specs.Descriptions.{UnitWord, unit_word}}
-use Rattle.{rv_inst.{specs.declared.inst.Inst.TheVariants.{CsrImm, CsrReg, Fli, FpuRR, FpuRRR, FpuRRRR}, specs.declared.units.PlacedReg.PlacedReg}, rv_machine.{proofs.UnitOperations.same_step, specs.Steps.step_on, specs.declared.ops.CsrOp.CsrOp}}
+use Rattle.{rv_inst.{specs.declared.inst.Inst.TheVariants.{CsrImm, CsrReg, Fli, FpuRR, FpuRRR, FpuRRRR, Nop0}, specs.declared.units.PlacedReg.PlacedReg}, rv_machine.{proofs.UnitOperations.same_step, specs.Steps.step_on, specs.declared.ops.CsrOp.CsrOp}}
 use Rattle.{rv_machine.{specs.declared.ops.CsrOp.TheVariants.{Csrrc, Csrrci, Csrrs, Csrrsi, Csrrw, Csrrwi}, specs.declared.ops.FloatOp.TheVariants.{Fli as FloatFli}}, rv_ops.{specs.Csr.{csr_imm_op, csr_reg_op}, specs.Fpu.{fpu_rr_files, fpu_rr_op, fpu_rrr_op, fpu_rrr_result, fpu_rrrr_op}}}
-use Rattle.{rv_ops.specs.declared.csr.CsrImmOP.TheVariants.CsrRWI, rv_ops.specs.declared.csr.CsrRegOP.TheVariants.CsrRW, rv_ops.specs.declared.fpu.FpuOPRRR.TheVariants.Fsgnj, rv_ops.specs.declared.fpu.FpuOPRRRR.TheVariants.Fmadd}
-use Rattle.rv_ops.{specs.declared.fpu_rr.FpuOPRR.FpuOPRR, specs.declared.fpu_rr.FpuOPRR.TheVariants.{FcvtFmtL, FcvtFmtLu, FcvtFmtW, FcvtFmtWu, FmvFmtX, FmvXFmt}}
-use Rattle.rv_runs.proofs.Words.{AllByRecursion, Answer, AnswerFits, AreUnits, AreUsableIn, AreValues, CodeHas, Context, D, Decoded, Does, EmitVState, FloatFormat, FullState, FullValues, H, Inst, IsAt, IsUsableIn, IsaFlags, Row, RowAsks, RowGoes, RowsAgree, S}
-use Rattle.rv_runs.proofs.Words.{SameFull, Sign, Site, State, Units, act, are_values_set, boxed, cast_signed, decodes_at, extended, fiter_after, fiter_none, format_of, freg, full_at, inputs_of, ints, low64, low_part, number_of, number_row, or_lt, parts_of, put_f}
-use Rattle.rv_runs.proofs.Words.{put_units, row_next, same_set, set_freg, unit_row, values_of, wrap}
-use Rattle.std.proofs.Common.{Bool, FitsSigned, List, None, Option, Some, T, [], ap, arith, false, if◌then◌else◌, inl, inr, leb, lt_of_le_of_lt, nat_eq, refl, rules, subst, sym, true, unwrap_or, w16, w32, w64, ℕ, ◌%◌, ◌+◌, ◌-◌, ◌<◌, ◌^◌}
-use Rattle.std.{proofs.Common.{◌∙◌, ◌∷◌, ◌≡◌, ◌⊎◌}, proofs.Math.Facts.{Fits-lt-pow, Fits-of_z, sfits_widen}, proofs.Math.ListN.length-set, proofs.Math.Seq.get_or-set_other, proofs.lemmas.Bool.cases_eq, proofs.lemmas.Grind.get_or-set_at, proofs.lemmas.Nat.and_le_l}
-use mir.{Syntax.Width, Val.hbits}
+use Rattle.rv_ops.{specs.declared.csr.CsrImmOP.TheVariants.CsrRWI, specs.declared.csr.CsrRegOP.TheVariants.CsrRW, specs.declared.fpu.FpuOPRRR.TheVariants.Fsgnj, specs.declared.fpu.FpuOPRRRR.TheVariants.Fmadd, specs.declared.fpu_rr.FpuOPRR.FpuOPRR}
+use Rattle.rv_ops.specs.declared.fpu_rr.FpuOPRR.TheVariants.{FcvtFmtL, FcvtFmtLu, FcvtFmtW, FcvtFmtWu, FmvFmtX, FmvXFmt}
+use Rattle.rv_runs.proofs.Words.{AllByRecursion, Answer, AnswerFits, AreUnits, AreUsableIn, AreValues, CodeHas, Context, D, Decoded, Does, EmitVState, FloatFormat, FullState, FullValues, H, Inst, IsAt, IsUsableIn, IsaFlags, Row, RowAsks, RowGoes, RowsAgree, S, SameFull, Sign, Site, State, Units, act}
+use Rattle.rv_runs.proofs.Words.{are_values_set, boxed, cast_signed, decodes_at, extended, fiter_after, fiter_none, format_of, freg, full_at, inputs_of, ints, low64, low_part, number_of, number_row, or_lt, parts_of, put_f, put_units, row_next, same_set, set_freg, unit_row, values_of, wrap}
+use Rattle.std.{proofs.Common.{Bool, FitsSigned, List, None, Option, Some, T, [], ap, arith, false, if◌then◌else◌, inl, inr, leb, lt_of_le_of_lt, nat_eq, refl, rules, subst, sym, true, unwrap_or, w16, w32, w64, ℕ, ◌%◌, ◌+◌, ◌-◌, ◌<◌, ◌^◌, ◌∙◌, ◌∷◌, ◌≡◌, ◌⊎◌}, proofs.Math.Facts.{Fits-lt-pow, Fits-of_z, sfits_widen}}
+use Rattle.std.{proofs.Math.ListN.length-set, proofs.Math.Seq.get_or-set_other, proofs.lemmas.Bool.cases_eq, proofs.lemmas.Grind.get_or-set_at, proofs.lemmas.Nat.and_le_l}
+use mir.Syntax.{Width}
+use mir.Val.{hbits}
 use Rattle.rv_full.specs.declared.shapes.Sources.TheVariants as sources
 use Rattle.rv_full.specs.declared.shapes.Target.TheVariants as target
-use Rattle.rv_inst.specs.declared.inst.Inst.TheVariants.{Nop0}
 
 -- At a unit's operation the machine with all units does its row; and float operations, and those on frm, do the same with values that
 -- are the same. That is proved by what an operation reads and writes, and not for each.

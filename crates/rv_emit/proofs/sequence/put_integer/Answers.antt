@@ -1,4 +1,4 @@
-use Rattle.rv_emit.proofs.{StackMaps.put_as, Terms.sym, Terms.arith, Terms.refl, Terms.rules, Terms.ap, Terms.◌∙◌, Terms.EmitsAnyhow, Terms.extend_kept, Terms.int_class, Terms.ints_kept, Terms.kept, Terms.move_kept, Terms.preg_usable, Terms.select_fine}
+use Rattle.rv_emit.proofs.{StackMaps.put_as, Terms.sym, Terms.arith, Terms.refl, Terms.rules, Terms.ap, Terms.◌∙◌, Terms.EmitsAnyhow, Terms.int_class, Terms.ints_kept, Terms.kept, Terms.move_kept, Terms.preg_usable, Terms.select_fine, Terms.some_in_64}
 use Rattle.rv_emit.proofs.sequence.put_integer.Goals as goal
 use Rattle.rv_inst.specs.declared.inst.Inst.TheVariants.{Select}
 
@@ -51,8 +51,9 @@ put_move-requires-in-MovFromPReg-clause-fine c = search (rules, (preg_usable _ _
 
 pub put_extend-requires : goal.put_extend-requires
 put_extend-requires c =
-    let h = extend_kept _ _ _ _ _ (kept c.in-Extend.is c.requires.rule) in
-    record { rd = h.0.0; rn = h.1.0; some = h.2; few = h.3; allocated = omega (arith, c.requires.few); room = omega (arith, c.requires.room); sound = c.requires.sound }
+    let all = ints_kept c.in-Extend.is c.requires.rule refl in
+    let bits = some_in_64 _ (kept c.in-Extend.is c.requires.rule).ranged in
+    record { rd = all.0.0; rn = all.1.0.0; some = bits.0; few = bits.1; allocated = omega (arith, c.requires.few); room = omega (arith, c.requires.room); sound = c.requires.sound }
 
 pub put_select-requires-clause-fine : goal.put_select-requires-clause-fine
 put_select-requires-clause-fine c = rw c.as_ref-info.ensures (select_fine _ _ _ _ (kept c.in-Select.is c.requires.rule))
