@@ -11,8 +11,8 @@ use Rattle.rv_inst.{specs.declared.sequence.Computation.Computation, specs.decla
 use Rattle.rv_inst.{specs.Records.{Recorded, Nothing, TrapAfter, SlotInParts, AddressInParts, AddressLast}, specs.Sizes.most_bytes, specs.declared.units.Facts.Facts}
 use Rattle.rv_inst.specs.declared.inst.Inst.TheVariants.{Auipc, Extend, LabelAddress, LoadExtNameFar, LoadExtNameGot, LoadExtNameNear, LoadInlineConst, Mov, MovFromPReg, Select, StackProbeLoop, TrapIf, Udf}
 use Rattle.std.{proofs.Common.{rules, ◌≡◌, ℕ, ℤ, ◌+◌, ◌≤◌, Bool, true, false, nat_eq, [], ◌∷◌, List, length, Option, Some, None, is_some, unwrap_or, zero, ◌&&◌, arith, refl, lit≤, sym, subst, ap, lit<, suc, ◌*◌, ◌<◌, ◌++◌, map, pos, ◌∙◌, ◌-◌, if◌then◌else◌, ⊎_elim, ◌%◌, ◌^◌, inl, inr, ◌⊎◌}, proofs.lemmas.Option.same_Some}
-use Rattle.std.{specs.List.list_any, specs.Prelude.{not, ◌==◌}}
-use mathlib.Core.Bool.{or-false}
+use Rattle.std.{specs.List.list_any, specs.Prelude.{not, ◌==◌, ◌||◌}}
+use mathlib.Core.Bool.{or-false, or_self}
 use borrow.Author.Count.{below_more, below_none}
 
 -- ---- how long pieces are, and that those which use no own label but what they allocate and bind are self-contained, in whatever forms.
@@ -302,7 +302,7 @@ probe_keeps P tmp guard count step constant h = number_keeps P 31 (cast_signed w
 pub probe_places : (tmp guard count : ℕ) → (after 0 (probe_pieces tmp guard count) ≡ Some (probe_turn tmp)) × (after 1 (probe_pieces tmp guard count) ≡ Some [])
 probe_places tmp guard count = (probe_keeps (λ ps. after 0 ps ≡ Some (probe_turn tmp)) tmp guard count (λ a ps e. e) (λ rd n ps e. e) refl, probe_keeps (λ ps. after 1 ps ≡ Some []) tmp guard count (λ a ps e. e) (λ rd n ps e. e) refl)
 
-pub probe_made : (context : Context) (guard count : ℕ) (tmp : Writable Reg) → IsMadeOf context (StackProbeLoop guard count tmp) (probe_pieces (number_of tmp.reg) (low_word guard) (low_word count))
+probe_made : (context : Context) (guard count : ℕ) (tmp : Writable Reg) → IsMadeOf context (StackProbeLoop guard count tmp) (probe_pieces (number_of tmp.reg) (low_word guard) (low_word count))
 probe_made context guard count tmp =
     let t = number_of tmp.reg in
     let g = low_word guard in
@@ -316,6 +316,9 @@ probe_made context guard count tmp =
     made_by context (StackProbeLoop guard count tmp) pieces (record { among = among; bound = subst (λ m. (k : ℕ) → k < m → P k) (sym owns) (below_more P 1 (below_more P 0 (below_none P) (_, places.0)) (_, places.1)) }) (fits_most context.flags pieces few) (omega arith)
     (probe_keeps GoNowhere t g n (λ a ps h. h) (λ rd n ps h. h) tt) (omega (arith, owns)) refl (λ start end. refl)
     (probe_keeps (λ ps. (at : ℕ) → records_of at (slots_of context.flags ps) ≡ []) t g n (λ a ps h at. h _) (λ rd n ps h at. h _) (λ at. refl)) refl
+
+probe_forgets : (wide : Bool) (tmp guard count : ℕ) → pieces_forget wide (probe_pieces tmp guard count) ≡ wide
+probe_forgets wide tmp guard count = probe_keeps (λ ps. pieces_forget wide ps ≡ wide) tmp guard count (λ a ps h. h) (λ rd n ps h. ap (λ c. wide || c) h ∙ or_self wide) (or-false wide)
 
 -- ---- what stands among the code, and what is distant: one piece that makes an instruction, and how long it is.
 
@@ -377,6 +380,7 @@ given_code context setting (LoadInlineConst rd type imm) e =
     given_by _ refl (constant_made context rd type imm) (omega (arith, few, least_few context.flags)) (or-false _)
 given_code context setting (Extend rd rn signed from_bits to_bits) e = given_by _ refl (extend_made context rd rn signed from_bits to_bits) (lit≤ tt) (either (λ ps. pieces_forget (not context.flags.has_zca) ps ≡ false) (is_byte signed from_bits) _ _ refl refl)
 given_code context setting (TrapIf cmp code) e = given_by _ refl (trap_if_made context cmp code) (omega (arith, least_few context.flags)) refl
+given_code context setting (StackProbeLoop guard_size probe_count tmp) e = given_by _ refl (probe_made context guard_size probe_count tmp) (lit≤ tt) (probe_forgets _ (number_of tmp.reg) (low_word guard_size) (low_word probe_count))
 given_code context setting (LoadExtNameGot rd name) e = given_by _ refl (got_made context rd name) (lit≤ tt) refl
 given_code context setting (LoadExtNameNear rd name offset) e = given_by _ refl (near_made context rd name offset) (lit≤ tt) refl
 given_code context setting (LoadExtNameFar rd name offset) e = given_by _ refl (far_made context rd name offset) (omega (arith, least_few context.flags)) (or-false _)

@@ -5,11 +5,11 @@ use Rattle.rv_code.proofs.Words.{has_bad_size, has_bad_type, has_bad_width, has_
 use Rattle.rv_code.proofs.Words.{is_movable, is_not_of, is_one_of, is_other_class, is_out_of_place, is_out_of_range, is_real_x, is_reserved, is_stack_or_frame, is_uneven, is_vector, is_vector_class, is_virtual, is_zero, IsFineChoice, IsFineTarget, IsFineTry}
 use Rattle.rv_code.proofs.Words.{IsIntRegister, IsListed, IsMove, IsRealRegister, IsUsable, labels_of, lacks_target, leb-false, leb-true, list_any, MachLabel, number_of, or_cases, or_parts, PReg, Real, Reg, RegClass}
 use Rattle.rv_code.{proofs.Words.{registers_in, same_class, same_register, SelectInfo, table_of, target_labels, targets_of, try_call_of, try_labels, TryCallInfo, values_differ, Vector, Writable, written_in}, specs.UnitRuns.{IsUsableIn, AreUsableIn}}
-use Rattle.rv_inst.{proofs.PlainInsts.not_true, specs.Core.is_integer, specs.Descriptions.{counts, reverses, sequence_registers}, specs.Rules.sequence_faults, specs.declared.inst.Brev8Info.Brev8Info, specs.declared.inst.CondBrTarget.CondBrTarget}
+use Rattle.rv_inst.{proofs.PlainInsts.not_true, specs.Core.is_integer, specs.Descriptions.{counts, reverses, sequence_registers}, specs.Rules.{is_stack, sequence_faults}, specs.declared.inst.Brev8Info.Brev8Info, specs.declared.inst.CondBrTarget.CondBrTarget}
 use Rattle.rv_inst.{specs.declared.inst.CondBrTarget.TheVariants.{Label as ToLabel}, specs.declared.inst.CountInfo.CountInfo, specs.declared.inst.Inst.TheVariants.Brev8, specs.declared.sequence.Computation.Computation, specs.declared.units.PlacedReg.PlacedReg}
 use Rattle.std.{proofs.Common.{⊎_elim, ◌≡◌, ◌⊎◌, inl, inr, ℕ, ◌<◌, Bool, true, false, List, [], ◌∷◌, ◌++◌, length, Option, Some, None, arith, refl, sym, subst, eqb-true, ◌∙◌, ◌≢◌, ◌==◌, not, ◌≤◌, rules, ◌%◌, ap, nat_le, ◌||◌, ◌&&◌}, proofs.lemmas.List.Folds.list_any-append}
 use Rattle.rv_inst.specs.declared.error.Rule.TheVariants as rule
-use Rattle.rv_inst.specs.declared.inst.Inst.TheVariants.{BrTable, CallInd, Mov, MovFromPReg, RawData, Select, StackProbeLoop}
+use Rattle.rv_inst.specs.declared.inst.Inst.TheVariants.{BrTable, CallInd, Mov, MovFromPReg, RawData, Select}
 
 -- ---- what an instruction that breaks no rule gives: integer registers below x30, numbers in range, and branches with a target.
 
@@ -218,18 +218,17 @@ is_table index tmp1 tmp2 targets k =
     let all = are_usable (index ∷ tmp1.reg ∷ tmp2.reg ∷ []) k.real k.placed k.free in
     search (rules, all, (none_of is_zero (tmp1.reg ∷ tmp2.reg ∷ []) k.counted), (all_apart (tmp1.reg ∷ tmp2.reg ∷ []) (index ∷ []) (all.1.0, (all.1.1.0, (all.0, tt))) k.apart), not_zero)
 
--- ---- what a probe of the stack that breaks no rule gives: a register below x30 that is neither x0 nor sp.
+-- ---- what the rules ask of a temporary that no allocator chooses: a register below x30 that is neither x0 nor sp.
 
--- the register of a guard's size
-pub record IsProbe (tmp : ℕ) : Type 0 where
+pub record IsScratch (tmp : ℕ) : Type 0 where
   pub usable : tmp < 30
   pub written : 0 < tmp
   pub other : tmp ≢ 2
 
-pub is_probe : (guard count : ℕ) (tmp : Writable Reg) → Keeps (StackProbeLoop guard count tmp) → IsProbe (number_of tmp.reg)
-is_probe guard count tmp k =
-    let usable = (are_usable (tmp.reg ∷ []) k.real k.placed k.free).0 in
-    search (rules, usable, (not_zero tmp.reg usable (or_left (is_zero tmp.reg) false k.counted)), (other_number 2 tmp.reg usable k.apart))
+pub is_scratch : (tmp : Writable Reg) (more : Bool) → list_any is_virtual (tmp.reg ∷ []) ≡ false → list_any is_other_class (tmp.reg ∷ []) ≡ false → list_any is_reserved (tmp.reg ∷ []) ≡ false → (list_any is_zero (tmp.reg ∷ []) || more) ≡ false → list_any is_stack (tmp.reg ∷ []) ≡ false → IsScratch (number_of tmp.reg)
+is_scratch tmp more real placed free counted apart =
+    let usable = (are_usable (tmp.reg ∷ []) real placed free).0 in
+    search (rules, usable, (not_zero tmp.reg usable (or_left (is_zero tmp.reg) false (or_left (is_zero tmp.reg || false) more counted))), (other_number 2 tmp.reg usable (or_left (is_stack tmp.reg) false apart)))
 
 -- ---- what a word of a unit that breaks no rule gives: registers of the machine, each in its place, and fields that its operation takes.
 

@@ -1,16 +1,15 @@
 -- Which instructions' code forgets the vector unit's setting.
-use Rattle.{rv_base.{specs.Regs.class_of, specs.declared.condcodes.IntCC.IntCC, specs.declared.mem_flags.MemFlagsData.MemFlagsData}, rv_code.{proofs.LineSlots.offset_by, proofs.MadeOfPieces.{moves_keep, number_keeps}}}
+use Rattle.{rv_base.{specs.Regs.class_of, specs.declared.condcodes.IntCC.IntCC, specs.declared.mem_flags.MemFlagsData.MemFlagsData}, rv_code.{proofs.LineSlots.offset_by, proofs.MadeOfPieces.moves_keep}}
 use Rattle.rv_code.{proofs.Forgetting.{before_none, either, last_any, piece_forgets, pieces_forget, slots_forget}, specs.Forgetting.{is_inline, slot_forgets}, proofs.Registers.or_true}
 use Rattle.rv_code.{specs.Accesses.{Access, access_pieces, address_pieces, based_pieces, boxing_pieces, far_pieces, half_load_pieces, half_store_pieces, load_line_pieces, load_pieces, return_pieces, store_access, store_line_pieces, store_pieces}, specs.Choices.{choice_pieces, move_action, move_pieces, same_numbers, select_pieces}}
-use Rattle.rv_code.{specs.InstParts.result_slots, specs.Pieces.{Action, Rrr, Rri, Note, number_pieces, offset_pieces}, specs.Probes.{probe_pieces, probe_turn}, specs.Sequences.{pieces_by, sequence_pieces}}
-use Rattle.rv_emit.proofs.Terms.{Bind, AMode, ◌≢◌, ◌⊎◌, ⊎_elim, subst, code_given, bits_of, cast_signed, w64, ◌*◌, ◌≡◌, refl, sym, ap, ◌∙◌, arith, ints, Bool, true, false, not, ◌&&◌, ◌||◌, if◌then◌else◌, nat_eq, ℕ, ℤ, pos, List, [], ◌∷◌, ◌++◌, Option, Some, None, length, map, ◌≤◌, TrapCode, I64, Reg}
-use Rattle.rv_emit.proofs.Terms.{Int, number_of, Writable, MachLabel, TryCallInfo, low_word, LoadOP, StoreOP, Add, Addi, has_load, has_store, Based, AtLabel, is_near, is_splittable, location_of, Context, Inst, Calls, family_of, loads_unless, result_loads, StackLoad, Piece, Do, slots_of, Slot, Slots}
+use Rattle.rv_code.{specs.InstParts.result_slots, specs.Pieces.{Action, Rrr, Rri, Note, offset_pieces}, specs.Sequences.{pieces_by, sequence_pieces}}
+use Rattle.rv_emit.proofs.Terms.{AMode, ◌≢◌, subst, code_given, bits_of, ◌≡◌, refl, sym, ap, ◌∙◌, arith, ints, Bool, true, false, not, ◌&&◌, ◌||◌, if◌then◌else◌, nat_eq, ℕ, ℤ, pos, List, [], ◌∷◌, ◌++◌, Option, Some, None, length, map, ◌≤◌, TrapCode, I64, Reg}
+use Rattle.rv_emit.proofs.Terms.{Int, number_of, Writable, MachLabel, TryCallInfo, LoadOP, StoreOP, Add, Addi, has_load, has_store, Based, AtLabel, is_near, is_splittable, location_of, Context, Inst, Calls, family_of, loads_unless, result_loads, StackLoad, Piece, Do, slots_of, Slot, Slots}
 use Rattle.{rv_emit.{proofs.Terms.{Ask, EmitVState, parts_of, slots_alone, call_parts, number_slots, call_pieces, call_ind_pieces, try_pieces, extend_pieces, jump_slots, Buffer, bytes_of, pending, is_needed}, specs.State.{parts_forget, setting_after, setting_beyond}}, rv_inst.specs.Addresses.{Location, AtConstant}}
-use Rattle.rv_inst.{specs.Descriptions.{facts_of, given, sequence_of}, specs.Operands.{all_of, written_in}, specs.Sizes.results_space, specs.declared.units.Facts.Facts, specs.declared.inst.Family.Family, specs.declared.inst.Family.TheVariants.{Integer, Loop, Symbols}}
+use Rattle.rv_inst.{specs.Descriptions.{asked_of, facts_of, given, only_regs, regs, sequence_of}, specs.Operands.{all_of, written_in}, specs.Sizes.results_space, specs.declared.units.Facts.Facts, specs.declared.inst.Family.TheVariants.{Integer, Loop, Memory, Symbols}}
 use Rattle.rv_inst.{specs.declared.inst.SelectInfo.SelectInfo, specs.declared.sequence.Computation.Computation, specs.declared.sequence.Computation.TheVariants.Zeros}
-use Rattle.{rv_inst.specs.declared.inst.Inst.TheVariants.{AluRRImm12, AluRRR, BrTable, Nop0, Call, CallInd, Load, LoadAddr, Lui, Mov, MovFromPReg, ReturnCall, ReturnCallInd, Select, StackProbeLoop, Store}, rv_ops.{specs.declared.memory.LoadOP.TheVariants.Lh, specs.declared.memory.StoreOP.TheVariants.Sh}, std.specs.List.list_any}
-use Rattle.std.specs.Prelude.{unwrap_or}
-use mathlib.Core.Bool.{or-false, or_self}
+use Rattle.{rv_inst.specs.declared.inst.Inst.TheVariants.{AluRRImm12, AluRRR, BrTable, Nop0, Call, CallInd, Load, LoadAddr, Lui, Mov, MovFromPReg, ReturnCall, ReturnCallInd, Select, Store}, rv_ops.{specs.declared.memory.LoadOP.TheVariants.Lh, specs.declared.memory.StoreOP.TheVariants.Sh}, std.{specs.List.list_any, specs.Prelude.unwrap_or}}
+use mathlib.Core.Bool.{or-false}
 use Rattle.rv_code.specs.Pieces as piece
 use Rattle.mach_records.specs.declared.records.Event.TheVariants as event
 
@@ -81,7 +80,7 @@ select_none wide info =
 given_forgets : (context : Context) (inst : Inst) (f : Facts) → facts_of inst ≡ Some f → Forgets context inst (f.jumps && not context.flags.has_zca)
 given_forgets context inst f is b setting = let g = code_given context setting inst f is in ap (λ c. setting_beyond c setting) (ap (parts_forget b) g.parts ∙ or-false _ ∙ g.forgets)
 
-integers_stay : (context : Context) (inst : Inst) → family_of inst ≡ Integer → facts_of inst ≡ None → Forgets context inst false
+pub integers_stay : (context : Context) (inst : Inst) → family_of inst ≡ Integer → facts_of inst ≡ None → Forgets context inst false
 integers_stay context (Lui rd imm) family other = made context (Lui rd imm) refl (Do (piece.Lui (number_of rd.reg) imm.value) ∷ []) refl (λ setting. refl)
 integers_stay context (AluRRR op rd rs1 rs2) family other = made context (AluRRR op rd rs1 rs2) refl (Do (Rrr op (number_of rd.reg) (number_of rs1) (number_of rs2)) ∷ []) refl (λ setting. refl)
 integers_stay context (AluRRImm12 op rd rs imm) family other = made context (AluRRImm12 op rd rs imm) refl (Do (Rri op (number_of rd.reg) (number_of rs) imm.value) ∷ []) refl (λ setting. refl)
@@ -92,25 +91,27 @@ integers_stay context (MovFromPReg rd rm) family other =
 integers_stay context (Select info) family other = made context (Select info) refl (select_pieces info) (select_none _ info) (λ setting. refl)
 integers_stay context inst family other = λ b setting. cc
 
--- each that takes a symbol has such a description
-symbols_given : (inst : Inst) → family_of inst ≡ Symbols → facts_of inst ≢ None
+-- each that takes a symbol has such a description, and so has each that is about memory but these three
+pub symbols_given : (inst : Inst) → family_of inst ≡ Symbols → facts_of inst ≢ None
 symbols_given Nop0 family none = absurd (cc)
 symbols_given inst family none = absurd (cc)
 
--- by what its facts say
-pub facts_forget : (context : Context) (inst : Inst) (family : Family) (jumps : Bool) → family_of inst ≡ family → (family ≡ Integer) ⊎ (family ≡ Symbols) → ((f : Facts) → facts_of inst ≡ Some f → jumps ≡ (f.jumps && not context.flags.has_zca)) → (facts_of inst ≡ None → jumps ≡ false) → Forgets context inst jumps
-facts_forget context inst family jumps is which some none = on (facts_of inst) refl
+pub memory_given : (inst : Inst) → ((rd : Writable Reg) (op : LoadOP) (flags : MemFlagsData) (from : AMode) → inst ≢ Load rd op flags from) → ((src : Reg) (op : StoreOP) (flags : MemFlagsData) (to : AMode) → inst ≢ Store src op flags to) →
+    ((rd : Writable Reg) (mem : AMode) → inst ≢ LoadAddr rd mem) → family_of inst ≡ Memory → facts_of inst ≢ None
+memory_given (Load rd op flags from) load store address family none = load rd op flags from refl
+memory_given (Store src op flags to) load store address family none = store src op flags to refl
+memory_given (LoadAddr rd mem) load store address family none = address rd mem refl
+memory_given inst load store address family none = absurd (cc)
+
+-- by what is asked of it
+pub asked_forgets : (context : Context) (inst : Inst) (jumps : Bool) → jumps ≡ ((asked_of inst).jumps && not context.flags.has_zca) → (facts_of inst ≡ None → Forgets context inst false) → Forgets context inst jumps
+asked_forgets context inst jumps is other = subst (Forgets context inst) (sym is) (on (facts_of inst) refl)
   where
-    on : (facts : Option Facts) → facts_of inst ≡ facts → Forgets context inst jumps
-    on (Some f) e = subst (Forgets context inst) (sym (some f e)) (given_forgets context inst f e)
-    on None e = ⊎_elim (λ integer. subst (Forgets context inst) (sym (none e)) (integers_stay context inst (is ∙ integer) e)) (λ symbols. absurd (symbols_given inst (is ∙ symbols) e)) which
+    on : (facts : Option Facts) → facts_of inst ≡ facts → Forgets context inst ((unwrap_or facts (only_regs (regs None None None None))).jumps && not context.flags.has_zca)
+    on (Some f) e = given_forgets context inst f e
+    on None e = other e
 
 -- ---- loops: each jumps back to its start
-
-probe_forgets : (wide : Bool) (tmp guard count : ℕ) → pieces_forget wide (probe_pieces tmp guard count) ≡ wide
-probe_forgets wide tmp guard count =
-    let P : List Piece → Type 0 = λ ps. pieces_forget wide ps ≡ wide in
-    number_keeps P 31 (cast_signed w64 (guard * count)) (number_pieces tmp (pos guard) ++ Bind 0 ∷ probe_turn tmp) (λ a ps ranged h. h) (λ n ps h. ap (λ c. wide || c) h ∙ or_self wide) (number_keeps P tmp (pos guard) (Bind 0 ∷ probe_turn tmp) (λ a ps ranged h. h) (λ n ps h. ap (λ c. wide || c) h ∙ or_self wide) (or-false wide))
 
 computation_forgets : (wide : Bool) (computation : Computation) (rd tmp1 tmp2 tmp3 rs bits : ℕ) → pieces_forget wide (pieces_by computation rd tmp1 tmp2 tmp3 rs bits) ≡ wide
 computation_forgets true (Zeros true) rd tmp1 tmp2 tmp3 rs bits = refl
@@ -118,8 +119,7 @@ computation_forgets false (Zeros true) rd tmp1 tmp2 tmp3 rs bits = refl
 computation_forgets _ _ rd tmp1 tmp2 tmp3 rs bits = refl
 
 pub loops_forget : (context : Context) (inst : Inst) → family_of inst ≡ Loop → Forgets context inst (not context.flags.has_zca)
-loops_forget context (StackProbeLoop guard count tmp) family =
-    made context (StackProbeLoop guard count tmp) refl (probe_pieces (number_of tmp.reg) (low_word guard) (low_word count)) (probe_forgets _ (number_of tmp.reg) (low_word guard) (low_word count)) (λ setting. refl)
+loops_forget context Nop0 family = absurd (cc)
 loops_forget context inst family =
     let s = given (sequence_of inst) (cc) in
     made context inst refl (sequence_pieces s) (computation_forgets _ s.computation (number_of s.rd.reg) (number_of s.tmp1.reg) (number_of s.tmp2.reg) (number_of (unwrap_or s.tmp3 s.tmp2).reg) (number_of s.rs) (bits_of s.ty)) (λ setting. cc)

@@ -5,10 +5,10 @@ use Rattle.rv_emit.proofs.Terms.{none_put, ◌≡◌, true, false, ⊎_elim, ◌
 use Rattle.rv_emit.proofs.Terms.{CondBrTarget, Fallthrough, TryCallInfo, StackLoad, Exactly, AtMost, IsOfSize, Request, first_in, space_in, request_of, inst_size, inst_sum, inst_records, uses_in, return_of, filled_last, is_some, VCodeConstant, inst_constant, named_by, table_of, EmitVState, Decoded}
 use Rattle.rv_emit.proofs.Terms.{Buffer, IsSoundBuffer, Appends, AppendsCode, HasReturn, IsFarUse, IslandAsked, bytes_of, allocated_of, named_of, PutsParts, EmitsIn, Part, Ask, Slots, Slot, Op, size_of, names_of, AreSelfContained, PartsAreSelfContained, access_records, access_slots, branch_slots}
 use Rattle.rv_emit.proofs.Terms.{call_parts, parts_of, slots_of, Piece, HasSize, rrr_sized, rri_sized, lui_sized, jalr_sized, ebreak_sized, window_long, IsPlain, IsSummed, summed, plain_put, put_long, code_none, no_own, low_kept, IsMadeOf, made_contained, mov_made, mov_from_preg_made, IsGiven}
-use Rattle.rv_emit.proofs.Terms.{given_code, select_made, udf_made, sequence_made, load_summed, store_summed, load_contained, store_contained, load_addr_summed, address_contained, location_of, probe_made, unwind_summed, table_contained, table_short, tail_contained, tail_contents, t0_contained}
+use Rattle.rv_emit.proofs.Terms.{given_code, select_made, udf_made, sequence_made, load_summed, store_summed, load_contained, store_contained, load_addr_summed, address_contained, location_of, unwind_summed, table_contained, table_short, tail_contained, tail_contents, t0_contained}
 use Rattle.{rv_emit.proofs.Terms.{t0_contents, return_short, AreShortLoads, unless_short, results_short, table_fine, call_kept, call_ind_kept, data_kept, keeps}, rv_inst.{specs.Descriptions.{Description, Word, Computes, Gives, description_of, facts_of, is_made, most_words, none_is_some}, specs.declared.units.Facts.Facts}}
 use Rattle.rv_inst.specs.declared.inst.CondBrTarget.TheVariants.{Label as ToLabel}
-use Rattle.rv_inst.specs.declared.inst.Inst.TheVariants.{AluRRImm12, AluRRR, Args, BrTable, Call, CallInd, CondBr, DummyUse, EBreak, EmitIsland, Jal, Jalr, Load, LoadAddr, Lui, Mov, MovFromPReg, Nop0, Nop4, RawData, Ret, Rets, ReturnCall, ReturnCallInd, Select, SequencePoint, StackProbeLoop, Store, Udf, Unwind}
+use Rattle.rv_inst.specs.declared.inst.Inst.TheVariants.{AluRRImm12, AluRRR, Args, BrTable, Call, CallInd, CondBr, DummyUse, EBreak, EmitIsland, Jal, Jalr, Load, LoadAddr, Lui, Mov, MovFromPReg, Nop0, Nop4, RawData, Ret, Rets, ReturnCall, ReturnCallInd, Select, SequencePoint, Store, Udf, Unwind}
 use Rattle.rv_code.specs.Pieces as piece
 use Rattle.mach_records.specs.declared.records.Event.TheVariants as event
 use Rattle.rv_ops.specs.declared.memory.LoadOP.TheVariants as loads
@@ -172,7 +172,6 @@ inst_is_code context setting (BrTable index tmp1 tmp2 targets) rule =
     (λ small. let few = most (omega arith) in omega (arith, some, few)) far.uses (λ start end. refl) (λ first at. far.records at) far.names
 inst_is_code context setting (Udf code) rule = made (udf_made context code)
 inst_is_code context setting (Jalr rd base offset) rule = operation (jalr_sized context.flags (number_of rd.reg) (number_of base) offset.value) refl refl (record { uses = λ start end. refl; records = λ start end. refl; names = λ named. refl })
-inst_is_code context setting (StackProbeLoop guard_size probe_count tmp) rule = made (probe_made context guard_size probe_count tmp)
 inst_is_code context setting (Call info) rule = calling (call_is context info) (unless_short context.flags info.patchable info.defs (call_kept info (keeps context _ rule)).results)
 inst_is_code context setting (CallInd info) rule = calling (call_ind_is context info) (results_short context.flags info.defs (call_ind_kept info (keeps context _ rule)).results)
 inst_is_code context setting (ReturnCall info) rule =

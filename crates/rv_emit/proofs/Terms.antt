@@ -17,7 +17,7 @@ pub use Rattle.rv_code.proofs.LineSlots.{HaveContents, IsPlain, IsSummed, access
 pub use Rattle.rv_code.proofs.LineSlots.{store_summed, unwind_summed}
 pub use Rattle.rv_code.proofs.LongSlots.{number_few, AreShortLoads, count_splits, eight_short, even_plain, extend_even, extend_few, far_jumps_even, far_jumps_long, loads_counted, loads_most, number_even, results_short, return_most, return_short, returns_counted, saves_long}
 pub use Rattle.rv_code.proofs.LongSlots.{saves_short, setup_few, setup_short, step_most, steps_counted, t0_contained, t0_contents, table_contained, table_short, tail_contained, tail_contents, unless_short}
-pub use Rattle.rv_code.proofs.MadeOfPieces.{IsGiven, IsMadeOf, code_given, given_code, made_contained, mov_from_preg_made, mov_made, pieces_few, pieces_long, pieces_name, probe_made, select_made, sequence_made, udf_made}
+pub use Rattle.rv_code.proofs.MadeOfPieces.{IsGiven, IsMadeOf, code_given, given_code, made_contained, mov_from_preg_made, mov_made, pieces_few, pieces_long, pieces_name, select_made, sequence_made, udf_made}
 pub use Rattle.rv_code.proofs.Operands.{data_kept, keeps, listed, listed_targets, move_kept, preg_usable, call_usable, listed_try, select_fine, some_in_64, table_fine}
 pub use Rattle.rv_code.{proofs.OperationActs.{HasSize, ebreak_sized, jalr_sized, jump_len, least_even, least_few, lui_sized, rri_sized, rrr_sized, window_long}, proofs.Registers.are_values_set, proofs.Steps.{istep_at, comes_both, comes_one, jump_leads, leads_both, leads_here}}
 pub use Rattle.rv_code.{specs.Calls.{call_ind_pieces, call_pieces, call_size, map_notes, patch_notes, return_notes, try_pieces}, specs.Choices.extend_pieces, specs.Immediates.{lower_of, upper_of}}

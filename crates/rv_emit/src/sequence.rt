@@ -191,6 +191,7 @@ fn put_memory(
 ) -> Result<(), OutOfMemory>
     requires rule { KeepsRules (registered_of sink.old) inst.now }
     requires frame { sp_to_args_end frame.now < 2 ^ 31 }
+    requires few { allocated_of sink.old < 2 ^ 29 }
     requires room { length (bytes_of sink.old) + sequence_limit < code_limit }
     requires sound { IsSoundBuffer sink.old }
     ensures parts { family_of inst.now ≡ Memory → OnOk result (Emits (context_by flags frame.now (registered_of sink.old)) inst.now sink.old sink.new) }
@@ -220,6 +221,11 @@ fn put_memory(
             put_address(sink, flags, *rd, place)
         }
         Inst::LabelAddress { dst, label } => put_label_address(sink, *dst, *label),
+        Inst::StackProbeLoop {
+            guard_size,
+            probe_count,
+            tmp,
+        } => put_probe_loop(sink, flags, *guard_size, *probe_count, *tmp),
         _ => Ok(()),
     }
 }
@@ -237,15 +243,8 @@ fn put_loop(
     ensures parts { family_of inst.now ≡ Loop → OnOk result (EmitsAnyhow flags inst.now sink.old sink.new) }
     ensures refused { OnErr result (spoiled_of sink.new ≡ true) }
 {
-    match inst {
-        Inst::StackProbeLoop {
-            guard_size,
-            probe_count,
-            tmp,
-        } => put_probe_loop(sink, flags, *guard_size, *probe_count, *tmp),
-        _ => match inst.sequence() {
-            Some(sequence) => put_computation(sink, flags, sequence),
-            None => Ok(()),
-        },
+    match inst.sequence() {
+        Some(sequence) => put_computation(sink, flags, sequence),
+        None => Ok(()),
     }
 }

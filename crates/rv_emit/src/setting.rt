@@ -1,15 +1,14 @@
 //! What emission still knows of the vector unit's setting after an instruction's sequence.
 
-ghost use Rattle.std.specs.Prelude.{◌≡◌, ◌<◌, ◌^◌, ◌&&◌, false, not, List, None, Some};
+ghost use Rattle.std.specs.Prelude.{◌≡◌, ◌<◌, ◌^◌, ◌&&◌, not, List, None};
 ghost use Rattle.rv_base.specs.declared.constant.Constant.{Constant};
 ghost use Rattle.rv_base.specs.Frame.{sp_to_args_end};
 ghost use Rattle.rv_inst.specs.Addresses.{location_of, is_splittable};
 ghost use Rattle.rv_inst.specs.Context.{context_by};
-ghost use Rattle.rv_inst.specs.Descriptions.{facts_of};
+ghost use Rattle.rv_inst.specs.Descriptions.{asked_of};
 ghost use Rattle.rv_inst.specs.Operands.{family_of};
 ghost use Rattle.rv_inst.specs.Sizes.{request_of};
 ghost use Rattle.rv_inst.specs.declared.inst.Family.TheVariants.{Memory, Control};
-ghost use Rattle.rv_inst.specs.declared.units.Facts.{Facts};
 ghost use Rattle.rv_code.specs.declared.state.EmitVState.{EmitVState as Setting};
 ghost use Rattle.rv_sequences.specs.Emitted.{Buffer};
 ghost use Rattle.rv_code.specs.Forgetting.{is_inline};
@@ -41,15 +40,11 @@ pub(crate) fn forgets_setting(flags: IsaFlags, frame: &FrameLayout, inst: &Inst)
     }
 }
 
-/// Returns whether the code of an instruction whose description gives it jumps in four bytes, over a constant that stands among it.
+/// Returns whether the code of an instruction whose description gives it jumps in four bytes, over a constant that stands among it or back.
 fn facts_jump(flags: IsaFlags, inst: &Inst) -> bool
-    ensures given { (f : Facts) → facts_of inst.now ≡ Some f → result ≡ (f.jumps && not flags.has_zca) }
-    ensures others { facts_of inst.now ≡ None → result ≡ false }
+    ensures { result ≡ ((asked_of inst.now).jumps && not flags.has_zca) }
 {
-    match inst.facts() {
-        Some(facts) => facts.jumps && !flags.has_zca,
-        None => false,
-    }
+    inst.asked().jumps && !flags.has_zca
 }
 
 fn memory_forgets(flags: IsaFlags, frame: &FrameLayout, inst: &Inst) -> bool
@@ -61,7 +56,7 @@ fn memory_forgets(flags: IsaFlags, frame: &FrameLayout, inst: &Inst) -> bool
         Inst::Load { from, .. } => offset_forgets(flags, frame, *from),
         Inst::Store { to, .. } => offset_forgets(flags, frame, *to),
         Inst::LoadAddr { mem, .. } => offset_forgets(flags, frame, *mem),
-        _ => false,
+        _ => facts_jump(flags, inst),
     }
 }
 

@@ -24,9 +24,11 @@ use Rattle.rv_inst.specs.Classes.{is_word_type}
 use Rattle.rv_machine.specs.declared.ops.MOp.TheVariants.{Base}
 use Rattle.rv_machine.specs.declared.ops.BaseOp.TheVariants.{Auipc as AuipcOp}
 use Rattle.rv_inst.specs.Context.{Context}
-use Rattle.rv_inst.specs.Effects.{Environment, Meaning, Next, Trap, compares, constant_of, goes, symbol_at}
+use Rattle.rv_inst.specs.Effects.{Environment, Meaning, Next, Trap, compares, constant_of, goes, probes_of, symbol_at, zero_bytes}
 use Rattle.rv_inst.specs.InstCode.{AtMost, Exactly, InstCode, extend_operation, one_word, trap_size, words}
+use Rattle.rv_inst.specs.Limits.{number_limit}
 use Rattle.rv_inst.specs.Records.{Recorded, Nothing, TrapAfter, SlotInParts, AddressInParts, AddressLast}
+use Rattle.rv_machine.specs.Arithmetic.{low_word}
 use Rattle.rv_machine.specs.Memory.{load_result}
 use Rattle.rv_machine.specs.State.{Values, reg, set_reg, wrap, low64}
 use Rattle.rv_ops.specs.declared.memory.LoadOP.TheVariants.{Ld}
@@ -106,9 +108,9 @@ pub record Given : Type 0 where
 abbrev pub regs : Option (Writable Reg) → Option Reg → Option Reg → Option Reg → InstRegs
 regs rd rs1 rs2 rs3 = record { rd = rd; rs1 = rs1; rs2 = rs2; rs3 = rs3 }
 
--- these registers, of which any may be x0, and no type that may not be taken, number that may be out of its range, label, or jump
+-- these registers, of which any may be x0, and no temporary, type that may not be taken, number that may be out of its range, label, or jump
 abbrev pub only_regs : InstRegs → Facts
-only_regs r = record { regs = r; in_steps = false; mistyped = false; beyond = false; targets = Nowhere; jumps = false }
+only_regs r = record { regs = r; scratch = None; in_steps = false; mistyped = false; beyond = false; targets = Nowhere; jumps = false }
 
 -- a result that is computed in steps, of no other register
 abbrev pub stepwise : Writable Reg → Facts
@@ -117,6 +119,10 @@ stepwise rd = record (only_regs (regs (Some rd) None None None)) { in_steps = tr
 -- it sets its result and goes on
 abbrev pub sets : Values → Writable Reg → ℕ → Meaning
 sets v rd n = goes Next (set_reg v (number_of rd.reg) n)
+
+-- it puts a byte 0 at each of these addresses and goes on
+abbrev pub zeroes : Values → List ℕ → Meaning
+zeroes v addresses = record (goes Next (zero_bytes v addresses)) { writes = addresses }
 
 -- ---- the table
 
@@ -214,7 +220,14 @@ described (Jalr rd base offset) = None
 described (Popcnt info) = Some (Computes (counts Ones info) (λ (s : Sequence). Popcnt (count_info s)))
 described (Cltz leading info) = Some (Computes (counts (Zeros leading) info) (λ (s : Sequence). Cltz leading (count_info s)))
 described (Brev8 info) = Some (Computes (reverses info) (λ (s : Sequence). Brev8 (brev8_info info.tmp2 s)))
-described (StackProbeLoop guard_size probe_count tmp) = None
+described (StackProbeLoop guard_size probe_count tmp) = Some (Gives (record {
+  family = Memory;
+  facts = record (only_regs (regs None None None None)) { scratch = Some tmp; jumps = true };
+  with_registers = λ (r : InstRegs). StackProbeLoop guard_size probe_count tmp;
+  meaning = λ env v. zeroes v (probes_of (reg v 2) (low_word guard_size) (low_word probe_count));
+  code = λ context. words (AtMost (number_limit + number_limit + 4 * 5));
+  records = Nothing;
+}))
 described (LoadExtNameGot rd name) = Some (Gives (record {
   family = Symbols;
   facts = stepwise rd;
@@ -387,6 +400,10 @@ facts_in (Some (Gives g)) = Some g.facts
 abbrev pub facts_of : Inst → Option Facts
 facts_of inst = facts_in (described inst)
 
+-- of any other nothing is asked here
+abbrev pub asked_of : Inst → Facts
+asked_of inst = unwrap_or (facts_of inst) (only_regs (regs None None None None))
+
 abbrev pub result_in : Option (Writable Reg) → List Reg
 result_in None = []
 result_in (Some w) = w.reg ∷ []
@@ -402,6 +419,10 @@ sources_in r = source_in r.rs1 ++ (source_in r.rs2 ++ source_in r.rs3)
 abbrev pub all_in : InstRegs → List Reg
 all_in r = result_in r.rd ++ sources_in r
 
+-- and its temporary before them
+abbrev pub facts_registers : Facts → List Reg
+facts_registers f = result_in f.scratch ++ all_in f.regs
+
 abbrev pub recorded_in : Option Description → Recorded
 recorded_in None = Nothing
 recorded_in (Some (Word w)) = Nothing
@@ -410,19 +431,3 @@ recorded_in (Some (Gives g)) = g.records
 
 abbrev pub recorded_of : Inst → Recorded
 recorded_of inst = recorded_in (described inst)
-
-abbrev pub registers_by_facts : Option Facts → List Reg
-registers_by_facts None = []
-registers_by_facts (Some f) = all_in f.regs
-
-abbrev pub targets_by_facts : Option Facts → Targets
-targets_by_facts None = Nowhere
-targets_by_facts (Some f) = f.targets
-
-abbrev pub is_beyond_by : Option Facts → Bool
-is_beyond_by None = false
-is_beyond_by (Some f) = f.beyond
-
-abbrev pub is_mistyped_by : Option Facts → Bool
-is_mistyped_by None = false
-is_mistyped_by (Some f) = f.mistyped

@@ -1,5 +1,5 @@
 -- What a meaning is made of: what a line is read among, what it makes of the values, and how it is left.
-use Rattle.std.specs.Prelude.{ℕ, ◌+◌, ◌==◌, Bool, if◌then◌else◌, List, [], ℤ}
+use Rattle.std.specs.Prelude.{ℕ, zero, suc, ◌+◌, ◌-◌, ◌*◌, ◌^◌, ◌==◌, Bool, if◌then◌else◌, List, [], ◌∷◌, ℤ}
 use Rattle.rv_base.specs.declared.external_name.ExternalName.{ExternalName}
 use Rattle.rv_base.specs.declared.flags.IsaFlags.{IsaFlags}
 use Rattle.rv_base.specs.declared.frame.FrameLayout.{FrameLayout}
@@ -9,7 +9,7 @@ use Rattle.rv_base.specs.IrType.{bits_of}
 use Rattle.rv_base.specs.CondCodes.{holds}
 use Rattle.rv_base.specs.Regs.{number_of}
 use Rattle.rv_machine.specs.Arithmetic.{extend_word}
-use Rattle.rv_machine.specs.State.{Values, reg, wrap, low64}
+use Rattle.rv_machine.specs.State.{Values, reg, store, wrap, low64}
 use Rattle.rv_ops.specs.declared.compare.IntegerCompare.{IntegerCompare}
 
 -- the value of an inline constant: of 32 bits, its low word, sign-extended; else its low 64 bits
@@ -55,3 +55,22 @@ pub record Meaning : Type 0 where
 -- it is left so with these values, and writes no byte
 abbrev pub goes : Exit → Values → Meaning
 goes exit v = record { effect = v; writes = []; exit = exit }
+
+-- bytes go to an address
+abbrev pub put_bytes : Values → ℕ → List ℕ → Values
+put_bytes v a bytes = record { regs = v.regs; mem = store v.mem a bytes }
+
+-- a byte 0 goes to each of these addresses
+abbrev pub zero_bytes : Values → List ℕ → Values
+zero_bytes v [] = v
+zero_bytes v (a ∷ addresses) = zero_bytes (put_bytes v a (0 ∷ [])) addresses
+
+-- the addresses of the probes of a stack: so many guards below the stack pointer, from the farthest on down to two
+abbrev pub probes_from : ℕ → ℕ → ℕ → List ℕ
+probes_from sp guard zero = []
+probes_from sp guard (suc zero) = []
+probes_from sp guard (suc (suc k)) = wrap (sp + (2 ^ 64 - suc (suc k) * guard)) ∷ probes_from sp guard (suc k)
+
+-- a guard of no bytes has no probes
+abbrev pub probes_of : ℕ → ℕ → ℕ → List ℕ
+probes_of sp guard count = if guard == 0 then [] else probes_from sp guard count

@@ -2,10 +2,9 @@
 use Rattle.std.specs.Prelude.{Bool, false, List, Option, None, Some}
 use Rattle.rv_base.specs.declared.constant.Constant.{Constant}
 use Rattle.rv_inst.specs.Operands.{targets_of}
-use Rattle.rv_inst.specs.Rules.{Faults, facts_faults, faults_of, lacks_named, sequence_faults}
+use Rattle.rv_inst.specs.Rules.{Faults, faults_of, lacks_named, sequence_faults}
 use Rattle.rv_inst.specs.declared.inst.Inst.{Inst}
 use Rattle.rv_inst.specs.declared.sequence.Sequence.{Sequence}
-use Rattle.rv_inst.specs.declared.units.Facts.{Facts}
 
 abbrev pub is_misplaced : Inst → Bool
 is_misplaced inst = (faults_of inst).class
@@ -45,8 +44,3 @@ lacks_constant constants inst = lacks_named constants (targets_of inst)
 abbrev pub sequence_breaks : (Faults → Bool) → Option Sequence → Bool
 sequence_breaks rule None = false
 sequence_breaks rule (Some s) = rule (sequence_faults s)
-
--- whether x0 is the result that an instruction computes in steps, where its description gives it
-abbrev pub zero_by_facts : Option Facts → Bool
-zero_by_facts None = false
-zero_by_facts (Some f) = (facts_faults f).zeroed

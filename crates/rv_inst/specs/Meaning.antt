@@ -17,17 +17,17 @@ use Rattle.rv_encode.specs.Operations.{load_op, store_op}
 use Rattle.rv_inst.specs.Addresses.{Location, Based, AtLabel, AtConstant, location_of}
 use Rattle.rv_ops.specs.Memory.{is_float_load, is_float_store, store_size}
 use Rattle.rv_inst.specs.Bits.{computed}
-pub use Rattle.rv_inst.specs.Effects.{constant_of, Environment, Exit, Next, To, Leave, Break, Trap, Data, Meaning, compares, goes, symbol_at}
+pub use Rattle.rv_inst.specs.Effects.{constant_of, Environment, Exit, Next, To, Leave, Break, Trap, Data, Meaning, compares, goes, probes_from, probes_of, put_bytes, symbol_at, zero_bytes}
 use Rattle.rv_inst.specs.Operands.{all_of, written_in, Return, inst_temporaries, try_call_of, return_of}
 use Rattle.rv_inst.specs.Returns.{StackLoad, restores, frame_above}
 use Rattle.rv_inst.specs.Descriptions.{Description, UnitWord, Word, Computes, Gives, description_of}
 use Rattle.rv_inst.specs.declared.inst.Line.{Line}
 use Rattle.rv_inst.specs.declared.inst.Line.TheVariants.{Inst as Put, Bind}
 use Rattle.rv_inst.specs.declared.inst.Inst.{Inst}
-use Rattle.rv_inst.specs.declared.inst.Inst.TheVariants.{Nop0, Nop4, EBreak, SequencePoint, Args, Rets, DummyUse, Unwind, EmitIsland, RawData, Lui, AluRRR, AluRRImm12, Mov, MovFromPReg, Select, Load, Store, LoadAddr, Ret, Jal, CondBr, BrTable, Udf, Jalr, StackProbeLoop, Call, CallInd, ReturnCall, ReturnCallInd}
+use Rattle.rv_inst.specs.declared.inst.Inst.TheVariants.{Nop0, Nop4, EBreak, SequencePoint, Args, Rets, DummyUse, Unwind, EmitIsland, RawData, Lui, AluRRR, AluRRImm12, Mov, MovFromPReg, Select, Load, Store, LoadAddr, Ret, Jal, CondBr, BrTable, Udf, Jalr, Call, CallInd, ReturnCall, ReturnCallInd}
 use Rattle.rv_inst.specs.declared.inst.CondBrTarget.{CondBrTarget}
 use Rattle.rv_inst.specs.declared.inst.CondBrTarget.TheVariants.{Label, Fallthrough}
-use Rattle.rv_machine.specs.State.{Values, reg, set_reg, store, wrap, low64}
+use Rattle.rv_machine.specs.State.{Values, reg, set_reg, wrap, low64}
 use Rattle.rv_machine.specs.Memory.{load_result, store_bytes}
 use Rattle.rv_machine.specs.Arithmetic.{low_word}
 use Rattle.rv_machine.specs.Effects.{alu_result}
@@ -56,25 +56,6 @@ address_of env mode v = address_at env v (location_of env.frame mode)
 abbrev pub addresses_from : ℕ → ℕ → List ℕ
 addresses_from a zero = []
 addresses_from a (suc n) = a ∷ addresses_from (wrap (a + 1)) n
-
--- bytes go to an address
-abbrev pub put_bytes : Values → ℕ → List ℕ → Values
-put_bytes v a bytes = record { regs = v.regs; mem = store v.mem a bytes }
-
--- a byte 0 goes to each of these addresses
-abbrev pub zero_bytes : Values → List ℕ → Values
-zero_bytes v [] = v
-zero_bytes v (a ∷ addresses) = zero_bytes (put_bytes v a (0 ∷ [])) addresses
-
--- the addresses of the probes of a stack: so many guards below the stack pointer, from the farthest on down to two
-abbrev pub probes_from : ℕ → ℕ → ℕ → List ℕ
-probes_from sp guard zero = []
-probes_from sp guard (suc zero) = []
-probes_from sp guard (suc (suc k)) = wrap (sp + (2 ^ 64 - suc (suc k) * guard)) ∷ probes_from sp guard (suc k)
-
--- a guard of no bytes has no probes
-abbrev pub probes_of : ℕ → ℕ → ℕ → List ℕ
-probes_of sp guard count = if guard == 0 then [] else probes_from sp guard count
 
 -- registers, by their numbers, get values, each its own
 abbrev pub set_regs : Values → List ℕ → List ℕ → Values
@@ -155,7 +136,6 @@ inst_meaning env (CondBr taken not_taken kind) v = goes (if compares kind v then
 inst_meaning env (BrTable index tmp1 tmp2 targets) v = goes (table_exit targets (low_word (reg v (number_of index)))) v
 inst_meaning env (Udf code) v = goes (Trap code) v
 inst_meaning env (Jalr rd base offset) v = goes (Leave (wrap (reg v (number_of base) + low64 offset.value) / 2 * 2)) (set_reg v (number_of rd.reg) env.after)
-inst_meaning env (StackProbeLoop guard_size probe_count tmp) v = record (goes Next (zero_bytes v (probes_of (reg v 2) (low_word guard_size) (low_word probe_count)))) { writes = probes_of (reg v 2) (low_word guard_size) (low_word probe_count) }
 inst_meaning env (Call info) v = goes (Leave (symbol_at env info.dest (pos 0) / 2 * 2)) (linked env.start (return_of env.flags (Call info)) v)
 inst_meaning env (CallInd info) v = goes (Leave (reg v (number_of info.dest) / 2 * 2)) (linked env.start (return_of env.flags (CallInd info)) v)
 inst_meaning env (ReturnCall info) v = goes (Leave (symbol_at env info.dest (pos 0) / 2 * 2)) (frame_left env.frame info.new_stack_arg_size v)

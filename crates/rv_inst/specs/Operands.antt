@@ -35,8 +35,8 @@ use Rattle.rv_inst.specs.declared.inst.Line.TheVariants.{Inst as Put, Bind}
 use Rattle.rv_inst.specs.declared.inst.Family.{Family}
 use Rattle.rv_inst.specs.declared.inst.Family.TheVariants.{Pseudo, Integer, Memory, Control, Loop, Calls}
 use Rattle.rv_inst.specs.declared.inst.Inst.{Inst}
-use Rattle.rv_inst.specs.declared.inst.Inst.TheVariants.{Nop0, Nop4, EBreak, SequencePoint, Args, Rets, DummyUse, Unwind, EmitIsland, RawData, Lui, AluRRR, AluRRImm12, Mov, MovFromPReg, Select, Load, Store, LoadAddr, Ret, Jal, CondBr, BrTable, Udf, Jalr, StackProbeLoop, Call, CallInd, ReturnCall, ReturnCallInd}
-use Rattle.rv_inst.specs.Descriptions.{Description, Word, Computes, Gives, all_in, description_of, registers_in, sequence_registers, temporaries_in}
+use Rattle.rv_inst.specs.declared.inst.Inst.TheVariants.{Nop0, Nop4, EBreak, SequencePoint, Args, Rets, DummyUse, Unwind, EmitIsland, RawData, Lui, AluRRR, AluRRImm12, Mov, MovFromPReg, Select, Load, Store, LoadAddr, Ret, Jal, CondBr, BrTable, Udf, Jalr, Call, CallInd, ReturnCall, ReturnCallInd}
+use Rattle.rv_inst.specs.Descriptions.{Description, Word, Computes, Gives, description_of, facts_registers, registers_in, result_in, sequence_registers, temporaries_in}
 use Rattle.rv_inst.specs.declared.tail_calls.TailCall.{TailCall}
 use Rattle.rv_inst.specs.declared.targets.Targets.{Targets}
 use Rattle.rv_inst.specs.declared.targets.Targets.TheVariants.{Nowhere, Jumps, Branches, Refers, RefersConstant}
@@ -139,7 +139,7 @@ only family registers = record { family = family; registers = registers; targets
 abbrev pub described_operands : Description → Operands
 described_operands (Word w) = only w.family (registers_in w.places)
 described_operands (Computes s with) = record (only Loop (sequence_registers s)) { temporaries = map number_of (temporaries_in s) }
-described_operands (Gives g) = record (only g.family (all_in g.facts.regs)) { targets = g.facts.targets }
+described_operands (Gives g) = record (only g.family (facts_registers g.facts)) { targets = g.facts.targets; temporaries = map number_of (result_in g.facts.scratch) }
 
 -- a call returns after an auipc and a jalr, or after a jalr alone
 abbrev pub operands_of : Inst → Operands
@@ -168,7 +168,6 @@ operands_of (CondBr taken not_taken kind) = record (only Control (kind.rs1 ∷ k
 operands_of (BrTable index tmp1 tmp2 targets) = record (only Control (index ∷ tmp1.reg ∷ tmp2.reg ∷ [])) { table = targets; temporaries = number_of tmp1.reg ∷ number_of tmp2.reg ∷ [] }
 operands_of (Udf code) = only Control []
 operands_of (Jalr rd base offset) = only Control (rd.reg ∷ base ∷ [])
-operands_of (StackProbeLoop guard_size probe_count tmp) = record (only Loop (tmp.reg ∷ [])) { temporaries = number_of tmp.reg ∷ [] }
 operands_of (Call info) = record (only Calls (use_registers info.uses ++ def_registers info.defs)) { floats = loads_float (loads_unless info.patchable info.defs); results = info.defs; try_call = info.try_call_info; returns = λ flags. returns_at 8 info.callee_pop_size (loads_unless info.patchable info.defs) }
 operands_of (CallInd info) = record (only Calls (info.dest ∷ use_registers info.uses ++ def_registers info.defs)) { floats = loads_float (result_loads info.defs); results = info.defs; try_call = info.try_call_info; returns = λ flags. returns_at (short_jalr flags 1 (number_of info.dest) (pos 0)).len info.callee_pop_size (result_loads info.defs) }
 operands_of (ReturnCall info) = record (only Calls (use_registers info.uses)) { tail_call = Some (record { stack_arg_size = info.new_stack_arg_size; by_register = false }) }

@@ -29,7 +29,7 @@ use Rattle.rv_ops.specs.Operations.{immediate_of, shift_limit}
 use Rattle.rv_inst.specs.declared.inst.Line.{Line}
 use Rattle.rv_inst.specs.declared.inst.Line.TheVariants.{Inst as Put, Bind}
 use Rattle.rv_inst.specs.declared.inst.Inst.{Inst}
-use Rattle.rv_inst.specs.declared.inst.Inst.TheVariants.{Nop0, Nop4, EBreak, SequencePoint, Args, Rets, DummyUse, Unwind, EmitIsland, RawData, Lui, AluRRR, AluRRImm12, Mov, MovFromPReg, Select, Load, Store, LoadAddr, Ret, Jal, CondBr, BrTable, Udf, Jalr, StackProbeLoop, Call, CallInd, ReturnCall, ReturnCallInd}
+use Rattle.rv_inst.specs.declared.inst.Inst.TheVariants.{Nop0, Nop4, EBreak, SequencePoint, Args, Rets, DummyUse, Unwind, EmitIsland, RawData, Lui, AluRRR, AluRRImm12, Mov, MovFromPReg, Select, Load, Store, LoadAddr, Ret, Jal, CondBr, BrTable, Udf, Jalr, Call, CallInd, ReturnCall, ReturnCallInd}
 use Rattle.rv_inst.specs.declared.inst.CondBrTarget.{CondBrTarget}
 use Rattle.rv_inst.specs.declared.inst.CondBrTarget.TheVariants.{Label as ToLabel, Fallthrough}
 use Rattle.rv_inst.specs.declared.error.Rule.{Rule}
@@ -39,7 +39,7 @@ use Rattle.rv_inst.specs.Context.{Context}
 use Rattle.rv_inst.specs.Operands.{all_of, written_in, result_registers, inst_registers, inst_labels, tail_call_of, targets_of}
 use Rattle.rv_inst.specs.Returns.{result_load}
 pub use Rattle.rv_inst.specs.Classes.{is_int_class, is_vector_class, same_class, class_for, has_class, is_int_type, is_word_type}
-use Rattle.rv_inst.specs.Descriptions.{Description, UnitWord, Word, Computes, Gives, all_in, changed_by, description_of, result_in, sequence_registers}
+use Rattle.rv_inst.specs.Descriptions.{Description, UnitWord, Word, Computes, Gives, changed_by, description_of, facts_registers, result_in, sequence_registers}
 use Rattle.rv_inst.specs.declared.sequence.Sequence.{Sequence}
 use Rattle.rv_inst.specs.declared.units.Facts.{Facts}
 use Rattle.rv_inst.specs.declared.units.PlacedReg.{PlacedReg}
@@ -256,9 +256,15 @@ sequence_faults s = record (has_other_class (list_any is_other_class (sequence_r
 abbrev pub unit_faults : UnitWord → Faults
 unit_faults w = record (has_other_class (list_any is_out_of_place w.places)) { rounding = not w.rounding; width = not w.width }
 
--- of one whose description gives it: its registers are integer ones, and a result that is computed in steps isn't x0
+-- of one whose description gives it: its registers are integer ones; a result that is computed in steps isn't x0, nor is a temporary, which
+-- isn't sp either
 abbrev pub facts_faults : Facts → Faults
-facts_faults f = record (has_other_class (list_any is_other_class (all_in f.regs))) { zeroed = f.in_steps && list_any is_zero (result_in f.regs.rd); type = f.mistyped; range = f.beyond }
+facts_faults f = record (has_other_class (list_any is_other_class (facts_registers f))) {
+  zeroed = list_any is_zero (result_in f.scratch) || (f.in_steps && list_any is_zero (result_in f.regs.rd));
+  clashing = list_any is_stack (result_in f.scratch);
+  type = f.mistyped;
+  range = f.beyond;
+}
 
 abbrev pub described_faults : Description → Faults
 described_faults (Word w) = unit_faults w
@@ -299,7 +305,6 @@ faults_of (BrTable index tmp1 tmp2 targets) = record (has_other_class (list_any 
 }
 faults_of (Udf code) = has_other_class false
 faults_of (Jalr rd base offset) = has_other_class (list_any is_other_class (rd.reg ∷ base ∷ []))
-faults_of (StackProbeLoop guard_size probe_count tmp) = record (has_other_class (list_any is_other_class (tmp.reg ∷ []))) { zeroed = list_any is_zero (tmp.reg ∷ []); clashing = is_stack tmp.reg }
 faults_of (Call info) = record (has_other_class (call_differs info.uses info.defs)) { clashing = results_clash info.defs; type = list_any is_unloadable info.defs; range = nat_le (2 ^ 31) info.callee_pop_size || list_any is_high info.defs }
 faults_of (CallInd info) = record (has_other_class (is_other_class info.dest || call_differs info.uses info.defs)) { clashing = results_clash info.defs; type = list_any is_unloadable info.defs; range = nat_le (2 ^ 31) info.callee_pop_size || list_any is_high info.defs }
 faults_of (ReturnCall info) = has_other_class (list_any (λ (p : CallArgPair). differ_in_class p.vreg p.preg) info.uses)

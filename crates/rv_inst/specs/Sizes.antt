@@ -28,7 +28,7 @@ use Rattle.rv_inst.specs.Context.{Context}
 use Rattle.rv_inst.specs.Forms.{short_rrr, short_rri, short_lui, short_jalr, short_ebreak, short_load, short_store, jump_size}
 pub use Rattle.rv_inst.specs.InstCode.{Size, Exactly, AtMost, IsOfSize, most_of, Request, InstCode, words, one_word, trap_size, is_byte, extend_operation}
 use Rattle.rv_inst.specs.Halves.{load_line_own_size, store_line_own_size, is_moved_first}
-use Rattle.rv_inst.specs.Limits.{address_limit, load_limit, store_limit, number_limit, step_limit, call_limit, return_limit, table_space}
+use Rattle.rv_inst.specs.Limits.{address_limit, load_limit, store_limit, step_limit, call_limit, return_limit, table_space}
 use Rattle.rv_inst.specs.Operands.{results_of}
 use Rattle.rv_inst.specs.Records.{noted, access_records, patch_records, recorded, return_records}
 use Rattle.rv_inst.specs.Returns.{StackLoad, result_loads, loads_unless}
@@ -37,7 +37,7 @@ use Rattle.rv_inst.specs.Descriptions.{Description, UnitWord, Word, Computes, Gi
 use Rattle.rv_inst.specs.declared.inst.Line.{Line}
 use Rattle.rv_inst.specs.declared.inst.Line.TheVariants.{Inst as Put, Bind}
 use Rattle.rv_inst.specs.declared.inst.Inst.{Inst}
-use Rattle.rv_inst.specs.declared.inst.Inst.TheVariants.{Nop0, Nop4, EBreak, SequencePoint, Args, Rets, DummyUse, Unwind, EmitIsland, RawData, Lui, AluRRR, AluRRImm12, Mov, MovFromPReg, Select, Load, Store, LoadAddr, Ret, Jal, CondBr, BrTable, Udf, Jalr, StackProbeLoop, Call, CallInd, ReturnCall, ReturnCallInd}
+use Rattle.rv_inst.specs.declared.inst.Inst.TheVariants.{Nop0, Nop4, EBreak, SequencePoint, Args, Rets, DummyUse, Unwind, EmitIsland, RawData, Lui, AluRRR, AluRRImm12, Mov, MovFromPReg, Select, Load, Store, LoadAddr, Ret, Jal, CondBr, BrTable, Udf, Jalr, Call, CallInd, ReturnCall, ReturnCallInd}
 use Rattle.rv_inst.specs.declared.inst.CondBrTarget.{CondBrTarget}
 use Rattle.rv_inst.specs.declared.inst.CondBrTarget.TheVariants.{Label, Fallthrough}
 
@@ -159,7 +159,6 @@ inst_code context (CondBr taken not_taken kind) = words (Exactly (branch_size co
 inst_code context (BrTable index tmp1 tmp2 targets) = after_island (table_space (length targets)) (λ rest. table_space (length targets)) (8 * length targets)
 inst_code context (Udf code) = record (words (Exactly (trap_size context.flags))) { records = λ start end. noted start (event.Trap code) }
 inst_code context (Jalr rd base offset) = one_word (short_jalr context.flags (number_of rd.reg) (number_of base) offset.value)
-inst_code context (StackProbeLoop guard_size probe_count tmp) = words (AtMost (number_limit + number_limit + 4 * 5))
 inst_code context (Call info) = record (words (AtMost (call_limit 8 (loads_unless info.patchable info.defs)))) { records = λ start end. noted start (event.Reloc RiscvCallPlt (ToName info.dest) (pos 0)) ++ return_records context.frame (start + 8) info.stack_map info.try_call_info ++ patch_records info.patchable (call_end context.flags info.try_call_info end) (call_end context.flags info.try_call_info end - start); request = call_request 8 (loads_unless info.patchable info.defs) }
 inst_code context (CallInd info) = record (words (AtMost (call_limit 4 (result_loads info.defs)))) { records = λ start end. return_records context.frame (start + (short_jalr context.flags 1 (number_of info.dest) (pos 0)).len) info.stack_map info.try_call_info; request = call_request 4 (result_loads info.defs) }
 inst_code context (ReturnCall info) = record (after_island (return_limit context.frame + 8) (λ rest. rest) (32 * length context.frame.clobbered_callee_saves)) { records = λ start end. noted (end - 8) event.CallSite ++ noted (end - 8) (event.Reloc RiscvCallPlt (ToName info.dest) (pos 0)) }

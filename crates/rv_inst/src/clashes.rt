@@ -10,7 +10,7 @@ use crate::inst::{Family, Inst};
 use crate::registers::is_real_x;
 use crate::results::results_clash;
 use crate::sequence::{sequence_has_clash, sequence_has_zero};
-use crate::units::facts_have_zero;
+use crate::units::{facts_have_clash, facts_have_zero};
 use rv_base::{Reg, RegClass, ValueRegs, WritableReg};
 use rv_ops::IntegerCompare;
 
@@ -159,11 +159,6 @@ pub fn has_zero(inst: &Inst) -> bool
             tmp2,
             targets: _,
         } => any_is_zero(&[tmp1.reg, tmp2.reg]),
-        Inst::StackProbeLoop {
-            guard_size: _,
-            probe_count: _,
-            tmp,
-        } => any_is_zero(&[tmp.reg]),
         _ => match inst.family() {
             Family::Loop => sequence_has_zero(inst),
             Family::Integer | Family::Memory | Family::Control | Family::Symbols => facts_have_zero(
@@ -175,7 +170,8 @@ pub fn has_zero(inst: &Inst) -> bool
 }
 
 /// Returns whether a register that is written before all inputs are read is an input, or another such register; or a result on the
-/// stack is loaded into the stack pointer, or into a register of another result.
+/// stack is loaded into the stack pointer, or into a register of another result; or a temporary that no allocator chooses is the stack
+/// pointer.
 pub fn has_clash(inst: &Inst) -> bool
     ensures { result ≡ has_clash inst.now }
 {
@@ -192,15 +188,12 @@ pub fn has_clash(inst: &Inst) -> bool
             tmp2,
             targets: _,
         } => two_clash(tmp1.reg, tmp2.reg, *index),
-        Inst::StackProbeLoop {
-            guard_size: _,
-            probe_count: _,
-            tmp,
-        } => is_stack(tmp.reg),
         Inst::Call { info } => results_clash(info.as_ref().defs.as_slice()),
         Inst::CallInd { info } => results_clash(info.as_ref().defs.as_slice()),
         _ => match inst.family() {
             Family::Loop => sequence_has_clash(inst),
+            Family::Integer | Family::Memory | Family::Control | Family::Symbols =>
+                facts_have_clash(inst),
             _ => false,
         },
     }

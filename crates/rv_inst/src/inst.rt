@@ -390,7 +390,7 @@ pub enum Family {
     Memory,
     /// Those that go elsewhere.
     Control,
-    /// Those that compute by a loop of their own, and go on.
+    /// Those that compute an integer register by a loop of their own, and go on.
     Loop,
     /// Those that depend on a symbol outside the code.
     Symbols,
@@ -429,7 +429,8 @@ impl Inst {
             Inst::Load { .. }
             | Inst::Store { .. }
             | Inst::LoadAddr { .. }
-            | Inst::LabelAddress { .. } => Family::Memory,
+            | Inst::LabelAddress { .. }
+            | Inst::StackProbeLoop { .. } => Family::Memory,
             Inst::Ret
             | Inst::TrapIf { .. }
             | Inst::Jal { label: _ }
@@ -437,10 +438,7 @@ impl Inst {
             | Inst::BrTable { .. }
             | Inst::Udf { trap_code: _ }
             | Inst::Jalr { .. } => Family::Control,
-            Inst::Popcnt { info: _ }
-            | Inst::Cltz { .. }
-            | Inst::Brev8 { info: _ }
-            | Inst::StackProbeLoop { .. } => Family::Loop,
+            Inst::Popcnt { info: _ } | Inst::Cltz { .. } | Inst::Brev8 { info: _ } => Family::Loop,
             Inst::LoadExtNameGot { .. }
             | Inst::LoadExtNameNear { .. }
             | Inst::LoadExtNameFar { .. } => Family::Symbols,

@@ -324,14 +324,7 @@ pub fn control_has(test: RegisterTest, inst: &Inst) -> bool
 pub fn loop_has(test: RegisterTest, inst: &Inst) -> bool
     ensures { family_of inst.now ≡ Loop → result ≡ list_any (test_of test) (inst_registers inst.now) }
 {
-    match inst {
-        Inst::StackProbeLoop {
-            guard_size: _,
-            probe_count: _,
-            tmp,
-        } => any_of(test, &[tmp.reg]),
-        _ => sequence_has(test, inst),
-    }
+    sequence_has(test, inst)
 }
 
 /// Returns whether the test holds of a register of an instruction that depends on a symbol.

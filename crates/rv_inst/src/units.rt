@@ -5,14 +5,14 @@ ghost use Rattle.std.specs.Prelude.{◌≡◌, IfSome, None, Some};
 ghost use Rattle.std.specs.List.{list_any};
 ghost use Rattle.rv_base.specs.declared.flags.IsaFlags.{IsaFlags};
 ghost use Rattle.rv_machine.specs.Decode.{decode};
-ghost use Rattle.rv_inst.specs.Faults.{has_bad_rounding, has_bad_width, is_misplaced, zero_by_facts};
+ghost use Rattle.rv_inst.specs.Faults.{has_bad_rounding, has_bad_width, is_misplaced};
 ghost use Rattle.rv_inst.specs.Operands.{family_of, inst_registers};
 ghost use Rattle.rv_inst.specs.RegisterTests.{test_of, place_test};
 ghost use Rattle.rv_inst.specs.Rules.{facts_faults, is_not_of, is_zero};
-ghost use Rattle.rv_inst.specs.Descriptions.{IsFineUnit, UnitWord, all_in, all_replaced, conversion_trap, described_regs, facts_of, is_beyond_by, is_mistyped_by, only_regs, place, places_in, registers_by_facts, registers_in, regs, result_in, source_in, stepwise, targets_by_facts, trap_in, unit_word, with_registers};
+ghost use Rattle.rv_inst.specs.Descriptions.{IsFineUnit, UnitWord, all_in, all_replaced, asked_of, conversion_trap, described_regs, facts_of, facts_registers, only_regs, place, places_in, registers_in, regs, result_in, source_in, stepwise, trap_in, unit_word, with_registers};
 ghost use Rattle.rv_inst.specs.declared.inst.Family.TheVariants.{Float};
 
-use crate::clashes::{any_is_zero, same_class};
+use crate::clashes::{any_is_zero, is_stack, same_class};
 use crate::inst::Inst;
 use crate::ranges::is_word_type;
 use crate::registers::{RegisterTest, any_of, holds};
@@ -43,6 +43,8 @@ pub struct InstRegs {
 #[derive(Clone, Copy)]
 pub struct Facts {
     pub regs: InstRegs,
+    /// A temporary that its maker chooses, and no register allocator, where it has one: neither x0 nor sp.
+    pub scratch: Option<WritableReg>,
     /// Whether its result is computed in steps, and so isn't x0.
     pub in_steps: bool,
     /// Whether it has a type that it doesn't take.
@@ -51,7 +53,7 @@ pub struct Facts {
     pub beyond: bool,
     /// The label whose address it takes, where it takes one.
     pub targets: Targets,
-    /// Whether its code jumps, over a constant that stands among it.
+    /// Whether its code jumps: over a constant that stands among it, or back.
     pub jumps: bool,
 }
 
@@ -223,67 +225,77 @@ impl InstRegs {
 }
 
 impl Facts {
-    /// Returns whether x0 is a result that is computed in steps.
+    /// Returns whether the test holds of a register of the instruction.
+    fn has_register(&self, test: RegisterTest) -> bool
+        ensures { result ≡ list_any (test_of test) (facts_registers self.now) }
+    {
+        result_has(test, self.scratch) || self.regs.has_register(test)
+    }
+
+    /// Returns whether x0 is its temporary, or a result that is computed in steps.
     fn has_zero(&self) -> bool
         ensures { result ≡ (facts_faults self.now).zeroed }
     {
-        self.in_steps && result_is_zero(self.regs.rd)
+        result_is_zero(self.scratch) || (self.in_steps && result_is_zero(self.regs.rd))
+    }
+
+    /// Returns whether its temporary is the stack pointer.
+    fn has_clash(&self) -> bool
+        ensures { result ≡ (facts_faults self.now).clashing }
+    {
+        match self.scratch {
+            Some(scratch) => is_stack(scratch.reg),
+            None => false,
+        }
     }
 }
 
 /// Returns whether the test holds of a register of an instruction whose description gives its registers; of any other it holds of none.
 #[inline(never)]
 pub fn facts_have(test: RegisterTest, inst: &Inst) -> bool
-    ensures { result ≡ list_any (test_of test) (registers_by_facts (facts_of inst.now)) }
+    ensures { result ≡ list_any (test_of test) (facts_registers (asked_of inst.now)) }
 {
-    match inst.facts() {
-        Some(facts) => facts.regs.has_register(test),
-        None => false,
-    }
+    inst.asked().has_register(test)
 }
 
-/// Returns whether x0 is a result that such an instruction computes in steps.
+/// Returns whether x0 is a result that such an instruction computes in steps, or its temporary.
 #[inline(never)]
 pub fn facts_have_zero(inst: &Inst) -> bool
-    ensures { result ≡ zero_by_facts (facts_of inst.now) }
+    ensures { result ≡ (facts_faults (asked_of inst.now)).zeroed }
 {
-    match inst.facts() {
-        Some(facts) => facts.has_zero(),
-        None => false,
-    }
+    inst.asked().has_zero()
+}
+
+/// Returns whether the temporary of such an instruction is the stack pointer.
+#[inline(never)]
+pub fn facts_have_clash(inst: &Inst) -> bool
+    ensures { result ≡ (facts_faults (asked_of inst.now)).clashing }
+{
+    inst.asked().has_clash()
 }
 
 /// Returns whether such an instruction has a type that it doesn't take.
 #[inline(never)]
 pub fn facts_are_mistyped(inst: &Inst) -> bool
-    ensures { result ≡ is_mistyped_by (facts_of inst.now) }
+    ensures { result ≡ (asked_of inst.now).mistyped }
 {
-    match inst.facts() {
-        Some(facts) => facts.mistyped,
-        None => false,
-    }
+    inst.asked().mistyped
 }
 
 /// Returns whether such an instruction has a number that is out of its range.
 #[inline(never)]
 pub fn facts_are_beyond(inst: &Inst) -> bool
-    ensures { result ≡ is_beyond_by (facts_of inst.now) }
+    ensures { result ≡ (asked_of inst.now).beyond }
 {
-    match inst.facts() {
-        Some(facts) => facts.beyond,
-        None => false,
-    }
+    inst.asked().beyond
 }
 
 /// The label that such an instruction names, by what it does with it.
 #[inline(never)]
 pub fn facts_targets(inst: &Inst) -> Targets
-    ensures { result ≡ targets_by_facts (facts_of inst.now) }
+    ensures { result ≡ (asked_of inst.now).targets }
 {
-    match inst.facts() {
-        Some(facts) => facts.targets,
-        None => Targets::Nowhere,
-    }
+    inst.asked().targets
 }
 
 impl Inst {
@@ -315,6 +327,11 @@ impl Inst {
             Inst::TrapIf { cmp, .. } => {
                 Some(only_regs(regs(None, Some(cmp.rs1), Some(cmp.rs2), None)))
             }
+            Inst::StackProbeLoop { tmp, .. } => Some(Facts {
+                scratch: Some(*tmp),
+                jumps: true,
+                ..only_regs(regs(None, None, None, None))
+            }),
             Inst::LoadExtNameGot { rd, .. } => Some(stepwise(*rd)),
             Inst::LoadExtNameNear { rd, .. } => Some(stepwise(*rd)),
             Inst::LoadExtNameFar { rd, .. } => Some(Facts {
@@ -322,6 +339,17 @@ impl Inst {
                 ..stepwise(*rd)
             }),
             _ => None,
+        }
+    }
+
+    /// What is asked of such an instruction; of any other nothing is asked here.
+    #[inline(always)]
+    pub fn asked(&self) -> Facts
+        ensures { result ≡ asked_of self.now }
+    {
+        match self.facts() {
+            Some(facts) => facts,
+            None => only_regs(regs(None, None, None, None)),
         }
     }
 
@@ -533,6 +561,7 @@ fn only_regs(regs: InstRegs) -> Facts
 {
     Facts {
         regs,
+        scratch: None,
         in_steps: false,
         mistyped: false,
         beyond: false,

@@ -20,15 +20,15 @@ use Rattle.rv_base.specs.declared.value_regs.ValueRegs.TheVariants.{One, Two}
 use Rattle.rv_base.specs.AMode.{registers_of}
 use Rattle.rv_ops.specs.declared.compare.IntegerCompare.{IntegerCompare}
 use Rattle.rv_inst.specs.declared.inst.Inst.{Inst}
-use Rattle.rv_inst.specs.declared.inst.Inst.TheVariants.{Nop0, Nop4, EBreak, SequencePoint, Args, Rets, DummyUse, Unwind, EmitIsland, RawData, Lui, AluRRR, AluRRImm12, Mov, MovFromPReg, Select, Load, Store, LoadAddr, Ret, Jal, CondBr, BrTable, Udf, Jalr, StackProbeLoop, Call, CallInd, ReturnCall, ReturnCallInd}
+use Rattle.rv_inst.specs.declared.inst.Inst.TheVariants.{Nop0, Nop4, EBreak, SequencePoint, Args, Rets, DummyUse, Unwind, EmitIsland, RawData, Lui, AluRRR, AluRRImm12, Mov, MovFromPReg, Select, Load, Store, LoadAddr, Ret, Jal, CondBr, BrTable, Udf, Jalr, Call, CallInd, ReturnCall, ReturnCallInd}
 use Rattle.rv_inst.specs.Operands.{all_of, written_in, location_registers, arg_registers, ret_registers, use_registers, def_registers, inst_registers}
 use Rattle.rv_inst.specs.Rules.{is_virtual, is_reserved}
-use Rattle.rv_inst.specs.Descriptions.{Description, Word, Computes, Gives, description_of, registers_in, result_in, sources_in, third}
+use Rattle.rv_inst.specs.Descriptions.{Description, Word, Computes, Gives, all_in, description_of, registers_in, result_in, sources_in, third}
 use Rattle.rv_inst.specs.Operands as described
 use Rattle.rv_inst.specs.declared.sequence.Sequence.{Sequence}
 use Rattle.rv_inst.specs.declared.units.PlacedReg.{PlacedReg}
 use Rattle.rv_operands.specs.Operand.{Operand, reads, reads_at, scratches, writes, writes_at, writes_early, constraint_of}
-use Rattle.rv_operands.specs.Operands.{address_operands, select_operands, arg_operand, ret_operand, use_operand, def_operand, located_operand, described_operands, result_operand, third_operand, unit_operands, row_of, operands_of, constraints_of}
+use Rattle.rv_operands.specs.Operands.{address_operands, select_operands, arg_operand, ret_operand, use_operand, def_operand, located_operand, described_operands, result_operand, own_operands, scratch_operand, unit_operands, row_of, operands_of, constraints_of}
 use Rattle.rv_operands.specs.Meeting.{chosen, IsPlaced, ArePlaced, AreUsable}
 use Rattle.rv_operands.proofs.Keeping.{either, placed_before, results_placed}
 
@@ -129,7 +129,7 @@ unit_clear test (result ∷ sources) c =
 
 -- ---- sequences
 
-third_clear : (test : Reg → Bool) (s : Sequence) (tmp3 : Option (Writable Reg)) → AreClear test (chosen (reads s.rs ∷ scratches s.tmp1 ∷ scratches s.tmp2 ∷ third_operand tmp3 ++ writes_early s.rd ∷ [])) → list_any test (s.rs ∷ s.tmp1.reg ∷ s.tmp2.reg ∷ third tmp3 ++ s.rd.reg ∷ []) ≡ false
+third_clear : (test : Reg → Bool) (s : Sequence) (tmp3 : Option (Writable Reg)) → AreClear test (chosen (reads s.rs ∷ scratches s.tmp1 ∷ scratches s.tmp2 ∷ scratch_operand tmp3 ++ writes_early s.rd ∷ [])) → list_any test (s.rs ∷ s.tmp1.reg ∷ s.tmp2.reg ∷ third tmp3 ++ s.rd.reg ∷ []) ≡ false
 third_clear test s None c = either c.0 (either c.1.0 (either c.1.1.0 (either c.1.1.1.0 refl)))
 third_clear test s (Some w) c = either c.0 (either c.1.0 (either c.1.1.0 (either c.1.1.1.0 (either c.1.1.1.1.0 refl))))
 
@@ -143,12 +143,16 @@ regs_clear : (test : Reg → Bool) (rd : Option (Writable Reg)) (sources : List 
 regs_clear test None sources c = reads_clear test sources (clear_both test (map reads sources) [] c).0
 regs_clear test (Some w) sources c = let parts = clear_both test (map reads sources) (writes w ∷ []) c in either parts.1.0 (reads_clear test sources parts.0)
 
+scratch_clear : (test : Reg → Bool) (scratch : Option (Writable Reg)) (others : List Reg) → AreClear test (chosen (scratch_operand scratch)) → list_any test others ≡ false → list_any test (result_in scratch ++ others) ≡ false
+scratch_clear test None others own clear = clear
+scratch_clear test (Some w) others own clear = either own.0 clear
+
 -- ---- each by its description
 
-described_clear : (test : Reg → Bool) (d : Description) → AreClear test (chosen (described_operands d)) → list_any test (described.described_operands d).registers ≡ false
-described_clear test (Word w) c = unit_clear test w.places c
-described_clear test (Computes s with) c = third_clear test s s.tmp3 c
-described_clear test (Gives g) c = regs_clear test g.facts.regs.rd (sources_in g.facts.regs) c
+described_clear : (test : Reg → Bool) (d : Description) → AreClear test (chosen (described_operands d)) → AreClear test (chosen (own_operands d)) → list_any test (described.described_operands d).registers ≡ false
+described_clear test (Word w) c own = unit_clear test w.places c
+described_clear test (Computes s with) c own = third_clear test s s.tmp3 c
+described_clear test (Gives g) c own = scratch_clear test g.facts.scratch (all_in g.facts.regs) own (regs_clear test g.facts.regs.rd (sources_in g.facts.regs) c)
 
 -- ---- every kind
 
@@ -178,9 +182,8 @@ quiet test (CondBr taken not_taken kind) placed c own = either c.0 (either c.1.0
 quiet test (BrTable index tmp1 tmp2 targets) placed c own = either c.0 (either c.1.0 (either c.1.1.0 refl))
 quiet test (Udf code) placed c own = refl
 quiet test (Jalr rd base offset) placed c own = either c.1.0 (either c.0 refl)
-quiet test (StackProbeLoop guard_size probe_count tmp) placed c own = either own.0 refl
 quiet test (Call info) placed c own = call_clear test _ info.uses info.defs _ placed c
 quiet test (CallInd info) placed c own = either c.0 (call_clear test _ info.uses info.defs _ placed.1 c.1)
 quiet test (ReturnCall info) placed c own = uses_clear test _ info.uses (placed_before _ (map constraint_of (map use_operand info.uses)) [] placed) c
 quiet test (ReturnCallInd info) placed c own = either c.0 (uses_clear test _ info.uses (placed_before _ (map constraint_of (map use_operand info.uses)) [] placed.1) c.1)
-quiet test inst placed c own = described_clear test (description_of inst refl) c
+quiet test inst placed c own = described_clear test (description_of inst refl) c own

@@ -22,15 +22,15 @@ use Rattle.rv_ops.specs.declared.memory.StoreOP.{StoreOP}
 use Rattle.rv_ops.specs.Memory.{load_class, store_class}
 use Rattle.rv_inst.specs.declared.inst.SelectInfo.{SelectInfo}
 use Rattle.rv_inst.specs.declared.inst.Inst.{Inst}
-use Rattle.rv_inst.specs.declared.inst.Inst.TheVariants.{Nop0, Nop4, EBreak, SequencePoint, Args, Rets, DummyUse, Unwind, EmitIsland, RawData, Lui, AluRRR, AluRRImm12, Mov, MovFromPReg, Select, Load, Store, LoadAddr, Ret, Jal, CondBr, BrTable, Udf, Jalr, StackProbeLoop, Call, CallInd, ReturnCall, ReturnCallInd}
+use Rattle.rv_inst.specs.declared.inst.Inst.TheVariants.{Nop0, Nop4, EBreak, SequencePoint, Args, Rets, DummyUse, Unwind, EmitIsland, RawData, Lui, AluRRR, AluRRImm12, Mov, MovFromPReg, Select, Load, Store, LoadAddr, Ret, Jal, CondBr, BrTable, Udf, Jalr, Call, CallInd, ReturnCall, ReturnCallInd}
 use Rattle.rv_inst.specs.Operands.{all_of, written_in}
 use Rattle.rv_inst.specs.Faults.{is_misplaced, has_zero, has_clash}
-use Rattle.rv_inst.specs.Rules.{is_virtual, is_reserved, is_out_of_place, is_uneven, values_differ, select_clash, clash, is_fifth, is_other_class, is_stack_or_frame, is_zero, described_faults, results_clash}
-use Rattle.rv_inst.specs.Descriptions.{Description, Word, Computes, Gives, description_of, result_in, sources_in, third}
+use Rattle.rv_inst.specs.Rules.{is_virtual, is_reserved, is_out_of_place, is_uneven, values_differ, select_clash, clash, is_fifth, is_other_class, is_stack, is_stack_or_frame, is_zero, described_faults, results_clash}
+use Rattle.rv_inst.specs.Descriptions.{Description, Word, Computes, Gives, all_in, description_of, result_in, sources_in, third}
 use Rattle.rv_inst.specs.declared.sequence.Sequence.{Sequence}
 use Rattle.rv_inst.specs.declared.units.PlacedReg.{PlacedReg}
 use Rattle.rv_operands.specs.Operand.{Operand, reads, reads_at, scratches, writes, writes_at, writes_early, constraint_of}
-use Rattle.rv_operands.specs.Operands.{row_of, operands_of, described_operands, result_operand, third_operand, unit_operands, use_operand, def_operand, select_operands}
+use Rattle.rv_operands.specs.Operands.{row_of, operands_of, described_operands, own_operands, result_operand, scratch_operand, unit_operands, use_operand, def_operand, select_operands}
 use Rattle.rv_operands.specs.Meeting.{chosen, definitions, AreDistinct, AreMet, AreFree, ArePlaced, AreOfClasses, AreChosen, KeepsRules}
 use Rattle.rv_operands.proofs.ClearRegisters.{quiet, virtual_clear, reserved_clear}
 use Rattle.rv_operands.proofs.Keeping.{either, and_none, or_none, apart, absent, no_clash, same_stack, same_frame, not_other, alike, pairs_alike, args_alike, rets_alike, uses_alike, defs_alike, both_classes, into, call_written, results_placed, no_results_clash}
@@ -132,13 +132,13 @@ unit_class (result ∷ sources) h =
 
 -- ---- sequences
 
-third_class : (s : Sequence) (tmp3 : Option (Writable Reg)) → AreOfClasses (reads s.rs ∷ scratches s.tmp1 ∷ scratches s.tmp2 ∷ third_operand tmp3 ++ writes_early s.rd ∷ []) → list_any is_other_class (s.rs ∷ s.tmp1.reg ∷ s.tmp2.reg ∷ third tmp3 ++ s.rd.reg ∷ []) ≡ false
+third_class : (s : Sequence) (tmp3 : Option (Writable Reg)) → AreOfClasses (reads s.rs ∷ scratches s.tmp1 ∷ scratches s.tmp2 ∷ scratch_operand tmp3 ++ writes_early s.rd ∷ []) → list_any is_other_class (s.rs ∷ s.tmp1.reg ∷ s.tmp2.reg ∷ third tmp3 ++ s.rd.reg ∷ []) ≡ false
 third_class s None h = either (not_other s.rs h.0) (either (not_other s.tmp1.reg h.1.0) (either (not_other s.tmp2.reg h.1.1.0) (either (not_other s.rd.reg h.1.1.1.0) refl)))
 third_class s (Some w) h = either (not_other s.rs h.0) (either (not_other s.tmp1.reg h.1.0) (either (not_other s.tmp2.reg h.1.1.0) (either (not_other w.reg h.1.1.1.0) (either (not_other s.rd.reg h.1.1.1.1.0) refl))))
 
 -- the requests of the rest of a sequence's registers
 abbrev requests_with : Sequence → Option (Writable Reg) → List Constraint
-requests_with s tmp3 = map constraint_of (reads s.rs ∷ scratches s.tmp1 ∷ scratches s.tmp2 ∷ third_operand tmp3 ++ writes_early s.rd ∷ []) ++ []
+requests_with s tmp3 = map constraint_of (reads s.rs ∷ scratches s.tmp1 ∷ scratches s.tmp2 ∷ scratch_operand tmp3 ++ writes_early s.rd ∷ []) ++ []
 
 third_not_zero : (s : Sequence) (tmp3 : Option (Writable Reg)) → AreFree (definitions (requests_with s tmp3)) → list_any is_zero (s.tmp1.reg ∷ s.tmp2.reg ∷ third tmp3 ++ s.rd.reg ∷ []) ≡ false
 third_not_zero s None h = either h.0.not_zero (either h.1.0.not_zero (either h.1.1.0.not_zero refl))
@@ -163,27 +163,32 @@ regs_not_zero : (in_steps : Bool) (rd : Option (Writable Reg)) (sources : List R
 regs_not_zero in_steps None sources h = and_none in_steps refl
 regs_not_zero in_steps (Some w) sources h = and_none in_steps (either (subst AreFree (none_read sources (writes w ∷ [])) h).0.not_zero refl)
 
+scratch_class : (scratch : Option (Writable Reg)) (others : List Reg) → AreOfClasses (scratch_operand scratch) → list_any is_other_class others ≡ false → list_any is_other_class (result_in scratch ++ others) ≡ false
+scratch_class None others own alike = alike
+scratch_class (Some w) others own alike = either (not_other w.reg own.0) alike
+
+scratch_free : (scratch : Option (Writable Reg)) → AreFree (chosen (scratch_operand scratch)) → (list_any is_zero (result_in scratch) ≡ false) × (list_any is_stack (result_in scratch) ≡ false)
+scratch_free None own = (refl, refl)
+scratch_free (Some w) own = (either own.0.not_zero refl, either own.0.not_stack refl)
+
 -- ---- each by its description
 
-described_class : (d : Description) → AreOfClasses (described_operands d) → (described_faults d).class ≡ false
-described_class (Word w) h = unit_class w.places h
-described_class (Computes s with) h = third_class s s.tmp3 h
-described_class (Gives g) h = regs_class g.facts.regs.rd (sources_in g.facts.regs) h
+described_class : (d : Description) → AreOfClasses (described_operands d) → AreOfClasses (own_operands d) → (described_faults d).class ≡ false
+described_class (Word w) h own = unit_class w.places h
+described_class (Computes s with) h own = third_class s s.tmp3 h
+described_class (Gives g) h own = scratch_class g.facts.scratch (all_in g.facts.regs) own (regs_class g.facts.regs.rd (sources_in g.facts.regs) h)
 
-described_not_zero : (d : Description) → AreFree (definitions (map constraint_of (described_operands d) ++ [])) → (described_faults d).zeroed ≡ false
-described_not_zero (Word w) h = refl
-described_not_zero (Computes s with) h = third_not_zero s s.tmp3 h
-described_not_zero (Gives g) h = regs_not_zero g.facts.in_steps g.facts.regs.rd (sources_in g.facts.regs) h
+described_not_zero : (d : Description) → AreFree (definitions (map constraint_of (described_operands d) ++ [])) → AreFree (chosen (own_operands d)) → (described_faults d).zeroed ≡ false
+described_not_zero (Word w) h own = refl
+described_not_zero (Computes s with) h own = third_not_zero s s.tmp3 h
+described_not_zero (Gives g) h own = either (scratch_free g.facts.scratch own).0 (regs_not_zero g.facts.in_steps g.facts.regs.rd (sources_in g.facts.regs) h)
 
-described_apart : (d : Description) → AreMet (map constraint_of (described_operands d) ++ []) → (described_faults d).clashing ≡ false
-described_apart (Word w) met = refl
-described_apart (Computes s with) met = third_apart s s.tmp3 met
-described_apart (Gives g) met = refl
+described_apart : (d : Description) → AreMet (map constraint_of (described_operands d) ++ []) → AreFree (chosen (own_operands d)) → (described_faults d).clashing ≡ false
+described_apart (Word w) met own = refl
+described_apart (Computes s with) met own = third_apart s s.tmp3 met
+described_apart (Gives g) met own = (scratch_free g.facts.scratch own).1
 
 -- ---- every kind
-
-probe_keeps : (guard_size probe_count : ℕ) (tmp : Writable Reg) → AreChosen (StackProbeLoop guard_size probe_count tmp) → KeepsThree (StackProbeLoop guard_size probe_count tmp)
-probe_keeps guard_size probe_count tmp c = record { class = either (not_other tmp.reg c.own_classes.0) refl; zero = either c.own_free.0.not_zero refl; clash = c.own_free.0.not_stack }
 
 three : (inst : Inst) → AreChosen inst → KeepsThree inst
 three Nop0 c = record { class = refl; zero = refl; clash = refl }
@@ -211,12 +216,11 @@ three (CondBr taken not_taken kind) c = record { class = either (not_other kind.
 three (BrTable index tmp1 tmp2 targets) c = record { class = either (not_other index c.classes.0) (either (not_other tmp1.reg c.classes.1.0) (either (not_other tmp2.reg c.classes.1.1.0) refl)); zero = either c.free.0.not_zero (either c.free.1.0.not_zero refl); clash = no_clash (tmp1.reg ∷ tmp2.reg ∷ []) (index ∷ []) c.met.distinct c.met.early }
 three (Udf code) c = record { class = refl; zero = refl; clash = refl }
 three (Jalr rd base offset) c = record { class = either (not_other rd.reg c.classes.1.0) (either (not_other base c.classes.0) refl); zero = refl; clash = refl }
-three (StackProbeLoop guard_size probe_count tmp) c = probe_keeps guard_size probe_count tmp c
 three (Call info) c = call_keeps info c
 three (CallInd info) c = call_through_keeps info c
 three (ReturnCall info) c = record { class = uses_alike info.uses c.classes; zero = refl; clash = refl }
 three (ReturnCallInd info) c = tail_call_through_keeps info c
-three inst c = let d = description_of inst refl in record { class = described_class d c.classes; zero = described_not_zero d c.free; clash = described_apart d c.met }
+three inst c = let d = description_of inst refl in record { class = described_class d c.classes c.own_classes; zero = described_not_zero d c.free c.own_free; clash = described_apart d c.met c.own_free }
 
 pub keeps : (inst : Inst) → AreChosen inst → KeepsRules inst
 keeps inst c =

@@ -14,7 +14,7 @@ use Rattle.rv_base.specs.declared.value_regs.ValueRegs.{ValueRegs}
 use Rattle.rv_base.specs.declared.value_regs.ValueRegs.TheVariants.{One, Two}
 use Rattle.rv_base.specs.Regs.{number_of}
 use Rattle.rv_inst.specs.declared.inst.Inst.{Inst}
-use Rattle.rv_inst.specs.declared.inst.Inst.TheVariants.{Nop0, Nop4, EBreak, SequencePoint, Args, Rets, DummyUse, Unwind, EmitIsland, RawData, Lui, AluRRR, AluRRImm12, Mov, MovFromPReg, Select, Load, Store, LoadAddr, Ret, Jal, CondBr, BrTable, Udf, Jalr, StackProbeLoop, Call, CallInd, ReturnCall, ReturnCallInd}
+use Rattle.rv_inst.specs.declared.inst.Inst.TheVariants.{Nop0, Nop4, EBreak, SequencePoint, Args, Rets, DummyUse, Unwind, EmitIsland, RawData, Lui, AluRRR, AluRRImm12, Mov, MovFromPReg, Select, Load, Store, LoadAddr, Ret, Jal, CondBr, BrTable, Udf, Jalr, Call, CallInd, ReturnCall, ReturnCallInd}
 use Rattle.rv_inst.specs.Operands.{inst_temporaries}
 use Rattle.rv_operands.specs.Operand.{Operand}
 use Rattle.rv_operands.specs.Operands.{address_operands, read_operands, written_operands, arg_operand, ret_operand, use_operand, def_operand, located_operand, row_of, operands_of}
@@ -83,7 +83,6 @@ temporaries (CondBr taken not_taken kind) = refl
 temporaries (BrTable index tmp1 tmp2 targets) = refl
 temporaries (Udf code) = refl
 temporaries (Jalr rd base offset) = refl
-temporaries (StackProbeLoop guard_size probe_count tmp) = refl
 temporaries (Call info) = no_temporaries _ (none_of_call info.uses info.defs)
 temporaries (CallInd info) = no_temporaries _ (none_of_call info.uses info.defs)
 temporaries (ReturnCall info) = no_temporaries _ (none_in use_operand (λ p. refl) info.uses)

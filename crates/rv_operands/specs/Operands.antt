@@ -20,7 +20,7 @@ use Rattle.rv_base.specs.declared.value_regs.ValueRegs.TheVariants.{One, Two}
 use Rattle.rv_base.specs.Regs.{class_of, int_reg}
 use Rattle.rv_ops.specs.Memory.{load_class, store_class}
 use Rattle.rv_inst.specs.declared.inst.Inst.{Inst}
-use Rattle.rv_inst.specs.declared.inst.Inst.TheVariants.{Nop0, Nop4, EBreak, SequencePoint, Args, Rets, DummyUse, Unwind, EmitIsland, RawData, Lui, AluRRR, AluRRImm12, Mov, MovFromPReg, Select, Load, Store, LoadAddr, Ret, Jal, CondBr, BrTable, Udf, Jalr, StackProbeLoop, Call, CallInd, ReturnCall, ReturnCallInd}
+use Rattle.rv_inst.specs.declared.inst.Inst.TheVariants.{Nop0, Nop4, EBreak, SequencePoint, Args, Rets, DummyUse, Unwind, EmitIsland, RawData, Lui, AluRRR, AluRRImm12, Mov, MovFromPReg, Select, Load, Store, LoadAddr, Ret, Jal, CondBr, BrTable, Udf, Jalr, Call, CallInd, ReturnCall, ReturnCallInd}
 use Rattle.rv_inst.specs.declared.inst.SelectInfo.{SelectInfo}
 use Rattle.rv_inst.specs.declared.sequence.Sequence.{Sequence}
 use Rattle.rv_inst.specs.declared.units.PlacedReg.{PlacedReg}
@@ -110,13 +110,20 @@ early_request (Some w) = RegEarlyDef w ∷ []
 abbrev pub sequence_requests : Sequence → List Constraint
 sequence_requests s = RegUse s.rs ∷ (RegEarlyDef s.tmp1 ∷ RegEarlyDef s.tmp2 ∷ []) ++ (early_request s.tmp3 ++ RegEarlyDef s.rd ∷ [])
 
--- Those of a sequence: its temporaries and its result are written while its source is still read.
-abbrev pub third_operand : Option (Writable Reg) → List Operand
-third_operand None = []
-third_operand (Some w) = scratches w ∷ []
+-- a temporary, where there is one
+abbrev pub scratch_operand : Option (Writable Reg) → List Operand
+scratch_operand None = []
+scratch_operand (Some w) = scratches w ∷ []
 
+-- Those of a sequence: its temporaries and its result are written while its source is still read.
 abbrev pub sequence_operands : Sequence → List Operand
-sequence_operands s = reads s.rs ∷ scratches s.tmp1 ∷ scratches s.tmp2 ∷ third_operand s.tmp3 ++ writes_early s.rd ∷ []
+sequence_operands s = reads s.rs ∷ scratches s.tmp1 ∷ scratches s.tmp2 ∷ scratch_operand s.tmp3 ++ writes_early s.rd ∷ []
+
+-- the temporary of which its maker chooses the register
+abbrev pub own_operands : Description → List Operand
+own_operands (Word w) = []
+own_operands (Computes s with) = []
+own_operands (Gives g) = scratch_operand g.facts.scratch
 
 abbrev pub described_operands : Description → List Operand
 described_operands (Word w) = unit_operands w.places
@@ -138,6 +145,9 @@ pub record Row : Type 0 where
 
 abbrev pub row : List Operand → Row
 row operands = record { operands = operands; clobbers = []; own = []; named = []; misnamed = false; uneven = false }
+
+abbrev pub described_row : Description → Row
+described_row d = record (row (described_operands d)) { own = own_operands d }
 
 abbrev pub row_of : Inst → Row
 row_of Nop0 = row []
@@ -165,12 +175,11 @@ row_of (CondBr taken not_taken kind) = row (reads kind.rs1 ∷ reads kind.rs2 �
 row_of (BrTable index tmp1 tmp2 targets) = row (reads index ∷ scratches tmp1 ∷ scratches tmp2 ∷ [])
 row_of (Udf code) = row []
 row_of (Jalr rd base offset) = row (reads base ∷ writes rd ∷ [])
-row_of (StackProbeLoop guard_size probe_count tmp) = record (row []) { own = scratches tmp ∷ [] }
 row_of (Call info) = record (row (map use_operand info.uses ++ map def_operand info.defs)) { clobbers = RegClobbers info.clobbers ∷ [] }
 row_of (CallInd info) = record (row (reads info.dest ∷ map use_operand info.uses ++ map def_operand info.defs)) { clobbers = RegClobbers info.clobbers ∷ [] }
 row_of (ReturnCall info) = row (map use_operand info.uses)
 row_of (ReturnCallInd info) = row (of_int info.dest (ReadsIn fifth) ∷ map use_operand info.uses)
-row_of inst = row (described_operands (description_of inst refl))
+row_of inst = described_row (description_of inst refl)
 
 abbrev pub operands_of : Inst → List Operand
 operands_of inst = (row_of inst).operands

@@ -19,7 +19,7 @@ use Rattle.rv_base.specs.Regs.{class_of}
 use Rattle.rv_ops.specs.declared.compare.IntegerCompare.{IntegerCompare}
 use Rattle.rv_inst.specs.declared.inst.SelectInfo.{SelectInfo}
 use Rattle.rv_inst.specs.declared.inst.Inst.{Inst}
-use Rattle.rv_inst.specs.declared.inst.Inst.TheVariants.{Nop0, Nop4, EBreak, SequencePoint, Args, Rets, DummyUse, Unwind, EmitIsland, RawData, Lui, AluRRR, AluRRImm12, Mov, MovFromPReg, Select, Load, Store, LoadAddr, Ret, Jal, CondBr, BrTable, Udf, Jalr, StackProbeLoop, Call, CallInd, ReturnCall, ReturnCallInd}
+use Rattle.rv_inst.specs.declared.inst.Inst.TheVariants.{Nop0, Nop4, EBreak, SequencePoint, Args, Rets, DummyUse, Unwind, EmitIsland, RawData, Lui, AluRRR, AluRRImm12, Mov, MovFromPReg, Select, Load, Store, LoadAddr, Ret, Jal, CondBr, BrTable, Udf, Jalr, Call, CallInd, ReturnCall, ReturnCallInd}
 use Rattle.rv_inst.specs.Descriptions.{Description, Given, UnitWord, Word, Computes, Gives, description_of, in_order, registers_in, regs}
 use Rattle.rv_inst.specs.declared.sequence.Sequence.{Sequence}
 use Rattle.rv_inst.specs.declared.units.InstRegs.{InstRegs}
@@ -131,7 +131,6 @@ shape_of (CondBr taken not_taken kind) = CondBr taken not_taken (compare_shape k
 shape_of (BrTable index tmp1 tmp2 targets) = BrTable (blank index) (blanked tmp1) (blanked tmp2) targets
 shape_of (Udf code) = Udf code
 shape_of (Jalr rd base offset) = Jalr (blanked rd) (blank base) offset
-shape_of (StackProbeLoop guard_size probe_count tmp) = StackProbeLoop guard_size probe_count tmp
 shape_of (Call info) = Call (call_shape info)
 shape_of (CallInd info) = CallInd (call_through_shape info)
 shape_of (ReturnCall info) = ReturnCall (tail_call_shape info)

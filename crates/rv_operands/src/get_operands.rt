@@ -194,7 +194,7 @@ fn control_operands<V: OperandVisitor>(inst: Inst, collector: &mut V) -> Handed
     }
 }
 
-/// Of one that computes by a loop of its own: of a sequence. The temporary of a `StackProbeLoop` is chosen by who makes it.
+/// Of one that computes by a loop of its own: of a sequence.
 fn loop_operands<V: OperandVisitor>(inst: Inst, collector: &mut V) -> Handed
     ensures handed { family_of inst ≡ Loop → AreHandedOver V.recorded V.given result.1 collector.old collector.new (constraints_of inst) (constraints_of result.0) }
     ensures same { family_of inst ≡ Loop → shape_of result.0 ≡ shape_of inst }
@@ -250,7 +250,8 @@ fn unit_operands<V: OperandVisitor>(inst: Inst, collector: &mut V) -> Handed
     described_operands(inst, collector)
 }
 
-/// Of one that is described by its registers, which are all that are asked for; or of one for which none is.
+/// Of one that is described by its registers, which are all that are asked for, a temporary apart that its maker chooses; or of one for
+/// which none is.
 #[inline(never)]
 fn described_operands<V: OperandVisitor>(inst: Inst, collector: &mut V) -> Handed
     ensures handed { constraints_of inst ≡ regs_requests (described_regs inst) → AreHandedOver V.recorded V.given result.1 collector.old collector.new (constraints_of inst) (constraints_of result.0) }

@@ -1,6 +1,6 @@
 -- Every instruction of the integer core that breaks no rule runs as it means.
 use Rattle.{rv_base.specs.IrType.bits_of, rv_code.{proofs.OperationActs.{short_ebreak_is, ebreak_sized}, proofs.LineOperands.{load_addr_kept, load_kept, store_kept}, specs.Evaluation.literal_value, specs.InstParts.{literal_of, trap_slots}, specs.InstRuns.{environment, RunsIn}}}
-use Rattle.rv_code.{specs.Pieces.{NameAddress, OfLabel, OfSymbol, Word32, Word64}, specs.Slots.{AddressOf, SlotOf}, proofs.Operands.{all_integers, are_usable, is_count, is_probe, is_reversal, is_table, move_usable, not_zero, or_left, preg_usable, reversal_of, some_in_64}, proofs.Registers.count_of}
+use Rattle.rv_code.{specs.Pieces.{NameAddress, OfLabel, OfSymbol, Word32, Word64}, specs.Slots.{AddressOf, SlotOf}, proofs.Operands.{all_integers, are_usable, is_count, is_scratch, is_reversal, is_table, move_usable, not_zero, or_left, preg_usable, reversal_of, some_in_64}, proofs.Registers.count_of}
 use Rattle.rv_inst.{specs.Descriptions.{counts, sequence_registers}, specs.Meaning.{Environment, constant_of}, specs.declared.sequence.Computation.TheVariants.{Ones, Zeros}, specs.Forms.short_ebreak, specs.Rules.is_zero}
 use Rattle.rv_inst.specs.declared.inst.Inst.TheVariants.{Args, BrTable, Brev8, Cltz, DummyUse, EmitIsland, Jal, LabelAddress, LoadExtNameNear, Popcnt, RawData, Rets, SequencePoint, StackProbeLoop, TrapIf, Udf, Unwind, AluRRImm12, AluRRR, Auipc, Call, CallInd, CondBr, EBreak, Extend, Jalr, Load, LoadAddr, LoadExtNameFar}
 use Rattle.{rv_inst.specs.declared.inst.Inst.TheVariants.{LoadExtNameGot, LoadInlineConst, Lui, Mov, MovFromPReg, Nop0, Nop4, Ret, ReturnCall, ReturnCallInd, Select, Store}, rv_machine.specs.Arithmetic.extend_word, rv_runs.{proofs.ProbeRuns.probe_out, proofs.ReverseRuns.reverse_out}}
@@ -53,7 +53,7 @@ module _ (site : Site) (setting : EmitVState) (start after : ℕ) (s : State) (v
   kept_out (Popcnt info) core k r e clear = popcnt_out (count_of info.sum info.tmp info.step info.rs info.ty) (is_count info Ones (are_usable (sequence_registers (counts Ones info)) k.real k.placed k.free) k.counted k.apart k.typed) e
   kept_out (Cltz leading info) core k r e clear = zeros_out leading (count_of info.sum info.tmp info.step info.rs info.ty) (is_count info (Zeros leading) (are_usable (sequence_registers (counts (Zeros leading) info)) k.real k.placed k.free) k.counted k.apart k.typed) e
   kept_out (Brev8 info) core k r e clear = reverse_out (reversal_of info) (is_reversal info k) e
-  kept_out (StackProbeLoop guard_size probe_count tmp) core k r e clear = probe_out (number_of tmp.reg) (low_word guard_size) (low_word probe_count) (is_probe guard_size probe_count tmp k) (omega arith) (omega arith) e clear
+  kept_out (StackProbeLoop guard_size probe_count tmp) core k r e clear = probe_out (number_of tmp.reg) (low_word guard_size) (low_word probe_count) (is_scratch tmp _ k.real k.placed k.free k.counted k.apart) (omega arith) (omega arith) e clear
   kept_out (LoadExtNameGot rd name) core k r e clear = let h = (are_usable (rd.reg ∷ []) k.real k.placed k.free).0 in distant_out (number_of rd.reg) (OfSymbol (SlotOf name)) h.1 (not_zero rd.reg h (or_left (is_zero rd.reg) false k.counted)) e
   kept_out (LoadExtNameNear rd name offset) core k r e clear = let h = (are_usable (rd.reg ∷ []) k.real k.placed k.free).0 in distant_out (number_of rd.reg) (OfSymbol (AddressOf name offset)) h.1 (not_zero rd.reg h (or_left (is_zero rd.reg) false k.counted)) e
   kept_out (LoadExtNameFar rd name offset) core k r e clear = let h = (are_usable (rd.reg ∷ []) k.real k.placed k.free).0 in literal_out (number_of rd.reg) (NameAddress name offset) h.1 (not_zero rd.reg h (or_left (is_zero rd.reg) false k.counted)) e

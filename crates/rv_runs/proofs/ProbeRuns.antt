@@ -1,5 +1,5 @@
 -- The stack is probed, from the farthest guard on.
-use Rattle.rv_code.{proofs.Courses.bits_back, proofs.MadeOfPieces.{number_keeps, probe_places}, proofs.Operands.IsProbe, proofs.Reaching.{Reaches, Writes, goes_on, number_reaches, reaches_such}, specs.Evaluation.{AllOutside, at as points}, specs.InstRuns.environment}
+use Rattle.rv_code.{proofs.Courses.bits_back, proofs.MadeOfPieces.{number_keeps, probe_places}, proofs.Operands.IsScratch, proofs.Reaching.{Reaches, Writes, goes_on, number_reaches, reaches_such}, specs.Evaluation.{AllOutside, at as points}, specs.InstRuns.environment}
 use Rattle.{rv_code.{specs.Pieces.{Jump, Store, number_pieces}, specs.Probes.{probe_pieces, probe_turn}}, rv_inst.specs.Meaning.{probes_from, probes_of, zero_bytes, Environment}, rv_ops.{specs.declared.alu.AluOPRRR.TheVariants.Sub, specs.declared.memory.StoreOP.TheVariants.Sb}}
 use Rattle.rv_runs.proofs.Exits.{all_same, same_but, writes_out}
 use Rattle.rv_runs.proofs.Words.{AreInRange, AreOutside, AreValues, Bind, ComesOut, Do, Enters, Next, Piece, Rrr, SameBut, Site, State, Values, after, and_then, are_values_set, cast_signed, count_set, evaluate, low64, nat_tests, not_below, point, put_bytes, put_same}
@@ -64,7 +64,7 @@ module _ (env : Environment) where
       record { count = 1; values = w; ran = λ i. and_then (if not (none i) then to ((probe_places tmp guard count).1 i) w m else Some (points (probing tmp) w m)) (evaluate env 0 (probe_pieces tmp guard count)); such = k.others }
 
   -- one turn
-  turn : {tmp guard left : ℕ} {u : Values} (count next : ℕ) (w : Values) (m : List (List ℕ)) → IsProbe tmp → next ≡ left + guard → 0 < left → next < 2 ^ 64 → Holds tmp guard next u w → Writes env (probe_pieces tmp guard count) (points (probe_turn tmp) w m) (probe_turn tmp) ((probe_at (reg u 2) next ∷ []) ∷ m) (Holds tmp guard left (put_bytes u (probe_at (reg u 2) next) (0 ∷ [])))
+  turn : {tmp guard left : ℕ} {u : Values} (count next : ℕ) (w : Values) (m : List (List ℕ)) → IsScratch tmp → next ≡ left + guard → 0 < left → next < 2 ^ 64 → Holds tmp guard next u w → Writes env (probe_pieces tmp guard count) (points (probe_turn tmp) w m) (probe_turn tmp) ((probe_at (reg u 2) next ∷ []) ∷ m) (Holds tmp guard left (put_bytes u (probe_at (reg u 2) next) (0 ∷ [])))
   turn {tmp} {guard} {left} {u} count next w m h is some fits k =
       let whole = probe_pieces tmp guard count in
       let a = probe_at (reg u 2) next in
@@ -80,7 +80,7 @@ module _ (env : Environment) where
       record { count = 2; values = set_reg w2 31 left; ran = λ i. and_then (to ((probe_places tmp guard count).0 i) (set_reg w2 31 (nearer i)) ((a ∷ []) ∷ m)) (evaluate env 0 whole); such = search (rules, arith, reads_other, reads_set, count_set, k2, h, spare_set) }))
 
   -- turns until at most one guard is left, by how many are
-  turns : {tmp guard : ℕ} (count left : ℕ) (u w : Values) (m : List (List ℕ)) → IsProbe tmp → 0 < guard → left * guard < 2 ^ 64 → Holds tmp guard (left * guard) u w → Writes env (probe_pieces tmp guard count) (points (probe_turn tmp) w m) [] (writing (probes_from (reg u 2) guard left) m) (SameBut (tmp ∷ []) (zero_bytes u (probes_from (reg u 2) guard left)))
+  turns : {tmp guard : ℕ} (count left : ℕ) (u w : Values) (m : List (List ℕ)) → IsScratch tmp → 0 < guard → left * guard < 2 ^ 64 → Holds tmp guard (left * guard) u w → Writes env (probe_pieces tmp guard count) (points (probe_turn tmp) w m) [] (writing (probes_from (reg u 2) guard left) m) (SameBut (tmp ∷ []) (zero_bytes u (probes_from (reg u 2) guard left)))
   turns count zero u w m h some fits k = ended count w m (omega arith) k
   turns count (suc zero) u w m h some fits k = ended count w m (omega arith) k
   turns {guard = guard} count (suc (suc n)) u w m h some fits k =
@@ -88,7 +88,7 @@ module _ (env : Environment) where
       goes_on (turn {left = suc n * guard} count (suc (suc n) * guard) w m h (omega arith) (omega arith) fits k) (λ w1 k1. turns count (suc n) (put_bytes u a (0 ∷ [])) w1 ((a ∷ []) ∷ m) h some (omega arith) k1)
 
   -- all turns
-  probed : {tmp guard : ℕ} (count : ℕ) (v w : Values) → IsProbe tmp → guard * count < 2 ^ 64 → Holds tmp guard (guard * count) v w → Writes env (probe_pieces tmp guard count) (point (probe_turn tmp) w) [] (writing (probes_of (reg v 2) guard count) []) (SameBut (tmp ∷ []) (zero_bytes v (probes_of (reg v 2) guard count)))
+  probed : {tmp guard : ℕ} (count : ℕ) (v w : Values) → IsScratch tmp → guard * count < 2 ^ 64 → Holds tmp guard (guard * count) v w → Writes env (probe_pieces tmp guard count) (point (probe_turn tmp) w) [] (writing (probes_of (reg v 2) guard count) []) (SameBut (tmp ∷ []) (zero_bytes v (probes_of (reg v 2) guard count)))
   probed {tmp} {guard} count v w h fits k =
       let all = λ (none : Bool). if none then [] else probes_from (reg v 2) guard count in
       (elim (guard == 0) as (λ none. (guard == 0) ≡ none → Writes env (probe_pieces tmp guard count) (point (probe_turn tmp) w) [] (writing (all none) []) (SameBut (tmp ∷ []) (zero_bytes v (all none)))) [
@@ -96,7 +96,7 @@ module _ (env : Environment) where
         | false ↦ λ other. turns count count v w [] h (grind (arith, nat_tests)) (omega arith) (subst (λ n. Holds tmp guard n v w) (mul_comm guard count) k)
       ]) refl
 
-  starts : {tmp guard : ℕ} {v : Values} (count : ℕ) (w : Values) → IsProbe tmp → guard < 2 ^ 32 → guard * count < 2 ^ 64 → AreValues w → SameBut [] v w → Reaches env (probe_pieces tmp guard count) (point (probe_pieces tmp guard count) w) (probe_turn tmp) (Holds tmp guard (guard * count) v)
+  starts : {tmp guard : ℕ} {v : Values} (count : ℕ) (w : Values) → IsScratch tmp → guard < 2 ^ 32 → guard * count < 2 ^ 64 → AreValues w → SameBut [] v w → Reaches env (probe_pieces tmp guard count) (point (probe_pieces tmp guard count) w) (probe_turn tmp) (Holds tmp guard (guard * count) v)
   starts {tmp} {guard} {v} count w h few fits hw same =
       let far = cast_signed w64 (guard * count) in
       let loop = Bind 0 ∷ probe_turn tmp in
@@ -111,7 +111,7 @@ module _ (env : Environment) where
 number_ranges : (rd : ℕ) (z : ℤ) (more : List Piece) → 0 < rd → rd < 32 → AreInRange more → AreInRange (number_pieces rd z ++ more)
 number_ranges rd z more some lt h = number_keeps AreInRange rd z more (λ a ps ranged k. (ranged lt, k)) (λ n ps k. ((some, lt), k)) h
 
-pub probe_out : {site : Site} {start after : ℕ} {s : State} {v : Values} (tmp guard count : ℕ) → IsProbe tmp → guard < 2 ^ 32 → count < 2 ^ 32 → Enters site start after (slots_alone (slots_of site.context.flags (probe_pieces tmp guard count))) s v →
+pub probe_out : {site : Site} {start after : ℕ} {s : State} {v : Values} (tmp guard count : ℕ) → IsScratch tmp → guard < 2 ^ 32 → count < 2 ^ 32 → Enters site start after (slots_alone (slots_of site.context.flags (probe_pieces tmp guard count))) s v →
     AreOutside site.base (length site.bytes) (probes_of (reg v 2) guard count) → ComesOut site start after Next (tmp ∷ []) (zero_bytes v (probes_of (reg v 2) guard count)) s
 probe_out {site} {start} {after} {s} {v} tmp guard count h small few e out =
     let env = environment site start after in

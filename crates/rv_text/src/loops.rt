@@ -1,13 +1,11 @@
 //! The texts of instructions that compute by a loop of their own.
 
-ghost use Rattle.std.specs.Prelude.{◌≡◌, ◌++◌, OnOk, string_bytes, codes};
-ghost use Rattle.std.specs.Fmt.{decimal};
-ghost use Rattle.rv_base.specs.RegNames.{name_of};
+ghost use Rattle.std.specs.Prelude.{◌≡◌, ◌++◌, OnOk, string_bytes};
 ghost use Rattle.rv_inst.specs.Operands.{family_of};
 ghost use Rattle.rv_inst.specs.declared.inst.Family.TheVariants.{Loop};
 ghost use Rattle.rv_text.specs.Texts.{text_of, count_text, zeros_name, brev8_text};
 
-use rv_base::{OutOfMemory, Reg};
+use rv_base::OutOfMemory;
 use rv_inst::{Brev8Info, CountInfo, Inst};
 use std::fmt::Write;
 
@@ -45,21 +43,6 @@ fn put_reverse(out: &mut String, info: &Brev8Info) -> Result<(), OutOfMemory>
     Ok(())
 }
 
-fn put_probe(
-    out: &mut String,
-    guard_size: u32,
-    probe_count: u32,
-    tmp: Reg,
-) -> Result<(), OutOfMemory>
-    ensures { OnOk result (string_bytes out.new ≡ string_bytes out.old ++ codes "inline_stack_probe##guard_size=" ++ decimal guard_size ++ codes " probe_count=" ++ decimal probe_count ++ codes " tmp=" ++ name_of tmp) }
-{
-    write!(
-        out,
-        "inline_stack_probe##guard_size={guard_size} probe_count={probe_count} tmp={tmp}"
-    )?;
-    Ok(())
-}
-
 /// Appends the text of an instruction of this family; of others nothing.
 pub(crate) fn put_loop(out: &mut String, inst: &Inst) -> Result<(), OutOfMemory>
     ensures { family_of inst.now ≡ Loop → OnOk result (string_bytes out.new ≡ string_bytes out.old ++ text_of inst.now) }
@@ -68,11 +51,6 @@ pub(crate) fn put_loop(out: &mut String, inst: &Inst) -> Result<(), OutOfMemory>
         Inst::Popcnt { info } => put_count(out, "popcnt", info.as_ref()),
         Inst::Cltz { leading, info } => put_count(out, zeros_name(*leading), info.as_ref()),
         Inst::Brev8 { info } => put_reverse(out, info.as_ref()),
-        Inst::StackProbeLoop {
-            guard_size,
-            probe_count,
-            tmp,
-        } => put_probe(out, *guard_size, *probe_count, tmp.reg),
         _ => Ok(()),
     }
 }

@@ -1,6 +1,7 @@
-//! The texts of loads, stores and addresses.
+//! The texts of loads, stores, addresses and probes of the stack.
 
 ghost use Rattle.std.specs.Prelude.{◌≡◌, ◌++◌, OnOk, string_bytes, codes};
+ghost use Rattle.std.specs.Fmt.{decimal};
 ghost use Rattle.rv_base.specs.AMode.{text_of as amode_text};
 ghost use Rattle.rv_base.specs.RegNames.{name_of};
 ghost use Rattle.rv_inst.specs.Operands.{family_of};
@@ -26,6 +27,21 @@ fn put_label_address(out: &mut String, dst: Reg, label: MachLabel) -> Result<(),
     Ok(())
 }
 
+fn put_probe(
+    out: &mut String,
+    guard_size: u32,
+    probe_count: u32,
+    tmp: Reg,
+) -> Result<(), OutOfMemory>
+    ensures { OnOk result (string_bytes out.new ≡ string_bytes out.old ++ codes "inline_stack_probe##guard_size=" ++ decimal guard_size ++ codes " probe_count=" ++ decimal probe_count ++ codes " tmp=" ++ name_of tmp) }
+{
+    write!(
+        out,
+        "inline_stack_probe##guard_size={guard_size} probe_count={probe_count} tmp={tmp}"
+    )?;
+    Ok(())
+}
+
 /// Appends the text of an instruction of this family; of others nothing.
 pub(crate) fn put_memory(out: &mut String, inst: &Inst) -> Result<(), OutOfMemory>
     ensures { family_of inst.now ≡ Memory → OnOk result (string_bytes out.new ≡ string_bytes out.old ++ text_of inst.now) }
@@ -45,6 +61,11 @@ pub(crate) fn put_memory(out: &mut String, inst: &Inst) -> Result<(), OutOfMemor
         } => put_access(out, op.op_name(), *src, *to),
         Inst::LoadAddr { rd, mem } => put_access(out, "load_addr", rd.reg, *mem),
         Inst::LabelAddress { dst, label } => put_label_address(out, dst.reg, *label),
+        Inst::StackProbeLoop {
+            guard_size,
+            probe_count,
+            tmp,
+        } => put_probe(out, *guard_size, *probe_count, tmp.reg),
         _ => Ok(()),
     }
 }

@@ -7,12 +7,6 @@ sequence_parts : (context : Context) (setting : EmitVState) (inst : Inst) (s : S
 sequence_parts context setting Nop0 s e = absurd (cc)
 sequence_parts context setting inst s e = cc
 
-pub returns-in-StackProbeLoop-clause-parts : goal.returns-in-StackProbeLoop-clause-parts
-returns-in-StackProbeLoop-clause-parts c = λ family. put_as _ (λ i. EmitsAnyhow c.args.flags i c.args.sink.now c.put_probe_loop.new.sink) c.in-StackProbeLoop.is (λ p frame constants setting. p) c.put_probe_loop.ensures.slots
-
-pub put_probe_loop-requires-clause-tmp : goal.put_probe_loop-requires-clause-tmp
-put_probe_loop-requires-clause-tmp c = (ints_kept c.in-StackProbeLoop.is c.requires.rule refl).0.0
-
 pub put_computation-requires : goal.put_computation-requires
 put_computation-requires c = record { fine = subst (λ o. IfSome o (λ (s : Sequence). IsFineSequence s)) (sym c.sequence.ensures ∙ c.in-Some.is) (sequence_fine _ (kept refl c.requires.rule)); few = c.requires.few; room = omega (arith, c.requires.room); sound = c.requires.sound }
 

@@ -42,3 +42,9 @@ pub put_label_address-requires : goal.put_label_address-requires
 put_label_address-requires c =
     let label = listed c.in-LabelAddress.label false (kept c.in-LabelAddress.is c.requires.rule).listed in
     record { rd = (ints_kept c.in-LabelAddress.is c.requires.rule refl).0.0; label = search (rules, label); room = omega (arith, c.requires.room); sound = c.requires.sound }
+
+pub returns-in-StackProbeLoop-clause-parts : goal.returns-in-StackProbeLoop-clause-parts
+returns-in-StackProbeLoop-clause-parts c = λ family. put_as _ (λ i. Emits (context_by c.args.flags c.args.frame.now (registered_of c.args.sink.now)) i c.args.sink.now c.put_probe_loop.new.sink) c.in-StackProbeLoop.is (λ p setting. p) c.put_probe_loop.ensures.slots
+
+pub put_probe_loop-requires-clause-tmp : goal.put_probe_loop-requires-clause-tmp
+put_probe_loop-requires-clause-tmp c = (ints_kept c.in-StackProbeLoop.is c.requires.rule refl).0.0

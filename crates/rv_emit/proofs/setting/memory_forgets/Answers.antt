@@ -1,5 +1,4 @@
-use Rattle.rv_emit.proofs.Forgetting.{addresses_forget, loads_forget, stores_forget}
-use Rattle.rv_emit.proofs.Terms.{context_by, load_addr_fine, load_fine, store_fine}
+use Rattle.rv_emit.proofs.{Forgetting.{addresses_forget, asked_forgets, loads_forget, memory_given, stores_forget}, Terms.{context_by, load_addr_fine, load_fine, store_fine}}
 use Rattle.rv_emit.proofs.setting.memory_forgets.Goals as goal
 
 pub offset_forgets-requires-clause-fine : goal.offset_forgets-requires-clause-fine
@@ -19,3 +18,7 @@ returns-in-Store c = λ family constants. stores_forget (context_by c.args.flags
 
 pub returns-in-LoadAddr : goal.returns-in-LoadAddr
 returns-in-LoadAddr c = λ family constants. addresses_forget (context_by c.args.flags c.args.frame.now constants) c.in-LoadAddr.is c.offset_forgets-in-LoadAddr.ensures
+
+pub returns-in_default : goal.returns-in_default
+returns-in_default c =
+    λ family constants. let n = c.in_default in asked_forgets (context_by c.args.flags c.args.frame.now constants) c.args.inst.now c.facts_jump.result c.facts_jump.ensures (λ none. absurd (memory_given c.args.inst.now n.not-Load n.not-Store n.not-LoadAddr family none))
