@@ -1,6 +1,9 @@
 //! Goes through listings with the reports and the refusals that they must have.
 #![tactic(auto)]
 
+mod failing;
+mod repeats;
+
 use case_files::{Case, CaseError, Cases, blocks_of, expect_text, read, rows_of, run_cases};
 use hex::encode;
 use rv_command::run;
@@ -113,19 +116,36 @@ fn go_through_digest(rt: &HostRuntime, path: &str, rest: &str) -> Result<u32, Ca
     Ok(1)
 }
 
-/// The report of one word, of which these are the digits, with the highest digit first.
+/// The report of one word or halfword, of which these are the digits, with the highest digit first.
 fn report_of_word(alloc: Global, digits: &str) -> Result<String, CaseError> {
     let bytes = u32::from_str_radix(digits, 16).unwrap_or(0).swap_bytes();
-    Ok(format!(in alloc; "0 code 4\n00000000 {bytes:08x}\nline 0 0 4\nend 4\n")?)
+    Ok(match digits.len() {
+        4 => {
+            let half = bytes >> 16;
+            format!(in alloc; "0 code 2\n00000000 {half:04x}\nline 0 0 2\nend 2\n")?
+        }
+        _ => format!(in alloc; "0 code 4\n00000000 {bytes:08x}\nline 0 0 4\nend 4\n")?,
+    })
 }
 
-/// Goes through lines of one word each, and returns how many there are.
+/// Goes through lines of one word or halfword each, and returns how many there are.
 fn go_through_words(alloc: Global, cases: &[Case]) -> Result<u32, CaseError> {
     let mut count = 0u32;
     for case in cases {
         let wanted = report_of_word(alloc, &case.answer)?;
         let got = given_by(alloc, &case.given)?;
         expect_text(alloc, &case.name, &wanted, &got)?;
+        count = count.saturating_add(1);
+    }
+    Ok(count)
+}
+
+/// Goes through calls of which a read or a write fails, and returns how many there are.
+fn go_through_failing(alloc: Global, cases: &[Case]) -> Result<u32, CaseError> {
+    let mut count = 0u32;
+    for case in cases {
+        let got = failing::given_by_row(alloc, &case.given)?;
+        expect_text(alloc, &case.name, &case.answer, &got)?;
         count = count.saturating_add(1);
     }
     Ok(count)
@@ -162,6 +182,14 @@ impl Cases for Calls {
             "commands" => {
                 let cases = blocks_of(rt.alloc(), path, &read(rt, path)?)?;
                 go_through_commands(rt.alloc(), &cases)
+            }
+            "failing" => {
+                let cases = rows_of(rt.alloc(), path, &read(rt, path)?)?;
+                go_through_failing(rt.alloc(), &cases)
+            }
+            "repeats" => {
+                let cases = blocks_of(rt.alloc(), path, &read(rt, path)?)?;
+                repeats::go_through(rt.alloc(), &cases)
             }
             "cases" => {
                 let cases = blocks_of(rt.alloc(), path, &read(rt, path)?)?;

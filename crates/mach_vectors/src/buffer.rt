@@ -6,14 +6,14 @@ ghost use Rattle.mach_labels.specs.Table.{first_inner};
 ghost use Rattle.std.specs.Prelude.{◌≤◌, ◌<◌, ◌^◌, length, IfOk, None};
 ghost use Rattle.mach_buffer.specs.Buffer.{bytes_of, place_of, allocated_of, IsSound};
 
+use crate::error::ToyError;
 use crate::toy::Toy;
 use mach_buffer::{Finished, MachBuffer};
 use rv_base::{
     Constant, IrType, List, MachInstLabelUse, MachLabel, OutOfMemory, Reloc, RelocTarget, TrapCode,
     TryCallHandler, UnwindInst, UserStackMap, VCodeConstant, f_reg,
 };
-use std::alloc::Global;
-use std::test::Fail;
+use std::alloc::{AllocError, Global};
 
 /// A use of one byte, and no bytes.
 fn with_use(alloc: Global, label: MachLabel) -> Result<MachBuffer<Toy>, OutOfMemory>
@@ -55,12 +55,6 @@ fn needed(alloc: Global) -> Result<[bool; 3], OutOfMemory> {
     Ok([before_16, before_17, buffer.island_needed(1000)])
 }
 
-#[test]
-fn islands_are_needed_by_the_rule(rt: HostRuntime) -> Result<(), OutOfMemory> {
-    assert_eq!(rt; needed(rt.alloc())?, [false, true, false]);
-    Ok(())
-}
-
 /// Code is shorter than this many bytes.
 pub const CODE_LIMIT: u64 = 2147479552;
 
@@ -74,12 +68,6 @@ fn room_left(alloc: Global) -> Result<[bool; 3], OutOfMemory> {
     Ok([too_many, most, buffer.has_room(CODE_LIMIT - 1 - 232)])
 }
 
-#[test]
-fn room_is_left_by_the_rule(rt: HostRuntime) -> Result<(), OutOfMemory> {
-    assert_eq!(rt; room_left(rt.alloc())?, [false, true, true]);
-    Ok(())
-}
-
 /// Where the code ends, and where the label stands before it is bound and then.
 fn places(alloc: Global) -> Result<(u32, [Option<u32>; 2]), OutOfMemory> {
     let label = MachLabel::from_u32(5);
@@ -88,12 +76,6 @@ fn places(alloc: Global) -> Result<(u32, [Option<u32>; 2]), OutOfMemory> {
     let before = buffer.label_offset(label);
     buffer.bind_label(label)?;
     Ok((end, [before, buffer.label_offset(label)]))
-}
-
-#[test]
-fn labels_are_bound_at_the_end(rt: HostRuntime) -> Result<(), OutOfMemory> {
-    assert_eq!(rt; places(rt.alloc())?, (200, [None, Some(200)]));
-    Ok(())
 }
 
 /// What a buffer returns for branches that are reported to it.
@@ -112,14 +94,6 @@ fn branches(alloc: Global) -> Result<([Result<(), OutOfMemory>; 2], u32), OutOfM
     Ok((results, buffer.cur_offset()))
 }
 
-#[test]
-fn branches_put_nothing(rt: HostRuntime) -> Result<(), OutOfMemory> {
-    let (results, end) = branches(rt.alloc())?;
-    assert_eq!(rt; results, [Ok(()); 2]);
-    assert_eq!(rt; end, 200);
-    Ok(())
-}
-
 /// What a spoiled buffer returns for no constants, and to branches.
 fn refusals(
     alloc: Global,
@@ -130,12 +104,36 @@ fn refusals(
     Ok((constants, reported_branches(&mut buffer)))
 }
 
-#[test]
-fn spoiled_buffers_refuse(rt: HostRuntime) -> Result<(), OutOfMemory> {
-    let (constants, branches) = refusals(rt.alloc())?;
-    assert_eq!(rt; constants, Err(OutOfMemory));
-    assert_eq!(rt; branches, [Err(OutOfMemory); 2]);
-    Ok(())
+/// Writes where islands are needed, and what room is left.
+fn write_rules(alloc: Global, text: &mut String) -> Result<(), ToyError> {
+    let needed = needed(alloc)?;
+    writeln!(
+        text,
+        "an island before 16 bytes, before 17, and once none is pending: {needed:?}"
+    )?;
+    let room = room_left(alloc)?;
+    Ok(writeln!(
+        text,
+        "room for a byte too many, for the most, and for eight more: {room:?}"
+    )?)
+}
+
+fn write_branches(alloc: Global, text: &mut String) -> Result<(), ToyError> {
+    let (results, end) = branches(alloc)?;
+    writeln!(text, "branches: {results:?}, the end {end}")?;
+    let (constants, branches) = refusals(alloc)?;
+    Ok(writeln!(text, "after it is spoiled: {constants:?}, {branches:?}")?)
+}
+
+/// Writes what single calls of the buffer give.
+pub(crate) fn write(alloc: Global, text: &mut String) -> Result<(), ToyError> {
+    write_rules(alloc, text)?;
+    let (end, [before, after]) = places(alloc)?;
+    writeln!(
+        text,
+        "the end {end}; a label before and after it is bound: {before:?} {after:?}"
+    )?;
+    write_branches(alloc, text)
 }
 
 /// What the assembler below reads.
@@ -233,13 +231,19 @@ fn put_jump<L: MachInstLabelUse>(buffer: &mut MachBuffer<L>, kind: L) -> Result<
     Ok(())
 }
 
+/// Notes where an island stands.
+fn add_island(islands: &mut Vec<u32>, offset: u32) -> Result<(), AllocError> {
+    islands.push(offset)?;
+    Ok(())
+}
+
 /// Makes an island where one is needed before so many bytes, and notes where it stands.
 pub fn emit_due_island<L: MachInstLabelUse>(
     buffer: &mut MachBuffer<L>,
     kind: L,
     distance: u32,
     islands: &mut Vec<u32>,
-) -> Result<(), Fail>
+) -> Result<(), ToyError>
     requires kind { IsOneByte L.kinds kind }
     requires kept { IsKept L.kinds 4 buffer.old }
     ensures kept { OnOk result (IsKept L.kinds 4 buffer.new) }
@@ -248,12 +252,12 @@ pub fn emit_due_island<L: MachInstLabelUse>(
     ensures registered { OnOk result (registered_of buffer.new ≡ registered_of buffer.old) }
 {
     if !buffer.has_room(distance as u64) {
-        return Err(Fail::new("no room"));
+        return Err(ToyError::Refused("no room"));
     }
     if !buffer.island_needed(distance) {
         return Ok(());
     }
-    islands.push(buffer.cur_offset())?;
+    add_island(islands, buffer.cur_offset())?;
     put_jump(buffer, kind)?;
     Ok(())
 }
@@ -264,14 +268,14 @@ fn fill<L: MachInstLabelUse>(
     kind: L,
     count: u32,
     islands: &mut Vec<u32>,
-) -> Result<(), Fail>
+) -> Result<(), ToyError>
     requires kind { IsOneByte L.kinds kind }
     requires kept { IsKept L.kinds 4 buffer.old }
     ensures kept { OnOk result (IsKept L.kinds 4 buffer.new) }
     ensures registered { OnOk result (registered_of buffer.new ≡ registered_of buffer.old) }
 {
     if count > 250 || count % 2 != 0 {
-        return Err(Fail::new("an odd count of filler bytes, or more than 250"));
+        return Err(ToyError::Refused("an odd count of filler bytes, or more than 250"));
     }
     emit_due_island(buffer, kind, count, islands)?;
     let bytes = [0x44; 250];
@@ -306,14 +310,14 @@ fn put_use<L: MachInstLabelUse>(
     kind: L,
     label: u32,
     islands: &mut Vec<u32>,
-) -> Result<(), Fail>
+) -> Result<(), ToyError>
     requires kind { IsOneByte L.kinds kind }
     requires kept { IsKept L.kinds 4 buffer.old }
     ensures kept { OnOk result (IsKept L.kinds 4 buffer.new) }
     ensures registered { OnOk result (registered_of buffer.new ≡ registered_of buffer.old) }
 {
     if label >= 4 {
-        return Err(Fail::new("none of the four labels"));
+        return Err(ToyError::Refused("none of the four labels"));
     }
     emit_due_island(buffer, kind, 2, islands)?;
     put_window(buffer, kind, MachLabel::from_u32(label))?;
@@ -326,7 +330,7 @@ fn put_name<L: MachInstLabelUse>(
     kind: L,
     constant: VCodeConstant,
     islands: &mut Vec<u32>,
-) -> Result<(), Fail>
+) -> Result<(), ToyError>
     requires kind { IsOneByte L.kinds kind }
     requires kept { IsKept L.kinds 4 buffer.old }
     requires known { constant.number < length (registered_of buffer.old) }
@@ -402,7 +406,7 @@ pub fn put_item<L: MachInstLabelUse>(
     constants: &[Constant],
     item: Item,
     islands: &mut Vec<u32>,
-) -> Result<(), Fail>
+) -> Result<(), ToyError>
     requires kind { IsOneByte L.kinds kind }
     requires kept { IsKept L.kinds 4 buffer.old }
     requires registered { registered_of buffer.old ≡ constants.now }
@@ -414,7 +418,7 @@ pub fn put_item<L: MachInstLabelUse>(
         Item::Use(label) => put_use(buffer, kind, label, islands),
         Item::Bind(label) => {
             if label >= 4 {
-                return Err(Fail::new("none of the four labels"));
+                return Err(ToyError::Refused("none of the four labels"));
             }
             emit_due_island(buffer, kind, 0, islands)?;
             bind(buffer, label)?;
@@ -422,7 +426,7 @@ pub fn put_item<L: MachInstLabelUse>(
         }
         Item::Name(number) => {
             if number as usize >= constants.len() {
-                return Err(Fail::new("none of the constants"));
+                return Err(ToyError::Refused("none of the constants"));
             }
             put_name(buffer, kind, VCodeConstant::from_u32(number), islands)
         }
@@ -451,13 +455,13 @@ fn bind_each<L: MachInstLabelUse>(buffer: &mut MachBuffer<L>) -> Result<(), OutO
 fn bind_and_finish<L: MachInstLabelUse>(
     mut buffer: MachBuffer<L>,
     constants: &[Constant],
-) -> Result<Finished, Fail>
+) -> Result<Finished, ToyError>
     requires kept { IsKept L.kinds 4 buffer }
     requires registered { registered_of buffer ≡ constants.now }
 {
     bind_each(&mut buffer)?;
     if !buffer.has_room(0) {
-        return Err(Fail::new("no room"));
+        return Err(ToyError::Refused("no room"));
     }
     let finished = buffer.finish(constants)?;
     Ok(finished)
@@ -484,11 +488,11 @@ pub fn assemble<L: MachInstLabelUse>(
     constants: &[Constant],
     items: &[Item],
     islands: &mut Vec<u32>,
-) -> Result<Finished, Fail>
+) -> Result<Finished, ToyError>
     requires kind { IsOneByte L.kinds kind }
 {
     if constants.len() > 100 {
-        return Err(Fail::new("more than 100 constants"));
+        return Err(ToyError::Refused("more than 100 constants"));
     }
     let mut buffer = empty::<L>(alloc, constants)?;
     for item in items {
@@ -502,7 +506,7 @@ pub fn code_of_items(
     alloc: Global,
     constants: &[Constant],
     items: &[Item],
-) -> Result<Finished, Fail> {
+) -> Result<Finished, ToyError> {
     let mut islands = Vec::new(alloc);
     assemble(alloc, Toy::Short, constants, items, &mut islands)
 }

@@ -1,15 +1,25 @@
-//! Goes through code that runs on the machine: whole calls of rvrun, code whose relocations are filled, and loops that count.
+//! Goes through code that runs on the machine: whole calls of rvrun, code whose relocations are filled, loops that count, and calls by hand
+//! with arguments that no listing gives.
 #![tactic(auto)]
 
 mod bench;
+mod by_hand;
 mod calls;
+mod compiler;
 mod counts;
 mod error;
+mod generators;
 mod linked;
+mod loaded;
 mod numbers;
+mod placed;
+mod requests;
 mod script;
+mod settings;
+mod stops;
 
 use case_files::{Case, CaseError, Cases, blocks_of, expect_text, read, rows_of, run_cases};
+use error::told;
 use std::process::ExitCode;
 
 /// What a case is, by the ending of a file's name.
@@ -25,6 +35,8 @@ enum Question {
     Parts,
     /// The digest of what a line leaves of many numbers.
     Counts,
+    /// What calls by hand give.
+    ByHand,
 }
 
 fn question_of(ending: &str) -> Option<Question> {
@@ -34,6 +46,7 @@ fn question_of(ending: &str) -> Option<Question> {
         "linked" => Some(Question::Linked),
         "parts" => Some(Question::Parts),
         "counts" => Some(Question::Counts),
+        "calls" => Some(Question::ByHand),
         _ => None,
     }
 }
@@ -46,6 +59,7 @@ fn answer(rt: &HostRuntime, question: Question, given: &str) -> Result<String, C
         Question::Linked => script::played(rt, given),
         Question::Parts => Ok(linked::parts_text(rt.alloc(), given)?),
         Question::Counts => counts::digest_text(rt.alloc(), given),
+        Question::ByHand => told(rt.alloc(), by_hand::called(rt.alloc(), given)),
     }
 }
 
@@ -53,7 +67,7 @@ fn answer(rt: &HostRuntime, question: Question, given: &str) -> Result<String, C
 fn cases_of(rt: &HostRuntime, question: Question, path: &str) -> Result<Vec<Case>, CaseError> {
     let text = read(rt, path)?;
     match question {
-        Question::Run | Question::Linked => blocks_of(rt.alloc(), path, &text),
+        Question::Run | Question::Linked | Question::ByHand => blocks_of(rt.alloc(), path, &text),
         Question::Report | Question::Parts | Question::Counts => rows_of(rt.alloc(), path, &text),
     }
 }

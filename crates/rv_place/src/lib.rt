@@ -2,8 +2,6 @@
 #![tactic(auto)]
 
 mod placing;
-#[cfg(test)]
-mod rows;
 
 pub use placing::{Image, place};
 pub use rv_fill::PlaceError;

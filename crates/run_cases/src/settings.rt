@@ -1,11 +1,11 @@
 //! Settings of the vector unit, whose bits are the manual's (chapter "V", "Vector Type (vtype) Register") and whose texts an
 //! assembler reads.
 
+use crate::error::RunError;
 use rv_base::{IrType, LaneType, VectorType};
 use rv_vector::VecElementWidth::{E8, E16, E32, E64};
 use rv_vector::VecLmul::{Lmul1, Lmul2, Lmul4, Lmul8, LmulF2, LmulF4, LmulF8};
 use rv_vector::{VState, VType, VecAvl, VecElementWidth, VecLmul, VecMaskMode, VecTailMode};
-use std::alloc::AllocError;
 
 const TA: VecTailMode = VecTailMode::Agnostic;
 
@@ -32,51 +32,17 @@ const SETTINGS: [(VecElementWidth, VecLmul, VecTailMode, VecMaskMode); 14] = [
     (E64, LmulF2, TA, MA),
 ];
 
-/// The bits and the text of each.
-const SETTING_TEXTS: &str = "\
-00 e8, m1, tu, mu
-08 e16, m1, tu, mu
-10 e32, m1, tu, mu
-18 e64, m1, tu, mu
-01 e8, m2, tu, mu
-02 e8, m4, tu, mu
-03 e8, m8, tu, mu
-05 e8, mf8, tu, mu
-06 e8, mf4, tu, mu
-07 e8, mf2, tu, mu
-40 e8, m1, ta, mu
-80 e8, m1, tu, ma
-d0 e32, m1, ta, ma
-df e64, mf2, ta, ma
-";
-
-#[test]
-fn vector_types_have_their_bits(rt: HostRuntime) -> Result<(), AllocError> {
-    let mut text = String::new(rt.alloc());
-    for (sew, lmul, tail_mode, mask_mode) in &SETTINGS {
+pub(crate) fn write(text: &mut String) -> Result<(), RunError> {
+    for (sew, lmul, tail_mode, mask_mode) in SETTINGS {
         let vtype = VType {
-            sew: *sew,
-            lmul: *lmul,
-            tail_mode: *tail_mode,
-            mask_mode: *mask_mode,
+            sew,
+            lmul,
+            tail_mode,
+            mask_mode,
         };
         let bits = vtype.encode();
-        write!(text, "{bits:02x} {vtype}\n")?;
+        writeln!(text, "setting {bits:02x} {vtype}")?;
     }
-    assert_eq!(rt; text.as_str(), SETTING_TEXTS);
-    Ok(())
-}
-
-/// The lengths and the settings of `I32`, `F16`, sixteen bytes and two doubles.
-const TYPE_TEXTS: &str = "\
-#avl=1, #vtype=(e32, m1, ta, ma)
-#avl=1, #vtype=(e16, m1, ta, ma)
-#avl=16, #vtype=(e8, m1, ta, ma)
-#avl=2, #vtype=(e64, m1, ta, ma)
-";
-
-#[test]
-fn types_have_their_settings(rt: HostRuntime) -> Result<(), AllocError> {
     let bytes = IrType::Vector(VectorType {
         lane: LaneType::I8,
         lanes: 16,
@@ -85,18 +51,12 @@ fn types_have_their_settings(rt: HostRuntime) -> Result<(), AllocError> {
         lane: LaneType::F64,
         lanes: 2,
     });
-    let mut text = String::new(rt.alloc());
     for ty in [IrType::I32, IrType::F16, bytes, doubles] {
         let state = VState::from_type(ty);
-        write!(text, "{state}\n")?;
+        writeln!(text, "setting of {ty}: {state}")?;
     }
-    assert_eq!(rt; text.as_str(), TYPE_TEXTS);
-    Ok(())
-}
-
-#[test]
-fn lengths_stand_in_the_instruction(rt: HostRuntime) {
     let avl = VecAvl::_static(31);
-    assert!(rt; avl.is_static());
-    assert_eq!(rt; avl.unwrap_static().value, 31);
+    let (is_static, length) = (avl.is_static(), avl.unwrap_static().value);
+    writeln!(text, "length {length} in the instruction: {is_static}")?;
+    Ok(())
 }

@@ -1,11 +1,12 @@
 //! A caller of `assemble` as a compiler is one: lines made in code, and their bytes.
 
+use crate::error::RunError;
+use hex::encode;
 use rv_asm::assemble;
 use rv_base::{FrameLayout, IntCC, IrType, IsaFlags, MachLabel, a0, a1, writable_a0};
-use rv_inst::{CondBrTarget, Context, Inst, Line};
+use rv_inst::{Code, CondBrTarget, Context, Inst, Line};
 use rv_ops::IntegerCompare;
 use std::alloc::{AllocError, Global};
-use std::test::Fail;
 
 /// The greater of a0 and a1, signed, in a0.
 fn greater(alloc: Global) -> Result<Vec<Line>, AllocError> {
@@ -30,21 +31,24 @@ fn greater(alloc: Global) -> Result<Vec<Line>, AllocError> {
     Ok(lines)
 }
 
-// bge a0, a1, 8; addi a0, a1, 0; jalr zero, 0(ra): by the manual's tables, by hand
-#[test]
-fn lines_become_code(rt: HostRuntime) -> Result<(), Fail> {
-    let lines = greater(rt.alloc())?;
-    let frame = FrameLayout::none(rt.alloc());
+fn code(alloc: Global) -> Result<Code, RunError> {
+    let lines = greater(alloc)?;
+    let frame = FrameLayout::none(alloc);
     let context = Context {
         flags: IsaFlags::none(),
         frame: &frame,
         constants: &[],
     };
-    let code = assemble(rt.alloc(), &lines, &context)?;
-    let words = [
-        0x63, 0x54, 0xb5, 0x00, 0x13, 0x85, 0x05, 0x00, 0x67, 0x80, 0x00, 0x00,
-    ];
-    assert_eq!(rt; code.bytes.as_slice(), words.as_slice());
-    assert_eq!(rt; code.end, 12);
-    Ok(())
+    Ok(assemble(alloc, &lines, &context)?)
+}
+
+fn write_code(alloc: Global, text: &mut String, code: &Code) -> Result<(), RunError> {
+    let digits = encode(alloc, code.bytes.as_slice())?;
+    Ok(writeln!(text, "the greater of two: {digits}, end {}", code.end)?)
+}
+
+// bge a0, a1, 8; addi a0, a1, 0; jalr zero, 0(ra): by the manual's tables, by hand
+pub(crate) fn write(alloc: Global, text: &mut String) -> Result<(), RunError> {
+    let code = code(alloc)?;
+    write_code(alloc, text, &code)
 }

@@ -1,5 +1,6 @@
 //! The machine where it stops, and calls of rvrun over noise and over streams that fail.
 
+use crate::error::RunError;
 use rv_base::{IsaFlags, OutOfMemory};
 use rv_machine::{IntMachine, Step};
 use rv_run::{Silent, run};
@@ -30,14 +31,6 @@ fn ran(alloc: Global) -> Result<([u64; 5], Step), OutOfMemory> {
     Ok(([done, pc, a0, zero, more], machine.step()?))
 }
 
-#[test]
-fn machines_run(rt: HostRuntime) -> Result<(), OutOfMemory> {
-    let (numbers, last) = ran(rt.alloc())?;
-    assert_eq!(rt; numbers, [5, 0x2000, 0, 0, 0]);
-    assert!(rt; last == Step::Stopped);
-    Ok(())
-}
-
 /// The step at an odd pc.
 fn odd_step(alloc: Global) -> Result<Step, OutOfMemory> {
     let mut machine = looping(alloc)?;
@@ -54,13 +47,19 @@ fn break_step(alloc: Global) -> Result<(Step, [u8; 2]), OutOfMemory> {
     Ok((step, [machine.byte(0), machine.byte(1)]))
 }
 
-#[test]
-fn machines_stop(rt: HostRuntime) -> Result<(), OutOfMemory> {
-    let odd = odd_step(rt.alloc())?;
-    assert!(rt; odd == Step::Stopped);
-    let (step, bytes) = break_step(rt.alloc())?;
-    assert!(rt; step == Step::Stopped);
-    assert_eq!(rt; bytes, [0x10, 0]);
+fn machines(alloc: Global, text: &mut String) -> Result<(), RunError> {
+    let ([done, pc, a0, zero, more], last) = ran(alloc)?;
+    writeln!(
+        text,
+        "five steps of a loop: {done}, pc {pc:x}, a0 {a0}, zero {zero}, then {more}, {last:?}"
+    )?;
+    let odd = odd_step(alloc)?;
+    writeln!(text, "a step at an odd pc: {odd:?}")?;
+    let (step, [low, high]) = break_step(alloc)?;
+    writeln!(
+        text,
+        "a step at ebreak round the end of memory, whose bytes at 0 are {low:x} and {high:x}: {step:?}"
+    )?;
     Ok(())
 }
 
@@ -110,13 +109,6 @@ fn status_of_noise(alloc: Global, words: &str) -> Result<u8, AllocError> {
     status_of(alloc, words, &mut SureSource::new(&noise), &mut sink)
 }
 
-#[test]
-fn noise_is_no_input(rt: HostRuntime) -> Result<(), AllocError> {
-    assert_eq!(rt; status_of_noise(rt.alloc(), "")?, 3);
-    assert_eq!(rt; status_of_noise(rt.alloc(), "--hex")?, 3);
-    Ok(())
-}
-
 /// The status of a call whose second read fails.
 fn status_of_bad_read(alloc: Global) -> Result<u8, AllocError> {
     let failing = [1];
@@ -133,9 +125,14 @@ fn status_of_bad_write(alloc: Global) -> Result<u8, AllocError> {
     status_of(alloc, "a0=5", &mut source, &mut sink)
 }
 
-#[test]
-fn streams_may_fail(rt: HostRuntime) -> Result<(), AllocError> {
-    assert_eq!(rt; status_of_bad_read(rt.alloc())?, 5);
-    assert_eq!(rt; status_of_bad_write(rt.alloc())?, 6);
+pub(crate) fn write(alloc: Global, text: &mut String) -> Result<(), RunError> {
+    machines(alloc, text)?;
+    for words in ["", "--hex"] {
+        let status = status_of_noise(alloc, words)?;
+        writeln!(text, "rvrun {words} over noise: {status}")?;
+    }
+    let (read, written) = (status_of_bad_read(alloc)?, status_of_bad_write(alloc)?);
+    writeln!(text, "rvrun where the second read fails: {read}")?;
+    writeln!(text, "rvrun where the second write fails: {written}")?;
     Ok(())
 }

@@ -1,0 +1,116 @@
+//! Code that is placed, and where none can stand, by the psABI.
+
+use crate::error::RunError;
+use hex::encode;
+use rv_asm::{assemble, read_job};
+use rv_base::ExternalName;
+use rv_inst::{Code, Context};
+use rv_place::{Image, place};
+use std::alloc::Global;
+
+/// A symbol and its address.
+type Address = (ExternalName, u64);
+
+/// The code of a listing.
+fn code_of(alloc: Global, listing: &[u8]) -> Result<Code, RunError> {
+    let job = read_job(alloc, listing)?;
+    let context = Context {
+        flags: job.flags,
+        frame: &job.frame,
+        constants: job.constants.as_slice(),
+    };
+    Ok(assemble(alloc, job.lines.as_slice(), &context)?)
+}
+
+fn write_image(
+    alloc: Global,
+    text: &mut String,
+    what: &str,
+    image: &Image,
+) -> Result<(), RunError> {
+    let digits = encode(alloc, image.bytes.as_slice())?;
+    Ok(writeln!(text, "{what} at {:x}: {digits}", image.base)?)
+}
+
+/// Writes the bytes of code at an address, or why it can't stand there.
+fn write_placed(
+    alloc: Global,
+    text: &mut String,
+    what: &str,
+    code: &Code,
+    base: u64,
+    symbols: &[Address],
+    slots: &[Address],
+) -> Result<(), RunError> {
+    match place(alloc, code, base, symbols, slots) {
+        Ok(image) => write_image(alloc, text, what, &image),
+        Err(error) => Ok(writeln!(text, "{what} at {base:x}: {error:?}")?),
+    }
+}
+
+/// Where a call stands, and where its symbol is.
+const CALLS: [(u64, u64); 8] = [
+    (0x10000, 0x8000f7ff),
+    (0x10000, 0x8000f800),
+    (0x80010000, 0xf800),
+    (0x80010000, 0xf7ff),
+    (2, 0x12345),
+    (0xfffffffffffffff8, 0),
+    (0xfffffffffffffffc, 0),
+    (0, 0xffffffffffffffff),
+];
+
+fn write_calls(alloc: Global, text: &mut String, code: &Code) -> Result<(), RunError> {
+    let name = ExternalName::from_u32(0);
+    for (base, symbol) in CALLS {
+        writeln!(text, "a symbol at {symbol:x}")?;
+        write_placed(alloc, text, "its call", code, base, &[(name, symbol)], &[])?;
+    }
+    let slots = [(name, 0x12345)];
+    write_placed(alloc, text, "a call of a slot", code, 0x10000, &[], &slots)?;
+    let twice = [(name, 0x12345), (name, 0)];
+    write_placed(
+        alloc,
+        text,
+        "a call of what stands first",
+        code,
+        0x10000,
+        &twice,
+        &[],
+    )
+}
+
+fn calls(alloc: Global, text: &mut String) -> Result<(), RunError> {
+    let code = code_of(alloc, b"Call userextname0 - - - 0 0 - -\n")?;
+    write_calls(alloc, text, &code)
+}
+
+fn write_loads(alloc: Global, text: &mut String, code: &Code) -> Result<(), RunError> {
+    let symbols = [(ExternalName::from_u32(1), 0x10809)];
+    let slots = [(ExternalName::from_u32(0), 0xf7f8)];
+    write_placed(
+        alloc,
+        text,
+        "loads of addresses",
+        code,
+        0x10000,
+        &symbols,
+        &slots,
+    )?;
+    write_placed(
+        alloc,
+        text,
+        "loads of others",
+        code,
+        0x10000,
+        &slots,
+        &symbols,
+    )
+}
+
+pub(crate) fn write(alloc: Global, text: &mut String) -> Result<(), RunError> {
+    calls(alloc, text)?;
+    let listing = b"LoadExtNameGot a0 userextname0\nLoadExtNameNear a1 userextname1 -1\n";
+    let code = code_of(alloc, listing)?;
+    write_loads(alloc, text, &code)
+}
