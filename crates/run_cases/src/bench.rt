@@ -6,22 +6,38 @@ use crate::error::RunError;
 use crate::linked::Placing;
 use crate::numbers::pair;
 use rv_asm::assemble;
-use rv_base::{IsaFlags, OutOfMemory};
-use rv_inst::{Code, Context, Job};
+use rv_base::{FrameLayout, IsaFlags, OutOfMemory};
+use rv_inst::{Code, Context, Line};
 use rv_listing::{read_job, report};
 use rv_machine::{IntMachine, Step};
 use std::alloc::Global;
 
-/// The job of a listing, and its code.
-pub(crate) fn code_of(alloc: Global, text: &str) -> Result<(Job, Code), RunError> {
+/// The code of lines, of which nothing is promised, so that what calls it need not carry what `assemble` promises.
+fn assembled(alloc: Global, lines: &[Line], context: &Context) -> Result<Code, RunError> {
+    Ok(assemble(alloc, lines, context)?)
+}
+
+/// The code of lines that need no flags, frame or constants.
+pub(crate) fn plain_code(alloc: Global, lines: &[Line]) -> Result<Code, RunError> {
+    let frame = FrameLayout::none(alloc);
+    let context = Context {
+        flags: IsaFlags::none(),
+        frame: &frame,
+        constants: &[],
+    };
+    assembled(alloc, lines, &context)
+}
+
+/// The flags of a listing, and its code.
+pub(crate) fn code_of(alloc: Global, text: &str) -> Result<(IsaFlags, Code), RunError> {
     let job = read_job(alloc, text.as_bytes())?;
     let context = Context {
         flags: job.flags,
         frame: &job.frame,
         constants: job.constants.as_slice(),
     };
-    let code = assemble(alloc, job.lines.as_slice(), &context)?;
-    Ok((job, code))
+    let code = assembled(alloc, job.lines.as_slice(), &context)?;
+    Ok((job.flags, code))
 }
 
 /// Returns whether each step is done until the machine is at an address, in at most 10,000 steps.
@@ -91,17 +107,26 @@ impl Bench {
         Ok(())
     }
 
-    /// Puts the code of a listing at the base; the first code makes the machine.
-    pub(crate) fn put_code(&mut self, listing: &str) -> Result<(), RunError> {
-        let (job, code) = code_of(self.alloc, listing)?;
+    /// Puts code at the base; the first makes the machine.
+    fn place(&mut self, flags: IsaFlags, code: &Code) -> Result<(), RunError> {
         if !self.has_code {
-            self.make_machine(job.flags)?;
+            self.make_machine(flags)?;
         }
         let placing = self.placing;
-        placing.place(&mut self.machine, &code)?;
-        let text = report(self.alloc, &code)?;
+        placing.place(&mut self.machine, code)
+    }
+
+    fn keep_report(&mut self, code: &Code) -> Result<(), RunError> {
+        let text = report(self.alloc, code)?;
         self.report = String::from_utf8_lossy(self.alloc, text.as_slice())?;
         Ok(())
+    }
+
+    /// Puts the code of a listing at the base; the first code makes the machine.
+    pub(crate) fn put_code(&mut self, listing: &str) -> Result<(), RunError> {
+        let (flags, code) = code_of(self.alloc, listing)?;
+        self.place(flags, &code)?;
+        self.keep_report(&code)
     }
 
     /// Keeps the registers as they are.

@@ -2,7 +2,7 @@
 
 use case_files::{CaseError, read};
 use rv_run::{Silent, run};
-use rv_stream::{SureSink, SureSource};
+use rv_stream::{Sink, Source, SureSink, SureSource};
 use std::alloc::{AllocError, Global};
 
 /// The words between the spaces of a text.
@@ -16,12 +16,26 @@ fn words_of(alloc: Global, text: &str) -> Result<Vec<String>, AllocError> {
     Ok(words)
 }
 
+/// The status of a call with these words.
+pub(crate) fn status_of<S: Source, K: Sink>(
+    alloc: Global,
+    words: &str,
+    source: &mut S,
+    sink: &mut K,
+) -> Result<u8, AllocError> {
+    let words = words_of(alloc, words)?;
+    Ok(run(alloc, &words, source, sink, &mut Silent).status())
+}
+
 /// The status of a call with these words over an input, a space, and its text.
 pub(crate) fn called(alloc: Global, words: &str, input: &str) -> Result<String, CaseError> {
-    let words = words_of(alloc, words)?;
     let mut sink = SureSink::new(alloc);
-    let mut source = SureSource::new(input.as_bytes());
-    let status = run(alloc, &words, &mut source, &mut sink, &mut Silent).status();
+    let status = status_of(
+        alloc,
+        words,
+        &mut SureSource::new(input.as_bytes()),
+        &mut sink,
+    )?;
     let mut text = format!(in alloc; "{status} ")?;
     text.push_str(&String::from_utf8_lossy(alloc, sink.bytes())?)?;
     Ok(text)

@@ -1,10 +1,10 @@
 //! A caller of `assemble` as a compiler is one: lines made in code, and their bytes.
 
+use crate::bench::plain_code;
 use crate::error::RunError;
 use hex::encode;
-use rv_asm::assemble;
-use rv_base::{FrameLayout, IntCC, IrType, IsaFlags, MachLabel, a0, a1, writable_a0};
-use rv_inst::{Code, CondBrTarget, Context, Inst, Line};
+use rv_base::{IntCC, IrType, MachLabel, a0, a1, writable_a0};
+use rv_inst::{Code, CondBrTarget, Inst, Line};
 use rv_ops::IntegerCompare;
 use std::alloc::{AllocError, Global};
 
@@ -33,13 +33,7 @@ fn greater(alloc: Global) -> Result<Vec<Line>, AllocError> {
 
 fn code(alloc: Global) -> Result<Code, RunError> {
     let lines = greater(alloc)?;
-    let frame = FrameLayout::none(alloc);
-    let context = Context {
-        flags: IsaFlags::none(),
-        frame: &frame,
-        constants: &[],
-    };
-    Ok(assemble(alloc, &lines, &context)?)
+    plain_code(alloc, &lines)
 }
 
 fn write_code(alloc: Global, text: &mut String, code: &Code) -> Result<(), RunError> {

@@ -2,15 +2,15 @@
 
 ghost use Rattle.rv_imms.specs.Splitting.{IsSplittable};
 
+use crate::bench::plain_code;
 use crate::error::RunError;
 use hex::encode;
-use rv_asm::assemble;
 use rv_base::{
-    AMode, FrameLayout, IrType, IsaFlags, MemFlagsData, RegClass, WritableReg, a0, a1, f_reg,
-    writable_a0, writable_a2, writable_fa1, writable_link_reg,
+    AMode, IrType, MemFlagsData, RegClass, WritableReg, a0, a1, f_reg, writable_a0, writable_a2,
+    writable_fa1, writable_link_reg,
 };
 use rv_imms::{Imm12, imm_max, imm_min};
-use rv_inst::{Context, Inst, Line, SmallInstVec, gen_moves};
+use rv_inst::{Inst, Line, SmallInstVec, gen_moves};
 use std::alloc::{AllocError, Global};
 
 /// Constants of 64 bits.
@@ -36,13 +36,7 @@ fn lines_of(alloc: Global, insts: SmallInstVec) -> Result<Vec<Line>, AllocError>
 /// The bytes of instructions, in hexadecimal digits.
 fn code_of(alloc: Global, insts: SmallInstVec) -> Result<String, RunError> {
     let lines = lines_of(alloc, insts)?;
-    let frame = FrameLayout::none(alloc);
-    let context = Context {
-        flags: IsaFlags::none(),
-        frame: &frame,
-        constants: &[],
-    };
-    let code = assemble(alloc, &lines, &context)?;
+    let code = plain_code(alloc, &lines)?;
     Ok(encode(alloc, code.bytes.as_slice())?)
 }
 

@@ -1,26 +1,15 @@
 //! Code that is placed, and where none can stand, by the psABI.
 
+use crate::bench::code_of;
 use crate::error::RunError;
 use hex::encode;
-use rv_asm::{assemble, read_job};
 use rv_base::ExternalName;
-use rv_inst::{Code, Context};
+use rv_inst::Code;
 use rv_place::{Image, place};
 use std::alloc::Global;
 
 /// A symbol and its address.
 type Address = (ExternalName, u64);
-
-/// The code of a listing.
-fn code_of(alloc: Global, listing: &[u8]) -> Result<Code, RunError> {
-    let job = read_job(alloc, listing)?;
-    let context = Context {
-        flags: job.flags,
-        frame: &job.frame,
-        constants: job.constants.as_slice(),
-    };
-    Ok(assemble(alloc, job.lines.as_slice(), &context)?)
-}
 
 fn write_image(
     alloc: Global,
@@ -81,7 +70,7 @@ fn write_calls(alloc: Global, text: &mut String, code: &Code) -> Result<(), RunE
 }
 
 fn calls(alloc: Global, text: &mut String) -> Result<(), RunError> {
-    let code = code_of(alloc, b"Call userextname0 - - - 0 0 - -\n")?;
+    let (_, code) = code_of(alloc, "Call userextname0 - - - 0 0 - -\n")?;
     write_calls(alloc, text, &code)
 }
 
@@ -110,7 +99,7 @@ fn write_loads(alloc: Global, text: &mut String, code: &Code) -> Result<(), RunE
 
 pub(crate) fn write(alloc: Global, text: &mut String) -> Result<(), RunError> {
     calls(alloc, text)?;
-    let listing = b"LoadExtNameGot a0 userextname0\nLoadExtNameNear a1 userextname1 -1\n";
-    let code = code_of(alloc, listing)?;
+    let listing = "LoadExtNameGot a0 userextname0\nLoadExtNameNear a1 userextname1 -1\n";
+    let (_, code) = code_of(alloc, listing)?;
     write_loads(alloc, text, &code)
 }

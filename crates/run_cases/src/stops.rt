@@ -1,10 +1,10 @@
 //! The machine where it stops, and calls of rvrun over noise and over streams that fail.
 
+use crate::calls::status_of;
 use crate::error::RunError;
 use rv_base::{IsaFlags, OutOfMemory};
 use rv_machine::{IntMachine, Step};
-use rv_run::{Silent, run};
-use rv_stream::{MemSink, MemSource, Sink, Source, SureSink, SureSource};
+use rv_stream::{MemSink, MemSource, SureSink, SureSource};
 use std::alloc::{AllocError, Global};
 
 /// A machine with the loop `addi a0, a0, -1; bne a0, zero, -4; jalr zero, 0(ra)`, before two turns of it.
@@ -47,47 +47,27 @@ fn break_step(alloc: Global) -> Result<(Step, [u8; 2]), OutOfMemory> {
     Ok((step, [machine.byte(0), machine.byte(1)]))
 }
 
-fn machines(alloc: Global, text: &mut String) -> Result<(), RunError> {
+fn write_loop(alloc: Global, text: &mut String) -> Result<(), RunError> {
     let ([done, pc, a0, zero, more], last) = ran(alloc)?;
-    writeln!(
+    Ok(writeln!(
         text,
         "five steps of a loop: {done}, pc {pc:x}, a0 {a0}, zero {zero}, then {more}, {last:?}"
-    )?;
+    )?)
+}
+
+fn write_stops(alloc: Global, text: &mut String) -> Result<(), RunError> {
     let odd = odd_step(alloc)?;
-    writeln!(text, "a step at an odd pc: {odd:?}")?;
     let (step, [low, high]) = break_step(alloc)?;
-    writeln!(
+    writeln!(text, "a step at an odd pc: {odd:?}")?;
+    Ok(writeln!(
         text,
         "a step at ebreak round the end of memory, whose bytes at 0 are {low:x} and {high:x}: {step:?}"
-    )?;
-    Ok(())
+    )?)
 }
 
 /// The report of a loop that counts a0 down.
 const COUNTDOWN: &str =
     "code 12\n00000000 1305f5ffe31e05fe67800000\nline 0 0 0\nline 1 0 4\nline 2 4 8\nline 3 8 12\nlabel L0 0\nend 12\n";
-
-/// The words between the spaces of a text.
-fn words_of(alloc: Global, text: &str) -> Result<Vec<String>, AllocError> {
-    let mut words = Vec::new(alloc);
-    for word in text.split(' ') {
-        if !word.is_empty() {
-            words.push(String::from_str(alloc, word)?)?;
-        }
-    }
-    Ok(words)
-}
-
-/// The status of a call with these words.
-fn status_of<S: Source, K: Sink>(
-    alloc: Global,
-    words: &str,
-    source: &mut S,
-    sink: &mut K,
-) -> Result<u8, AllocError> {
-    let words = words_of(alloc, words)?;
-    Ok(run(alloc, &words, source, sink, &mut Silent).status())
-}
 
 /// Puts bytes that look random.
 fn put_noise(noise: &mut Vec<u8>, count: usize) -> Result<(), AllocError> {
@@ -125,14 +105,21 @@ fn status_of_bad_write(alloc: Global) -> Result<u8, AllocError> {
     status_of(alloc, "a0=5", &mut source, &mut sink)
 }
 
-pub(crate) fn write(alloc: Global, text: &mut String) -> Result<(), RunError> {
-    machines(alloc, text)?;
-    for words in ["", "--hex"] {
-        let status = status_of_noise(alloc, words)?;
-        writeln!(text, "rvrun {words} over noise: {status}")?;
-    }
+fn write_statuses(alloc: Global, text: &mut String) -> Result<(), AllocError> {
+    let (noise, digits) = (
+        status_of_noise(alloc, "")?,
+        status_of_noise(alloc, "--hex")?,
+    );
+    writeln!(text, "rvrun over noise: {noise}, with --hex: {digits}")?;
     let (read, written) = (status_of_bad_read(alloc)?, status_of_bad_write(alloc)?);
-    writeln!(text, "rvrun where the second read fails: {read}")?;
-    writeln!(text, "rvrun where the second write fails: {written}")?;
-    Ok(())
+    writeln!(
+        text,
+        "rvrun where the second read fails: {read}, where the second write: {written}"
+    )
+}
+
+pub(crate) fn write(alloc: Global, text: &mut String) -> Result<(), RunError> {
+    write_loop(alloc, text)?;
+    write_stops(alloc, text)?;
+    Ok(write_statuses(alloc, text)?)
 }
