@@ -1,7 +1,8 @@
 //! Whole calls of rvrun.
 
 use case_files::{CaseError, read};
-use rv_run::{Silent, run};
+use rv_run::run;
+use rv_steps::Silent;
 use rv_stream::{Sink, Source, SureSink, SureSource};
 use std::alloc::{AllocError, Global};
 

@@ -4,7 +4,7 @@ use Rattle.rv_asm.proofs.Spans.{bound_by_append, bound_by_more, get_drop, open_l
 use Rattle.rv_asm.proofs.Words.{[], AfterLastIsland, aligned, ap, append_each, Appends, AppendsIsland, AppendsSequence, arith, before_or_last, Bind, BindPut, Bool, both_lists, both_ways, bound_by, bound_kept, bound_pending, broken_rule, Buffer, bytes_of, cases_Bool, cases_eq, cases_lt, cond}
 use Rattle.rv_asm.proofs.Words.{constants_end, constants_named, constants_of, constants_taken, constants_waiting, Context, deadline, deadlines, deadlines_as, direct_never_pending, drop, Each, each_none, emitted_keeps, end_before, end_of, EndsIn, false, false_from_ne_true, first_after_island}
 use Rattle.rv_asm.proofs.Words.{first_inner, forward_of, from_of, Gap, has_veneer_of, inl, inr, Inst, inst_rule, is_buffer_label, is_pending, IsDue, island_after, island_end, IslandAsked, IslandIfNeeded, Jal20, keeps, label_kinds, LabelUse, le-ltb, leb-false, length, length-append, length-drop}
-use Rattle.rv_asm.proofs.Words.{length-take-le, Line, line_space, LineSpan, LinesStand, List, listed_try, lt-ltb, MachLabel, map, named_of, nat_lt, nat_tests, no_own, None, none-some, none_pending, NotEarly, Option, or_left, or_place, or_right, passing, pending, pending_at, pending_still, place_of}
+use Rattle.rv_asm.proofs.Words.{length-take-le, Line, line_space, LineSpan, LinesStand, List, lt-ltb, MachLabel, map, named_of, nat_lt, nat_tests, no_own, None, none-some, none_pending, NotEarly, Option, or_left, or_place, or_right, passing, pending, pending_at, pending_still, place_of}
 use Rattle.rv_asm.proofs.Words.{Put, refl, registered_of, request_of, room_keeps, same_Some, shape_of, slice_get, slice_get_within, Some, space_in, start_of, still_pending, subst, suc, sym, take, take-append-le, take_all, target_names as labels_of, targets_of, to_of, true, true≢false, try_call_of}
 use Rattle.{rv_asm.proofs.Words.{try_labels, unplaced_of, Use, uses_after_island, uses_from, uses_in, uses_of, VCodeConstant, waiting, ℕ, ⊎_elim, ◌++◌, ◌+◌, ◌-◌, ◌<◌, ◌||◌, ◌∙◌, ◌∷◌, ◌≡◌, ◌≤◌, ◌⊎◌}, std.proofs.lemmas.List.append-nil}
 

@@ -1,5 +1,5 @@
 -- Code that was built and finished keeps what is promised of it.
-use Rattle.{mach_buffer.proofs.LastVeneers.padding_for, rv_asm.{proofs.AfterLastIsland.{constants_left, uses_waiting}, proofs.Images.{data_there, fields_after, fields_within, is_filled, keeps_outside, placed_at, puts_split, reloc_ends, trap_if_there, trap_reported, trap_there}, proofs.LabelNames.{bound_place, finished_short}}}
+use Rattle.{mach_buffer.proofs.LastVeneers.padding_for, rv_asm.{proofs.AfterLastIsland.{constants_left, uses_waiting}, proofs.Images.{data_there, fields_after, fields_within, is_filled, keeps_outside, placed_at, puts_split, reloc_ends, trap_after_there, trap_reported, trap_there}, proofs.LabelNames.{bound_place, finished_short}}}
 use Rattle.rv_asm.{proofs.LineRecords.{LineSpread, constants_unfilled, fields_apart, fields_in_lines, handlers_reported, lines_save}, proofs.LinesInBuffer.{gap_within, outside_more}, proofs.LinesJoin.{full_runs, IsThreaded, Known, LineIn, site_of, threaded_runs}}
 use Rattle.rv_asm.{proofs.RefusalOrder.{accepted_frame, accepted_lines, AllBound, bind_at, names_bound, no_rule_broken, none_stuck, parts, sum_small}, proofs.Spans.line_at}
 use Rattle.rv_asm.proofs.Words.{[], access_slots, Addresses, adds_end, AddsConstants, AfterLastIsland, Fixup, AllByRecursion, AllBytes, ap, AreWindows, arith, B12, backward_of, Base, Bind, binding_line, binds_from, branch_to, broken_rule, Buffer, bytes_of, calls_in, cases_eq, Code, code_limit}
@@ -102,7 +102,7 @@ module _ (job : Job) (code : Code) (gaps : List Gap) (b : Buffer) (built : Lines
     fields_apart = λ j k r s differ e g. fields_apart (context_of job) code.bytes code.lines gaps (shape_of b) job.lines built.count spread spans_joined j k r s differ (reloc_of relocs j r e) (reloc_of relocs k s g);
     raw_data = data_there job code gaps b built f relocs;
     udf = trap_there job code gaps b built f relocs;
-    trap_if = trap_if_there job code gaps b built f relocs;
+    trap_after = trap_after_there job code gaps b built f relocs;
   }
 
 -- ==== Code that a buffer of lines was finished to runs as its job says.

@@ -1,14 +1,14 @@
 -- Code that stands in the memory, filled by a linker, by what relocations ask and by what the buffer recorded.
 use Rattle.{mach_records.specs.declared.records.FinalizedRelocTarget.FinalizedRelocTarget, rv_asm.proofs.Spans.{get_after, of_cond}}
-use Rattle.rv_asm.proofs.Words.{[], Abs8, address_of_name, Addresses, AddressOf, Aims, aligned, AllClear, AllEnd, ap, arith, bits_back, Buffer, byte, bytes_from, call_event, clear_there, Code, complement_of, Context, context_of, distance_to, end_of, ends_later, EndsWithin, Event, event_recorded}
-use Rattle.rv_asm.proofs.Words.{ExternalName, field_size, FieldsEnd, FieldsStand, flat_map, Gap, Here, HoldsDistance, inl, inr, IntegerCompare, IsaFlags, IsFilled, IsFilledAt, IsFilledWith, IsFinishedTo, IsLinkedWith, IsOutside, IsPlaced, IsPlacedAt, IsRecorded, IsTrapAt, Job, KeepsOutside}
-use Rattle.rv_asm.proofs.Words.{label_kinds, LabelUse, Lasts, lasts_after_slots, lasts_more, length, length-append, LinesStand, List, locate, low64, lower_event, MachRecord, MachReloc, marks_of, Memory, no_offsets, None, Records, number_of, Option, parts_of, PartsIn, PCRel32, PCRelHi20, PCRelLo12I}
-use Rattle.rv_asm.proofs.Words.{piece_finished, pos, Put, Puts, puts_bytes, puts_ends, record_relocs, record_traps, records_of, refl, Reloc, relocs_in, RiscvCallPlt, RiscvGotHi20, RiscvPCRelHi20, RiscvPCRelLo12I, same_number_lists, same_Some, SameOutside, Shape, shape_of, Site, size_of}
-use Rattle.rv_asm.proofs.Words.{slice_get, slice_get-append, slice_index, Slot, slot_fields_end, SlotOf, SlotsIn, Some, Stands, start_of, subst, suc, sym, Symbol, Trap, trap_bytes, trap_size, TrapCode, traps_in, unwrap_or, upper_event, window, window_byte, window_length, wrap, zero}
-use Rattle.{rv_asm.proofs.Words.{zeros, ℕ, ℤ, ⊎_elim, ◌++◌, ◌+◌, ◌-ℤ◌, ◌-◌, ◌<◌, ◌^◌, ◌∙◌, ◌∷◌, ◌≡◌, ◌≤◌}, rv_code.specs.Pieces.{Branch, New, slots_of}, rv_code.specs.Slots.Data, std.specs.Int.{to_le_bytes, w64}, std.specs.Option.option_map}
+use Rattle.rv_asm.proofs.Words.{[], Abs8, address_of_name, Addresses, AddressOf, Aims, AllClear, AllEnd, ap, arith, bits_back, Buffer, byte, bytes_from, call_event, clear_there, Code, Context, context_of, distance_to, end_of, ends_later, EndsWithin, Event, event_recorded}
+use Rattle.rv_asm.proofs.Words.{ExternalName, field_size, FieldsEnd, FieldsStand, flat_map, Gap, HoldsDistance, inl, inr, IsaFlags, IsFilled, IsFilledAt, IsFilledWith, IsFinishedTo, IsLinkedWith, IsOutside, IsPlaced, IsPlacedAt, IsRecorded, IsTrapAt, Job, KeepsOutside}
+use Rattle.rv_asm.proofs.Words.{label_kinds, LabelUse, Lasts, lasts_after_slots, lasts_more, length, length-append, LinesStand, List, locate, low64, lower_event, MachRecord, MachReloc, marks_of, Memory, no_offsets, None, Records, Option, parts_of, PartsIn, PCRel32, PCRelHi20, PCRelLo12I}
+use Rattle.rv_asm.proofs.Words.{piece_finished, pos, Put, Puts, puts_bytes, puts_ends, record_relocs, record_traps, records_of, refl, Reloc, relocs_in, RiscvCallPlt, RiscvGotHi20, RiscvPCRelHi20, RiscvPCRelLo12I, same_number_lists, same_Some, SameOutside, Shape, shape_of, Site, size_of, slots_alone}
+use Rattle.rv_asm.proofs.Words.{slice_get, slice_get-append, slice_index, Slot, slot_fields_end, SlotOf, SlotsIn, Some, Stands, start_of, subst, suc, sym, Symbol, trap_bytes, trap_size, TrapCode, traps_in, unwrap_or, upper_event, window, window_byte, window_length, wrap, zero}
+use Rattle.{rv_asm.proofs.Words.{zeros, ℕ, ℤ, ⊎_elim, ◌++◌, ◌+◌, ◌-ℤ◌, ◌-◌, ◌<◌, ◌^◌, ◌∙◌, ◌∷◌, ◌≡◌, ◌≤◌}, rv_code.specs.Slots.Data, std.specs.Int.{to_le_bytes, w64}, std.specs.Option.option_map}
 use Rattle.mach_records.specs.declared.records.Event.TheVariants as event
 use Rattle.mach_records.specs.declared.records.FinalizedRelocTarget.TheVariants as target
-use Rattle.rv_inst.specs.declared.inst.Inst.TheVariants.{RawData, TrapIf, Udf}
+use Rattle.{rv_code.proofs.MadeOfPieces.{TrapsStand, code_given, trap_given}, rv_inst.{specs.Descriptions.recorded_of, specs.Records.TrapAfter, specs.declared.inst.Inst.Inst, specs.declared.inst.Inst.TheVariants.{RawData, Udf}}}
 
 -- ---- bytes of a memory
 
@@ -269,10 +269,12 @@ module _ (job : Job) (code : Code) (gaps : List Gap) (b : Buffer) (built : Lines
       subst (Stands code (start_of code.lines i)) (trap_zeros job.flags)
       (found (start_of code.lines i + size_of slots) (start_of code.lines i) (trap_bytes job.flags) (omega arith) (data_found job.flags (shape_of b) code.bytes fin slots (trap_bytes job.flags) [] (start_of code.lines i) parts.0 parts.1))
 
-  pub trap_if_there : (i : ℕ) (cmp : IntegerCompare) (cause : TrapCode) → slice_get job.lines i ≡ Some (Put (TrapIf cmp cause)) → Stands code (start_of code.lines i + 4) (zeros (trap_size job.flags))
-  trap_if_there i cmp cause e =
-      let stood = (built.each i (Put (TrapIf cmp cause)) e).there in
-      let parts : PartsIn job.flags (parts_of (context_of job) stood.0 (TrapIf cmp cause)) (shape_of b) (start_of code.lines i) (end_of code.lines i) = stood.1 in
-      let slots = slots_of job.flags (New ∷ Branch (complement_of cmp.kind) (number_of cmp.rs1) (number_of cmp.rs2) 0 ∷ []) ++ Records (event.Trap cause) ∷ [] in
-      subst (Stands code (start_of code.lines i + 4)) (trap_zeros job.flags)
-      (found (start_of code.lines i + size_of slots) (start_of code.lines i + 4) (trap_bytes job.flags) (omega arith) (data_found job.flags (shape_of b) code.bytes fin slots (trap_bytes job.flags) (Here 0 ∷ []) (start_of code.lines i) parts.0 parts.1))
+  pub trap_after_there : (i : ℕ) (inst : Inst) (after : ℕ) (cause : TrapCode) → slice_get job.lines i ≡ Some (Put inst) → recorded_of inst ≡ TrapAfter after cause → Stands code (start_of code.lines i + after) (zeros (trap_size job.flags))
+  trap_after_there i inst after cause e records =
+      let stood = (built.each i (Put inst) e).there in
+      let facts = trap_given inst records in
+      let given = code_given (context_of job) stood.0 inst facts.0 facts.1 in
+      let trap : TrapsStand job.flags (TrapAfter after cause) given.slots = subst (λ r. TrapsStand job.flags r given.slots) records given.traps in
+      let parts : PartsIn job.flags (slots_alone (trap.0 ++ Data (trap_bytes job.flags) ∷ trap.1)) (shape_of b) (start_of code.lines i) (end_of code.lines i) = subst (λ ps. PartsIn job.flags ps (shape_of b) (start_of code.lines i) (end_of code.lines i)) (given.parts ∙ ap slots_alone trap.2) stood.1 in
+      subst (Stands code (start_of code.lines i + after)) (trap_zeros job.flags)
+      (found (start_of code.lines i + size_of trap.0) (start_of code.lines i + after) (trap_bytes job.flags) (ap (λ n. start_of code.lines i + n) trap.3) (data_found job.flags (shape_of b) code.bytes fin trap.0 (trap_bytes job.flags) trap.1 (start_of code.lines i) parts.0 parts.1))

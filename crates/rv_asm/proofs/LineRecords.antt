@@ -5,8 +5,7 @@ use Rattle.rv_asm.proofs.Words.{handler_label, inl, inr, Inst, inst_records, ins
 use Rattle.rv_asm.proofs.Words.{named_labels, None, offset_or_zero, Option, patch_records, place_of, Put, record_relocs, record_unwinds, records_from, refl, Reloc, relocs_in, Request, request_of, return_records, same_Some, SavesReal, Shape, slice_get, slice_get_within, Some, sp_to_fp_of, SpansIn}
 use Rattle.{rv_asm.proofs.Words.{StandOutside, start_of, StepSaves, subst, suc, sym, to_of, TrapCode, tries_in, true, try_labels, TryCallInfo, unwinds_in, unwrap_or, UserStackMap, Virtual, zero, ℕ, ⊎_elim, ◌++◌, ◌+◌, ◌-◌, ◌<◌, ◌∙◌, ◌∷◌, ◌≡◌, ◌≢◌, ◌≤◌, ◌⊎◌}, rv_base.specs.declared.call.CallInfo.CallInfo}
 use Rattle.{rv_base.{specs.declared.call.TryCallHandler.TryCallHandler, specs.declared.call.TryCallHandler.TheVariants.{Default, Tag}, specs.declared.unwind.UnwindInst.UnwindInst, specs.declared.unwind.UnwindInst.TheVariants.SaveReg}, rv_code.proofs.MadeOfPieces.{HasRoom, has_room}}
-use Rattle.rv_inst.{specs.Descriptions.{conversion_trap, recorded_of}, specs.Records.{Recorded, recorded, Nothing, TrapAfter, SlotInParts, AddressInParts, AddressLast}, specs.declared.inst.Inst.TheVariants.{BrTable, EmitIsland, FpuRR, Unwind, Call, CallInd, Load, ReturnCall, ReturnCallInd, Store}}
-use Rattle.rv_ops.specs.Fpu.{is_to_integer}
+use Rattle.{rv_inst.{specs.Descriptions.{conversion_trap, recorded_of}, specs.Records.{Recorded, recorded, Nothing, TrapAfter, SlotInParts, AddressInParts, AddressLast}, specs.declared.inst.Inst.TheVariants.{BrTable, EmitIsland, FpuRR, Unwind, Call, CallInd, Load, ReturnCall, ReturnCallInd, Store}}, rv_ops.specs.Fpu.is_to_integer}
 use Rattle.mach_records.specs.declared.records.FinalizedMachExceptionHandler.TheVariants as to
 
 -- ---- records by their kinds

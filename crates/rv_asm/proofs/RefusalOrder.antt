@@ -1,13 +1,11 @@
 -- What holds of lines that are not refused, by index: above all, which labels are bound; and what one pass over lines finds.
-use Rattle.mach_labels.specs.declared.table.LabelTable.{LabelTable}
 use Rattle.rv_asm.proofs.Words.{[], AllByRecursion, ap, arith, bad_frame, Bind, binding_line, binds, Bool, broken_from, broken_rule, code_limit, compares, cond_both, CondBrTarget, Constant, constants_sum, Context, context_of, EmitError, Environment, eqb-true, Exit, exit_of}
 use Rattle.rv_asm.proofs.Words.{Fallthrough, false, Finds, first_of, FrameLayout, has_bad_frame, if◌then◌else◌, inner_count, Inst, inst_labels, is_bound, is_stuck, is_unfit, IsPlainLine, IsSurveyed, Job, le-ltb, leb-false, length, Line, line_sum, lines_sum, List, list_any, low_word, ltb-false}
 use Rattle.rv_asm.proofs.Words.{MachLabel, malformed, named_labels, nat_eq, nat_le, nat_lt, Next, None, number_of, Option, or_parts, Put, refl, reg, Result, return_exit, same_Some, size_limit, size_sum, slice_get, Some, sp_to_args_end, subst, suc, sym, table_of, tail_call_of, TailCall, take}
 use Rattle.rv_asm.proofs.Words.{target_exit, target_labels, target_names as labels_of, targets_of, To, ToLabel as Label, too_large, Trap, true, try_call_of, try_exit, try_labels, TryCallInfo, twice_from, twice_in, unbound_among, unbound_in, unwrap_or, Values, zero, ℕ, ◌*◌, ◌++◌, ◌+◌, ◌<◌}
 use Rattle.{rv_asm.proofs.Words.{◌^◌, ◌||◌, ◌∙◌, ◌∷◌, ◌≡◌, ◌≤◌}, rv_asm.specs.Refusal.{lines_refusal, refusal}, rv_inst.specs.Frames.{is_bad_frame, is_bad_frame_for, is_unrestorable_for}, rv_inst.specs.Plain.IsPlain, rv_inst.specs.declared.error.EmitError.TheVariants.BadFrame}
-use Rattle.rv_inst.specs.declared.error.Rule.{Rule}
 use mathlib.Core.Path.{fun_ext}
-use Rattle.rv_inst.specs.declared.inst.Inst.TheVariants.{BrTable, Jal, TrapIf, CondBr}
+use Rattle.{mach_labels.specs.declared.table.LabelTable.LabelTable, rv_inst.{specs.declared.error.Rule.Rule, specs.declared.inst.Inst.TheVariants.{BrTable, Jal, TrapIf, CondBr}}}
 
 -- ---- what is so of each
 

@@ -1,16 +1,16 @@
 -- What the code reports of its lines.
-use Rattle.std.specs.Prelude.{◌≡◌, ◌≢◌, ℕ, zero, suc, ◌+◌, ◌-◌, ◌<◌, ◌≤◌, ◌⊎◌, nat_eq, if◌then◌else◌, List, [], ◌∷◌, ◌++◌, length, map, slice_get, Option, Some, None, option_map, unwrap_or}
+use Rattle.std.specs.Prelude.{◌≡◌, ◌≢◌, ℕ, suc, ◌+◌, ◌<◌, ◌≤◌, ◌⊎◌, List, [], ◌∷◌, ◌++◌, length, map, slice_get, Option, Some, None}
 use Rattle.rv_base.specs.declared.constant.Constant.{Constant}
-use Rattle.rv_base.specs.declared.constant.VCodeConstant.{VCodeConstant}
 use Rattle.rv_base.specs.declared.trap.TrapCode.{TrapCode}
-use Rattle.rv_ops.specs.declared.compare.IntegerCompare.{IntegerCompare}
 use Rattle.rv_inst.specs.Context.{Context, context_of}
+use Rattle.rv_inst.specs.Descriptions.{recorded_of}
+use Rattle.rv_inst.specs.Records.{TrapAfter}
 use Rattle.rv_inst.specs.declared.inst.Inst.{Inst}
-use Rattle.rv_inst.specs.declared.inst.Inst.TheVariants.{RawData, TrapIf, Udf}
+use Rattle.rv_inst.specs.declared.inst.Inst.TheVariants.{RawData, Udf}
 use Rattle.rv_inst.specs.declared.inst.Line.{Line}
 use Rattle.rv_inst.specs.declared.inst.Line.TheVariants.{Inst as Put, Bind}
 use Rattle.rv_inst.specs.declared.job.Job.{Job}
-use Rattle.rv_inst.specs.Operands.{inst_constant, named_by, Return, return_of}
+use Rattle.rv_inst.specs.Operands.{Return, return_of}
 use Rattle.rv_inst.specs.Sizes.{trap_size, inst_records}
 use Rattle.rv_base.specs.declared.flags.IsaFlags.{IsaFlags}
 use Rattle.rv_inst.specs.declared.code.Code.{Code}
@@ -87,7 +87,7 @@ pub record Stands (code : Code) (at : ℕ) (bytes : List ℕ) : Type 0 where
 -- has one; they are in the order of their first use. In this order each ends before the next one begins, and none has a byte
 -- among an instruction's bytes, so their bytes are those of islands, or come after all lines. The bytes that a relocation fills
 -- are in the span of a line, and neither a constant nor another relocation has one of them. Data stand as they are listed, and traps
--- are zero bytes, two or four. Islands and the end of the code are as `InReach` says, and jumps and branches go as `HasJumps` says.
+-- are zero bytes, two or four, where a `Udf` stands and where another line records one. Islands and the end of the code are as `InReach` says, and jumps and branches go as `HasJumps` says.
 pub record Reported (job : Job) (code : Code) : Type 0 where
   pub gaps : List Gap
   pub count : length code.lines ≡ length job.lines
@@ -116,6 +116,6 @@ pub record Reported (job : Job) (code : Code) : Type 0 where
   pub fields_apart : (j k : ℕ) (r s : MachReloc) → j ≢ k → slice_get code.relocs j ≡ Some r → slice_get code.relocs k ≡ Some s → IsApart r.offset (field_size r.kind) s.offset (field_size s.kind)
   pub raw_data : (i : ℕ) (bytes : List ℕ) → slice_get job.lines i ≡ Some (Put (RawData bytes)) → Stands code (start_of code.lines i) bytes
   pub udf : (i : ℕ) (cause : TrapCode) → slice_get job.lines i ≡ Some (Put (Udf cause)) → Stands code (start_of code.lines i) (zeros (trap_size job.flags))
-  pub trap_if : (i : ℕ) (cmp : IntegerCompare) (cause : TrapCode) → slice_get job.lines i ≡ Some (Put (TrapIf cmp cause)) → Stands code (start_of code.lines i + 4) (zeros (trap_size job.flags))
+  pub trap_after : (i : ℕ) (inst : Inst) (after : ℕ) (cause : TrapCode) → slice_get job.lines i ≡ Some (Put inst) → recorded_of inst ≡ TrapAfter after cause → Stands code (start_of code.lines i + after) (zeros (trap_size job.flags))
   pub reach : InReach job code gaps
   pub jumps : HasJumps job code gaps

@@ -1,6 +1,5 @@
 -- Which operations, pieces and slots forget the vector unit's setting: none does by its actions, so it is a matter of jumps and calls.
-use Rattle.rv_base.specs.declared.flags.IsaFlags.{IsaFlags}
-use Rattle.rv_code.{proofs.OperationActs.{short_load_either, short_store_either}, proofs.Registers.or_true, specs.Forgetting.{forgets, op_forgets, slot_forgets}, specs.Operations.{decoded_jump, short_jump}, specs.Pieces.{Action, Branch, Constant, Do, Go, Jump, LoadFrom, OfSymbol, Piece, Rri, Rrr, Take, Word32, op_of, slots_for, slots_of}, specs.Slots.SlotOf}
+use Rattle.{rv_base.specs.declared.flags.IsaFlags.IsaFlags, rv_code.{proofs.OperationActs.{short_load_either, short_store_either}, proofs.Registers.or_true, specs.Forgetting.{forgets, op_forgets, slot_forgets}, specs.Operations.{decoded_jump, short_jump}, specs.Pieces.{Action, Branch, Constant, Do, Go, Jump, LoadFrom, OfSymbol, Piece, Rri, Rrr, Take, Word32, op_of, slots_for, slots_of}, specs.Slots.SlotOf}}
 use Rattle.{rv_encode.specs.Operations.{branch_op, decoded, decoded_rri, decoded_rrr, load_of_format, load_op, load_row, store_of_format, store_op, store_row}, rv_inst.specs.Forms.{chosen, form_lui, form_rri, form_rrr, immediate_form, register_form, zca_rri, zca_rrr}}
 use Rattle.rv_machine.{specs.Layout.compressed, specs.declared.decoding.Decoded.Decoded, specs.declared.ops.AluOp.AluOp, specs.declared.ops.MOp.TheVariants.{Alu, Base}}
 use Rattle.rv_ops.{specs.Compare.branch_of, specs.Memory.{load_format, store_format}, specs.Operations.{ImmediateForm, RegisterForm, is_exchanged, rri_op, rri_operation, rrr_op, rrr_operation}, specs.declared.memory.LoadOP.LoadOP, specs.declared.memory.StoreOP.StoreOP}

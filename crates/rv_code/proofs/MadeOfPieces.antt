@@ -1,17 +1,16 @@
 -- Instructions that pieces make: how long they are, and that they are self-contained.
-use Rattle.{rv_base.specs.declared.value_regs.ValueRegs.TheVariants.{One, Two}, rv_code.{proofs.Courses.read_low, proofs.Evaluation.{action_sized, piece_even, slots_long, trap_long}, proofs.LineSlots.{IsPlain, is_low, offset_by, closed_append, number_by, size_append, IsSummed}}}
+use Rattle.{mach_records.specs.declared.records.Event.TheVariants.Trap as TrapEvent, rv_base.specs.declared.value_regs.ValueRegs.TheVariants.{One, Two}, rv_code.{proofs.Courses.read_low, proofs.Evaluation.{action_sized, piece_even, slots_long, trap_long}, proofs.LineSlots.{IsPlain, is_low, offset_by, closed_append, number_by, size_append, IsSummed}}}
 use Rattle.rv_code.{proofs.LongSlots.{even_plain, even_closed, literal_even}, proofs.OperationActs.{jalr_sized, jump_len, least_few, window_long}}
-use Rattle.rv_code.proofs.Words.{Constant, Slli, Trap, TrapCode, VCodeConstant, Writable, and_parts, cast_signed, jump_size, low_word, number_pieces, slots_of, uses_in, w64, written_in, AddressOf, Allocate, ExternalName, Here, Literal, NameAddress, Names, OfLabel, OfSymbol, Records, Slot, SlotOf}
+use Rattle.rv_code.proofs.Words.{Constant, Data, trap_bytes, Slli, Trap, TrapCode, VCodeConstant, Writable, and_parts, cast_signed, jump_size, low_word, number_pieces, slots_of, uses_in, w64, written_in, AddressOf, Allocate, ExternalName, Here, Literal, NameAddress, Names, OfLabel, OfSymbol, Records, Slot, SlotOf}
 use Rattle.rv_code.proofs.Words.{Symbol, Take, Word32, Word64, address_event, literal_of, literal_size, literal_slots, slot_size, slots_for, symbol_slots, IsInRange, low64, lower_of, offset_pieces, Addi, Action, after, all_of, Andi, AreAmong, AreClosed, AreClosedPieces, AreSelfContained, AtMost, B12}
 use Rattle.rv_code.proofs.Words.{backward_of, Bind, bits_of, Branch, canonical_type, choice_pieces, class_of, complement_of, Context, Do, Exactly, extend_pieces, forward_of, GoNowhere, here_at, I64, Inst, inst_constant, inst_records, inst_size, Int, IntCC, IntegerCompare, IrType, is_byte, IsaFlags}
 use Rattle.rv_code.proofs.Words.{IsBoundIn, IsBoundNear, IsOfSize, Jal20, Jump, jump_kind, LabelUse, move_action, move_op, move_pieces, move_size, moves_then, named_by, names_of, New, number_of, op_of, own_labels, Piece, piece_most, piece_size, pieces_most, pieces_size, PReg, records_of, Reg, RegClass}
 use Rattle.rv_code.{proofs.Words.{request_of, right_shift, Rri, RVCJump, same_numbers, select_pieces, SelectInfo, size_of}, specs.Pieces.{Go, Jalr, LoadFrom, Name}, specs.Probes.{probe_pieces, probe_turn}, specs.Sequences.{pieces_by, sequence_pieces, zeros_pieces}, specs.Traps.trap_if_pieces}
-use Rattle.{rv_code.{proofs.Forgetting.{either, pieces_forget, slots_forget}, specs.Forgetting.slot_forgets, specs.InstParts.{parts_of, slots_alone}, specs.declared.state.EmitVState.EmitVState}, rv_inst.specs.Descriptions.{most_words, facts_of, given, none_is_some, recorded_of}}
+use Rattle.{rv_code.{proofs.Forgetting.{either, pieces_forget, slots_forget}, specs.Forgetting.slot_forgets, specs.InstParts.{parts_of, slots_alone}, specs.declared.state.EmitVState.EmitVState}, rv_inst.specs.Descriptions.{Gives, described, facts_in, facts_of, given, most_words, none_is_some, recorded_in, recorded_of}}
 use Rattle.rv_inst.{specs.declared.sequence.Computation.Computation, specs.declared.sequence.Computation.TheVariants.Zeros, specs.declared.sequence.Sequence.Sequence, specs.Limits.sequence_limit, specs.Operands.inst_ways}
 use Rattle.rv_inst.{specs.Records.{Recorded, Nothing, TrapAfter, SlotInParts, AddressInParts, AddressLast}, specs.Sizes.most_bytes, specs.declared.units.Facts.Facts}
 use Rattle.rv_inst.specs.declared.inst.Inst.TheVariants.{Auipc, Extend, LabelAddress, LoadExtNameFar, LoadExtNameGot, LoadExtNameNear, LoadInlineConst, Mov, MovFromPReg, Select, StackProbeLoop, TrapIf, Udf}
-use Rattle.std.{proofs.Common.{rules, ◌≡◌, ℕ, ℤ, ◌+◌, ◌≤◌, Bool, true, false, nat_eq, [], ◌∷◌, List, length, Option, Some, None, is_some, unwrap_or, zero, ◌&&◌, arith, refl, lit≤, sym, subst, ap, lit<, suc, ◌*◌, ◌<◌, ◌++◌, map, pos, ◌∙◌, ◌-◌, if◌then◌else◌, ⊎_elim, ◌%◌, ◌^◌, inl, inr, ◌⊎◌}, proofs.lemmas.Option.same_Some}
-use Rattle.std.{specs.List.list_any, specs.Prelude.{not, ◌==◌, ◌||◌}}
+use Rattle.std.{proofs.Common.{rules, ◌≡◌, ℕ, ℤ, ◌+◌, ◌≤◌, Bool, true, false, nat_eq, [], ◌∷◌, List, length, Option, Some, None, is_some, unwrap_or, zero, ◌&&◌, arith, refl, lit≤, sym, subst, ap, lit<, suc, ◌*◌, ◌<◌, ◌++◌, map, pos, ◌∙◌, ◌-◌, if◌then◌else◌, ⊎_elim, ◌%◌, ◌^◌, inl, inr, ◌⊎◌}, proofs.lemmas.Option.same_Some, specs.List.list_any, specs.Prelude.{not, ◌==◌, ◌||◌}}
 use mathlib.Core.Bool.{or-false, or_self}
 use borrow.Author.Count.{below_more, below_none}
 
@@ -356,6 +355,11 @@ near_made context rd name offset = symbol_made context (LoadExtNameNear rd name 
 
 -- ---- instructions whose descriptions give their code: what each becomes.
 
+-- where a trap is recorded, its bytes stand among the slots, after so many others
+abbrev pub TrapsStand : IsaFlags → Recorded → List Slot → Type 0
+TrapsStand flags (TrapAfter at code) slots = (before : List Slot) × (more : List Slot) × (slots ≡ before ++ Data (trap_bytes flags) ∷ more) × (size_of before ≡ at)
+TrapsStand flags recorded slots = Unit {0}
+
 -- Its slots are self-contained, and use and bind no label of their own, or are those of pieces. Beside veneers for the labels that it names
 -- it has no more bytes than one may have that asks for no island; and nothing is known of the setting after it where it jumps in four bytes.
 pub record IsGiven (context : Context) (setting : EmitVState) (inst : Inst) (f : Facts) : Type 0 where
@@ -366,24 +370,27 @@ pub record IsGiven (context : Context) (setting : EmitVState) (inst : Inst) (f :
   pub asks : request_of context inst ≡ None
   pub few : most_bytes context inst + 8 * length (inst_ways inst) ≤ sequence_limit
   pub forgets : list_any slot_forgets slots ≡ (f.jumps && not context.flags.has_zca)
+  pub traps : TrapsStand context.flags (recorded_of inst) slots
 
 given_by : {context : Context} {setting : EmitVState} {inst : Inst} {f : Facts} (pieces : List Piece) → parts_of context setting inst ≡ slots_alone (slots_of context.flags pieces) → IsMadeOf context inst pieces → most_bytes context inst + 8 * length (inst_ways inst) ≤ sequence_limit →
-    pieces_forget (not context.flags.has_zca) pieces ≡ (f.jumps && not context.flags.has_zca) → IsGiven context setting inst f
-given_by {context} pieces parts made few forgets =
-    record { slots = slots_of context.flags pieces; parts = parts; contained = made_contained made; form = inr (pieces, refl, made); asks = made.asks; few = few; forgets = slots_forget context.flags pieces ∙ forgets }
+    pieces_forget (not context.flags.has_zca) pieces ≡ (f.jumps && not context.flags.has_zca) → TrapsStand context.flags (recorded_of inst) (slots_of context.flags pieces) → IsGiven context setting inst f
+given_by {context} pieces parts made few forgets traps =
+    record { slots = slots_of context.flags pieces; parts = parts; contained = made_contained made; form = inr (pieces, refl, made); asks = made.asks; few = few; forgets = slots_forget context.flags pieces ∙ forgets; traps = traps }
 
 pub given_code : (context : Context) (setting : EmitVState) (inst : Inst) (e : is_some (facts_of inst) ≡ true) → IsGiven context setting inst (given (facts_of inst) e)
-given_code context setting (Auipc rd imm) e = record { slots = _; parts = refl; contained = (refl, tt); form = inl (record { plain = tt; fits = lit≤ tt; uses = λ allocated start. refl; records = λ start. refl; names = λ named. refl }); asks = refl; few = lit≤ tt; forgets = refl }
-given_code context setting (LabelAddress dst label) e = record { slots = _; parts = refl; contained = (tt, (tt, tt)); form = inl (record { plain = tt; fits = refl; uses = λ allocated start. refl; records = λ start. refl; names = λ named. refl }); asks = refl; few = lit≤ tt; forgets = refl }
+given_code context setting (Auipc rd imm) e = record { slots = _; parts = refl; contained = (refl, tt); form = inl (record { plain = tt; fits = lit≤ tt; uses = λ allocated start. refl; records = λ start. refl; names = λ named. refl }); asks = refl; few = lit≤ tt; forgets = refl; traps = tt }
+given_code context setting (LabelAddress dst label) e = record { slots = _; parts = refl; contained = (tt, (tt, tt)); form = inl (record { plain = tt; fits = refl; uses = λ allocated start. refl; records = λ start. refl; names = λ named. refl }); asks = refl; few = lit≤ tt; forgets = refl; traps = tt }
 given_code context setting (LoadInlineConst rd type imm) e =
     let few = elim (bits_of type == 32) as (λ c. (if c then 4 else 8) ≤ 8) [ true ↦ lit≤ tt | false ↦ lit≤ tt ] in
-    given_by _ refl (constant_made context rd type imm) (omega (arith, few, least_few context.flags)) (or-false _)
-given_code context setting (Extend rd rn signed from_bits to_bits) e = given_by _ refl (extend_made context rd rn signed from_bits to_bits) (lit≤ tt) (either (λ ps. pieces_forget (not context.flags.has_zca) ps ≡ false) (is_byte signed from_bits) _ _ refl refl)
-given_code context setting (TrapIf cmp code) e = given_by _ refl (trap_if_made context cmp code) (omega (arith, least_few context.flags)) refl
-given_code context setting (StackProbeLoop guard_size probe_count tmp) e = given_by _ refl (probe_made context guard_size probe_count tmp) (lit≤ tt) (probe_forgets _ (number_of tmp.reg) (low_word guard_size) (low_word probe_count))
-given_code context setting (LoadExtNameGot rd name) e = given_by _ refl (got_made context rd name) (lit≤ tt) refl
-given_code context setting (LoadExtNameNear rd name offset) e = given_by _ refl (near_made context rd name offset) (lit≤ tt) refl
-given_code context setting (LoadExtNameFar rd name offset) e = given_by _ refl (far_made context rd name offset) (omega (arith, least_few context.flags)) (or-false _)
+    given_by _ refl (constant_made context rd type imm) (omega (arith, few, least_few context.flags)) (or-false _) tt
+given_code context setting (Extend rd rn signed from_bits to_bits) e = given_by _ refl (extend_made context rd rn signed from_bits to_bits) (lit≤ tt) (either (λ ps. pieces_forget (not context.flags.has_zca) ps ≡ false) (is_byte signed from_bits) _ _ refl refl) tt
+given_code context setting (TrapIf cmp code) e =
+    let front = slots_of context.flags (New ∷ Branch (complement_of cmp.kind) (number_of cmp.rs1) (number_of cmp.rs2) 0 ∷ []) ++ Records (TrapEvent code) ∷ [] in
+    given_by _ refl (trap_if_made context cmp code) (omega (arith, least_few context.flags)) refl (front, Here 0 ∷ [], refl, omega arith)
+given_code context setting (StackProbeLoop guard_size probe_count tmp) e = given_by _ refl (probe_made context guard_size probe_count tmp) (lit≤ tt) (probe_forgets _ (number_of tmp.reg) (low_word guard_size) (low_word probe_count)) tt
+given_code context setting (LoadExtNameGot rd name) e = given_by _ refl (got_made context rd name) (lit≤ tt) refl tt
+given_code context setting (LoadExtNameNear rd name offset) e = given_by _ refl (near_made context rd name offset) (lit≤ tt) refl tt
+given_code context setting (LoadExtNameFar rd name offset) e = given_by _ refl (far_made context rd name offset) (omega (arith, least_few context.flags)) (or-false _) tt
 given_code context setting inst e = absurd (none_is_some e)
 
 given_some : {A : Type 0} (o : Option A) (a : A) (e : is_some o ≡ true) → o ≡ Some a → given o e ≡ a
@@ -393,13 +400,16 @@ given_some (Some b) a e is = same_Some b a is
 pub code_given : (context : Context) (setting : EmitVState) (inst : Inst) (f : Facts) → facts_of inst ≡ Some f → IsGiven context setting inst f
 code_given context setting inst f is = let e = ap is_some is in subst (λ (f : Facts). IsGiven context setting inst f) (given_some (facts_of inst) f e is) (given_code context setting inst e)
 
+-- an instruction that records a trap is one of these
+pub trap_given : {at : ℕ} {code : TrapCode} (inst : Inst) → recorded_of inst ≡ TrapAfter at code → (f : Facts) × (facts_of inst ≡ Some f)
+trap_given {at} {code} inst is = (elim (described inst) as (λ d. recorded_in d ≡ TrapAfter at code → (f : Facts) × (facts_in d ≡ Some f)) [ None ↦ λ e. absurd (cc) | Some (Gives g) ↦ λ e. (g.facts, refl) | Some d ↦ λ e. absurd (cc) ]) is
+
 -- what fills a field has bytes for it
 abbrev pub HasRoom : Recorded → ℕ → Type 0
-HasRoom Nothing bytes = Unit {0}
-HasRoom (TrapAfter after code) bytes = Unit {0}
 HasRoom (SlotInParts name) bytes = 8 ≤ bytes
 HasRoom (AddressInParts name addend) bytes = 8 ≤ bytes
 HasRoom (AddressLast name addend) bytes = 8 ≤ bytes
+HasRoom recorded bytes = Unit {0}
 
 pub has_room : (context : Context) (inst : Inst) (bytes : ℕ) → IsOfSize (inst_size context inst) bytes → HasRoom (recorded_of inst) bytes
 has_room context (LoadExtNameGot rd name) bytes size = omega (arith, size)

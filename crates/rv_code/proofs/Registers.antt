@@ -10,9 +10,6 @@ pub or_true : (a : Bool) → (a || true) ≡ true
 or_true true = refl
 or_true false = refl
 
-pub equals_itself : (n : ℕ) → nat_eq n n ≡ true
-equals_itself n = grind (arith, nat_tests)
-
 pub not_zero : (n : ℕ) → 0 < n → nat_eq 0 n ≡ false
 not_zero n some = grind (arith, nat_tests)
 

@@ -31,13 +31,22 @@ word_rule name = record (new_rule name) { action = Some Append }
 abbrev pub opening : App
 opening = on_top (λ s. record s { has_version = true; no_binary_name = true }) (new_app (codes "rvrun"))
 
+-- options that say what the code is; where the run begins, and how long it is; what stands in the memory, and where symbols are; and
+-- what the units begin with and answer
+abbrev pub with_code : App → App
+with_code app = with_rule (with_rule (with_rule app (flag_rule (codes "hex"))) (option_rule (codes "base"))) (option_rule (codes "flags"))
+
+abbrev pub with_start : App → App
+with_start app = with_rule (with_rule (with_rule app (option_rule (codes "from"))) (option_rule (codes "at"))) (option_rule (codes "steps"))
+
+abbrev pub with_memory : App → App
+with_memory app = with_rule (with_rule (with_rule app (list_rule (codes "data"))) (list_rule (codes "symbol"))) (list_rule (codes "slot"))
+
+abbrev pub with_units : App → App
+with_units app = with_rule (with_rule (with_rule app (option_rule (codes "setting"))) (list_rule (codes "answer"))) (option_rule (codes "unit"))
+
 unfoldable pub rvrun_app : App
-rvrun_app =
-    with_rule (with_rule (with_rule (with_rule (with_rule (with_rule (with_rule (with_rule (with_rule (with_rule (with_rule (with_rule (with_rule (with_rule opening
-    (flag_rule (codes "hex"))) (option_rule (codes "base"))) (option_rule (codes "flags"))) (option_rule (codes "from")))
-    (option_rule (codes "at"))) (option_rule (codes "steps"))) (list_rule (codes "data"))) (list_rule (codes "symbol")))
-    (list_rule (codes "slot"))) (option_rule (codes "setting"))) (list_rule (codes "answer"))) (option_rule (codes "unit"))) (flag_rule (codes "trace")))
-    (word_rule (codes "REGISTER=VALUE"))
+rvrun_app = with_rule (with_rule (with_units (with_memory (with_start (with_code opening)))) (flag_rule (codes "trace"))) (word_rule (codes "REGISTER=VALUE"))
 
 abbrev pub is_set : Option Text → Bool
 is_set given = option_map_or (λ text. bytes_eq text (codes "true")) given false

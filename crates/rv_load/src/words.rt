@@ -2,7 +2,7 @@
 
 ghost use Rattle.std.specs.Prelude.{◌≡◌, IfOk, false, true, [], option_map, unwrap_or, map, string_bytes};
 ghost use Rattle.clap.specs.Words.{app_of, rule_of, with_rule, first_of, all_of, rows_of, found_of, kind_of};
-ghost use Rattle.rv_load.specs.Command.{flag_rule, option_rule, list_rule, word_rule, rvrun_app, opening, is_set, IsGiven, IsOfKind, Parses};
+ghost use Rattle.rv_load.specs.Command.{flag_rule, option_rule, list_rule, word_rule, rvrun_app, opening, with_code, with_start, with_memory, with_units, is_set, IsGiven, IsOfKind, Parses};
 
 use crate::given::Given;
 use clap::error::ErrorKind;
@@ -92,117 +92,167 @@ fn opening<'a>(alloc: Global) -> Command<'a>
         .no_binary_name(true)
 }
 
+fn with_flag<'a>(
+    alloc: Global,
+    command: Command<'a>,
+    name: &'a str,
+    help: &'a str,
+) -> Result<Command<'a>, OutOfMemory>
+    ensures { IfOk result (λ c. app_of c ≡ with_rule (app_of command.entry) (flag_rule name.entry.now)) }
+{
+    with_arg(command, flag(alloc, name, help))
+}
+
+fn with_option<'a>(
+    alloc: Global,
+    command: Command<'a>,
+    name: &'a str,
+    value: &'a str,
+    help: &'a str,
+) -> Result<Command<'a>, OutOfMemory>
+    ensures { IfOk result (λ c. app_of c ≡ with_rule (app_of command.entry) (option_rule name.entry.now)) }
+{
+    with_arg(command, option(alloc, name, value, help))
+}
+
+fn with_list<'a>(
+    alloc: Global,
+    command: Command<'a>,
+    name: &'a str,
+    value: &'a str,
+    help: &'a str,
+) -> Result<Command<'a>, OutOfMemory>
+    ensures { IfOk result (λ c. app_of c ≡ with_rule (app_of command.entry) (list_rule name.entry.now)) }
+{
+    with_arg(command, list(alloc, name, value, help))
+}
+
+fn with_word<'a>(
+    alloc: Global,
+    command: Command<'a>,
+    name: &'a str,
+    help: &'a str,
+) -> Result<Command<'a>, OutOfMemory>
+    ensures { IfOk result (λ c. app_of c ≡ with_rule (app_of command.entry) (word_rule name.entry.now)) }
+{
+    with_arg(command, word(alloc, name, help))
+}
+
+// What the code is, and where it stands.
+fn with_code<'a>(alloc: Global, c: Command<'a>) -> Result<Command<'a>, OutOfMemory>
+    ensures { IfOk result (λ made. app_of made ≡ with_code (app_of c.entry)) }
+{
+    let c = with_flag(
+        alloc,
+        c,
+        "hex",
+        "The input is hexadecimal digits, and no report",
+    )?;
+    let c = with_option(
+        alloc,
+        c,
+        "base",
+        "ADDRESS",
+        "Where the code stands, a multiple of 4 [default: 0x10000]",
+    )?;
+    with_option(
+        alloc,
+        c,
+        "flags",
+        "NAMES",
+        "Extensions of the machine, as zca,zcb",
+    )
+}
+
+// Where the run begins, and how long it is.
+fn with_start<'a>(alloc: Global, c: Command<'a>) -> Result<Command<'a>, OutOfMemory>
+    ensures { IfOk result (λ made. app_of made ≡ with_start (app_of c.entry)) }
+{
+    let c = with_option(
+        alloc,
+        c,
+        "from",
+        "LINE",
+        "Begin where this line of the listing begins",
+    )?;
+    let c = with_option(
+        alloc,
+        c,
+        "at",
+        "OFFSET",
+        "Begin at this offset from the code's start",
+    )?;
+    with_option(
+        alloc,
+        c,
+        "steps",
+        "N",
+        "Make at most so many steps [default: 10000000]",
+    )
+}
+
+// What stands in the memory, and where symbols are.
+fn with_memory<'a>(alloc: Global, c: Command<'a>) -> Result<Command<'a>, OutOfMemory>
+    ensures { IfOk result (λ made. app_of made ≡ with_memory (app_of c.entry)) }
+{
+    let c = with_list(alloc, c, "data", "ADDRESS=HEX", "Bytes of memory")?;
+    let c = with_list(
+        alloc,
+        c,
+        "symbol",
+        "NAME=ADDRESS",
+        "Where a symbol is, as userextname0=0x20000",
+    )?;
+    with_list(
+        alloc,
+        c,
+        "slot",
+        "NAME=ADDRESS",
+        "Where the slot is that holds a symbol's address",
+    )
+}
+
+// What the units begin with and answer.
+fn with_units<'a>(alloc: Global, c: Command<'a>) -> Result<Command<'a>, OutOfMemory>
+    ensures { IfOk result (λ made. app_of made ≡ with_units (app_of c.entry)) }
+{
+    let c = with_option(
+        alloc,
+        c,
+        "setting",
+        "AVL,VTYPE",
+        "The vector length and vtype that the run begins with, as 4,0xd0 [default: 0,0]",
+    )?;
+    let c = with_list(
+        alloc,
+        c,
+        "answer",
+        "ANSWER",
+        "What a unit answers, in order: bits:0x40, success, failure, length:4, vector:8=0x1 or stored:01--",
+    )?;
+    with_option(
+        alloc,
+        c,
+        "unit",
+        "NAME",
+        "What answers for floating-point operations where no answer is left: host, this machine's own arithmetic",
+    )
+}
+
+#[tactic(auto, unfolding(crate::specs::Command::rvrun_app))]
 fn command<'a>(alloc: Global) -> Result<Command<'a>, OutOfMemory>
     ensures { IfOk result (λ c. app_of c ≡ rvrun_app) }
 {
-    let c = opening(alloc);
-    let c = with_arg(
+    let c = with_code(alloc, opening(alloc))?;
+    let c = with_start(alloc, c)?;
+    let c = with_memory(alloc, c)?;
+    let c = with_units(alloc, c)?;
+    let c = with_flag(alloc, c, "trace", "Print each step")?;
+    with_word(
+        alloc,
         c,
-        flag(
-            alloc,
-            "hex",
-            "The input is hexadecimal digits, and no report",
-        ),
-    )?;
-    let c = with_arg(
-        c,
-        option(
-            alloc,
-            "base",
-            "ADDRESS",
-            "Where the code stands, a multiple of 4 [default: 0x10000]",
-        ),
-    )?;
-    let c = with_arg(
-        c,
-        option(
-            alloc,
-            "flags",
-            "NAMES",
-            "Extensions of the machine, as zca,zcb",
-        ),
-    )?;
-    let c = with_arg(
-        c,
-        option(
-            alloc,
-            "from",
-            "LINE",
-            "Begin where this line of the listing begins",
-        ),
-    )?;
-    let c = with_arg(
-        c,
-        option(
-            alloc,
-            "at",
-            "OFFSET",
-            "Begin at this offset from the code's start",
-        ),
-    )?;
-    let c = with_arg(
-        c,
-        option(
-            alloc,
-            "steps",
-            "N",
-            "Make at most so many steps [default: 10000000]",
-        ),
-    )?;
-    let c = with_arg(c, list(alloc, "data", "ADDRESS=HEX", "Bytes of memory"))?;
-    let c = with_arg(
-        c,
-        list(
-            alloc,
-            "symbol",
-            "NAME=ADDRESS",
-            "Where a symbol is, as userextname0=0x20000",
-        ),
-    )?;
-    let c = with_arg(
-        c,
-        list(
-            alloc,
-            "slot",
-            "NAME=ADDRESS",
-            "Where the slot is that holds a symbol's address",
-        ),
-    )?;
-    let c = with_arg(
-        c,
-        option(
-            alloc,
-            "setting",
-            "AVL,VTYPE",
-            "The vector length and vtype that the run begins with, as 4,0xd0 [default: 0,0]",
-        ),
-    )?;
-    let c = with_arg(
-        c,
-        list(
-            alloc,
-            "answer",
-            "ANSWER",
-            "What a unit answers, in order: bits:0x40, success, failure, length:4, vector:8=0x1 or stored:01--",
-        ),
-    )?;
-    let c = with_arg(
-        c,
-        option(
-            alloc,
-            "unit",
-            "NAME",
-            "What answers for floating-point operations where no answer is left: host, this machine's own arithmetic",
-        ),
-    )?;
-    let c = with_arg(c, flag(alloc, "trace", "Print each step"))?;
-    with_arg(
-        c,
-        word(
-            alloc,
-            "REGISTER=VALUE",
-            "Registers, as a0=-1, x10=0xff or fa0=0x3f800000",
-        ),
+        "REGISTER=VALUE",
+        "Registers, as a0=-1, x10=0xff or fa0=0x3f800000",
     )
 }
 

@@ -11,7 +11,7 @@ use Rattle.rv_load.specs.declared.settings.Start.{Start}
 use Rattle.rv_load.specs.declared.settings.Start.TheVariants.{Beginning, Offset, Line}
 use Rattle.rv_load.specs.Words.{or_bad, ◌then◌}
 use Rattle.rv_run.specs.Outcomes.{IsLinked}
-use Rattle.rv_run.specs.Starting.{begin, first_machine, fits, line_start, start_offset, start_word}
+use Rattle.rv_steps.specs.Starting.{begin, first_machine, fits, line_start, start_offset, start_word}
 
 -- the offset that a run begins at
 abbrev offset_of : Settings → Program → Result ℕ BadWord

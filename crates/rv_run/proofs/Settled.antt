@@ -16,7 +16,7 @@ use Rattle.rv_load.specs.Command.{Parses}
 use Rattle.rv_load.specs.Words.{settings_of}
 use Rattle.rv_run.specs.Outcomes.{Call, Loads, OfProgram, Means, Asked, Read, IsBadWord, Ended, limit, word_text, unplaced, IsLinked, IsUnfit, IsRefused, reloc_of}
 use Rattle.rv_run.specs.Settled.{IsOrOutOfMemory, IsOfWords, IsRan, NoFault, IsSettled}
-use Rattle.rv_run.specs.Starting.{begin}
+use Rattle.rv_steps.specs.Starting.{begin}
 use Rattle.rv_run.specs.declared.outcome.Outcome.{Outcome}
 use Rattle.rv_run.specs.declared.outcome.Outcome.TheVariants as ends
 use Rattle.rv_run.proofs.Beginning.{unfit_unlinked}

@@ -1,11 +1,4 @@
-pub mod Files
-pub mod Computed
-pub mod FullRunning
 pub mod Memory
 pub mod Outcomes
 pub mod Output
-pub mod Running
-pub mod Starting
-pub mod Tracing
 pub mod Settled
-pub mod Written

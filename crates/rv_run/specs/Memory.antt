@@ -4,7 +4,7 @@ use Rattle.std.specs.List.{dedup, filter}
 use Rattle.std.specs.FinMap as map
 use Rattle.hex.specs.Hex.{encode_lower}
 use Rattle.rv_machine.specs.State.{Memory, byte, wrap}
-use Rattle.rv_run.specs.Output.{hex}
+use Rattle.rv_steps.specs.Files.{hex}
 
 -- so many bytes from an address on, each in two hexadecimal digits
 abbrev pub row_bytes : Memory → ℕ → ℕ → List ℕ

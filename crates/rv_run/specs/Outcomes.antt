@@ -30,15 +30,15 @@ use Rattle.rv_load.specs.Command.{Parses}
 use Rattle.rv_load.specs.Hex.{ReadsHex}
 use Rattle.rv_load.specs.Report.{ReadsReport}
 use Rattle.rv_load.specs.Words.{settings_of}
-use Rattle.rv_run.specs.Files.{unit_lines}
-use Rattle.rv_run.specs.Computed.{HostRuns}
-use Rattle.rv_run.specs.FullRunning.{IsIntegerEnd}
+use Rattle.rv_steps.specs.Files.{unit_lines}
+use Rattle.rv_steps.specs.Computed.{HostRuns}
+use Rattle.rv_steps.specs.FullRunning.{IsIntegerEnd}
 use Rattle.rv_run.specs.Memory.{memory_lines}
 use Rattle.rv_run.specs.Output.{file, run_text}
-use Rattle.rv_run.specs.Running.{Runs}
-use Rattle.rv_run.specs.Starting.{begin}
-use Rattle.rv_run.specs.declared.ending.Ending.{Ending}
-use Rattle.rv_run.specs.declared.ending.Ending.TheVariants.{Left, Limit, Break, NoOperation, NeedsAnswer}
+use Rattle.rv_steps.specs.Running.{Runs}
+use Rattle.rv_steps.specs.Starting.{begin}
+use Rattle.rv_steps.specs.declared.ending.Ending.{Ending}
+use Rattle.rv_steps.specs.declared.ending.Ending.TheVariants.{Left, Limit, Break, NoOperation, NeedsAnswer}
 use Rattle.rv_run.specs.declared.result.Run.{Run}
 use Rattle.rv_run.specs.declared.outcome.Outcome.{Outcome}
 use Rattle.rv_run.specs.declared.outcome.Outcome.TheVariants as ends

@@ -1,6 +1,6 @@
 -- The text of a run.
-use Rattle.std.specs.Prelude.{ℕ, zero, suc, ◌+◌, List, [], ◌∷◌, ◌++◌, ◌==◌, if◌then◌else◌, codes, false, Option, Some, None}
-use Rattle.std.specs.Fmt.{decimal, signed_decimal, digits}
+use Rattle.std.specs.Prelude.{ℕ, zero, suc, ◌+◌, List, [], ◌∷◌, ◌++◌, ◌==◌, if◌then◌else◌, codes, Option, Some, None}
+use Rattle.std.specs.Fmt.{decimal, signed_decimal}
 use Rattle.std.specs.Int.{w64, cast_signed}
 use Rattle.rv_base.specs.RegNames.{int_names, name_at}
 use Rattle.rv_base.specs.declared.flags.IsaFlags.{IsaFlags}
@@ -8,13 +8,10 @@ use Rattle.rv_machine.specs.declared.decoding.Decoded.{Decoded}
 use Rattle.rv_machine.specs.Decode.{decode}
 use Rattle.rv_trace.specs.Instruction.{instruction_text}
 use Rattle.rv_machine.specs.State.{Values, reg}
-use Rattle.rv_run.specs.declared.ending.Ending.{Ending}
-use Rattle.rv_run.specs.declared.ending.Ending.TheVariants.{Left, Limit, Break, NoOperation, NeedsAnswer}
+use Rattle.rv_steps.specs.declared.ending.Ending.{Ending}
+use Rattle.rv_steps.specs.declared.ending.Ending.TheVariants.{Left, Limit, Break, NoOperation, NeedsAnswer}
+use Rattle.rv_steps.specs.Files.{hex}
 use Rattle.rv_run.specs.declared.result.Run.{Run}
-
--- hexadecimal digits, without leading zeros
-abbrev pub hex : ℕ → List ℕ
-hex n = digits 16 false n
 
 abbrev pub operation_text : Option Decoded → List ℕ
 operation_text None = []

@@ -11,7 +11,7 @@ use Rattle.rv_load.specs.declared.settings.Settings.{Settings}
 use Rattle.rv_load.specs.Command.{Parses}
 use Rattle.rv_load.specs.Words.{settings_of}
 use Rattle.rv_run.specs.Outcomes.{Call, Loads, Asked, limit, word_text, unplaced, IsUnfit, IsRefused, reloc_of}
-use Rattle.rv_run.specs.Starting.{begin}
+use Rattle.rv_steps.specs.Starting.{begin}
 use Rattle.rv_run.specs.declared.outcome.Outcome.{Outcome}
 use Rattle.rv_run.specs.declared.outcome.Outcome.TheVariants as ends
 

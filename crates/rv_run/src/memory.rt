@@ -3,7 +3,7 @@
 ghost use Rattle.std.specs.Prelude.{◌≡◌, ◌++◌, [], ◌∷◌, IfOk, OnOk, codes, string_bytes};
 ghost use Rattle.hex.specs.Hex.{encode_lower};
 ghost use Rattle.rv_run.specs.Memory.{row_bytes, row_line, row_lines, is_changed, row_of, rows_of, memory_lines};
-ghost use Rattle.rv_run.specs.Output.{hex};
+ghost use Rattle.rv_steps.specs.Files.{hex};
 
 use rv_base::OutOfMemory;
 use rv_machine::IntMachine;

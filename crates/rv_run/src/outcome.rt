@@ -6,13 +6,13 @@ ghost use Rattle.rv_listing.specs.Relocations.{target_text};
 ghost use Rattle.std.specs.Fmt.{decimal};
 ghost use Rattle.rv_run.specs.Output.{run_text};
 
-use crate::ending::Ending;
 use crate::output::put_run;
 use crate::result::Run;
 use mach_records::{FinalizedRelocTarget, MachReloc};
 use rv_base::{List, OutOfMemory, Reloc};
 use rv_fill::PlaceError;
 use rv_load::BadWord;
+use rv_steps::Ending;
 use std::alloc::Global;
 
 /// How a call of the program ended.

@@ -4,12 +4,13 @@ ghost use Rattle.std.specs.Prelude.{◌≡◌, ◌++◌, ◌<◌, ◌≤◌, len
 ghost use Rattle.std.specs.Fmt.{decimal};
 ghost use Rattle.rv_machine.specs.Decode as decoding;
 ghost use Rattle.rv_machine.specs.Layout.{HasFileRegisters};
-ghost use Rattle.rv_run.specs.Output.{hex, operation_text, ending_line, steps_line, register_line, changes, run_text};
+ghost use Rattle.rv_steps.specs.Files.{hex};
+ghost use Rattle.rv_run.specs.Output.{operation_text, ending_line, steps_line, register_line, changes, run_text};
 
-use crate::ending::Ending;
 use crate::result::Run;
 use rv_base::{IsaFlags, OutOfMemory, PReg, Reg, RegClass};
 use rv_machine::{Decoded, decode};
+use rv_steps::Ending;
 use rv_trace::put_instruction;
 use std::alloc::Global;
 

@@ -4,20 +4,14 @@ ghost use Rattle.std.specs.Prelude.{◌≡◌, ◌<◌, length, map, string_byte
 ghost use Rattle.rv_fill.specs.Refusal.{Finds};
 ghost use Rattle.rv_run.specs.Memory.{memory_lines};
 ghost use Rattle.rv_run.specs.Output.{file};
-ghost use Rattle.rv_run.specs.Computed.{RunsTo};
+ghost use Rattle.rv_steps.specs.Computed.{RunsTo};
 ghost use Rattle.rv_run.specs.Settled.{IsSettled};
-ghost use Rattle.rv_run.specs.Starting.{begin};
+ghost use Rattle.rv_steps.specs.Starting.{begin};
 ghost use Rattle.rv_run.specs.Outcomes.{Loads, IsRun, given_text, listed_text, word_text, addresses_of, unplaced, IsLinked, reloc_of, OfLinked, OfProgram, Means, Words, call, Asked, AskRun, Ended, WritesText};
 
-use crate::ending::{Ending, Place};
-use crate::files::{files_of, unit_lines};
 use crate::memory::memory_lines;
 use crate::outcome::{Outcome, text_of};
-use crate::progress::Progress;
 use crate::result::Run;
-use crate::running::run_code;
-use crate::starting::begin;
-use crate::tracing::run_traced;
 use rv_base::{List, OutOfMemory};
 use rv_fill::{PlaceError, fill};
 use rv_full::{FullMachine, integer_runs};
@@ -26,6 +20,7 @@ use rv_load::{
     BadWord, Given, Named, Program, ProgramError, Settings, SettingsError, WordsError, read_hex,
     read_report, read_words, settings_of,
 };
+use rv_steps::{Ending, Place, Progress, begin, files_of, run_code, run_traced, unit_lines};
 use rv_stream::{ReadAllError, Sink, Source, WriteError, read_all, write_all};
 use std::alloc::Global;
 

@@ -2,8 +2,8 @@
 
 ghost use Rattle.std.specs.Prelude.{◌≡◌, length};
 
-use crate::ending::Ending;
 use rv_base::{IsaFlags, List};
+use rv_steps::Ending;
 
 /// A run: under which flags, how it ended, after how many steps, the registers x1 to x31 before and after it, and the text of its steps.
 #[derive(Drop)]

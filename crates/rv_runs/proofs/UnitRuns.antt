@@ -10,8 +10,7 @@ use Rattle.rv_runs.proofs.Words.{AllByRecursion, Answer, AnswerFits, AreUnits, A
 use Rattle.rv_runs.proofs.Words.{are_values_set, boxed, cast_signed, decodes_at, extended, fiter_after, fiter_none, format_of, freg, full_at, inputs_of, ints, low64, low_part, number_of, number_row, or_lt, parts_of, put_f, put_units, row_next, same_set, set_freg, unit_row, values_of, wrap}
 use Rattle.std.{proofs.Common.{Bool, FitsSigned, List, None, Option, Some, T, [], ap, arith, false, if◌then◌else◌, inl, inr, leb, lt_of_le_of_lt, nat_eq, refl, rules, subst, sym, true, unwrap_or, w16, w32, w64, ℕ, ◌%◌, ◌+◌, ◌-◌, ◌<◌, ◌^◌, ◌∙◌, ◌∷◌, ◌≡◌, ◌⊎◌}, proofs.Math.Facts.{Fits-lt-pow, Fits-of_z, sfits_widen}}
 use Rattle.std.{proofs.Math.ListN.length-set, proofs.Math.Seq.get_or-set_other, proofs.lemmas.Bool.cases_eq, proofs.lemmas.Grind.get_or-set_at, proofs.lemmas.Nat.and_le_l}
-use mir.Syntax.{Width}
-use mir.Val.{hbits}
+use mir.{Syntax.Width, Val.hbits}
 use Rattle.rv_full.specs.declared.shapes.Sources.TheVariants as sources
 use Rattle.rv_full.specs.declared.shapes.Target.TheVariants as target
 

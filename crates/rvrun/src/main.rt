@@ -6,7 +6,8 @@ ghost use Rattle.std.specs.Prelude.{◌≡◌};
 ghost use Rattle.std.specs.Process.{exit_status};
 ghost use Rattle.rv_run.specs.Outcomes.{status_of};
 
-use rv_run::{Outcome, Progress, run};
+use rv_run::{Outcome, run};
+use rv_steps::Progress;
 use rv_stream::{StdSink, StdSource};
 use std::env;
 use std::io::{self, ErrorKind, IsTerminal};

@@ -1,10 +1,10 @@
 use Rattle.std.proofs.Common.{refl, sym, ◌∙◌, ℕ, List, length, subst}
 use Rattle.rv_base.specs.declared.flags.IsaFlags.{IsaFlags}
-use Rattle.rv_run.specs.Computed.{HostRuns, with_more}
-use Rattle.rv_run.specs.Files.{lines_from}
+use Rattle.rv_steps.specs.Computed.{HostRuns, with_more}
+use Rattle.rv_steps.specs.Files.{lines_from}
 use Rattle.rv_run.specs.Memory.{memory_lines}
 use Rattle.rv_run.proofs.FullGrows.{unwritten}
-use Rattle.rv_run.proofs.HostGoing.{as_integer_alone}
+use Rattle.rv_steps.proofs.HostGoing.{as_integer_alone}
 use Rattle.rv_run.proofs.program.run_from.Goals as goal
 
 pub returns : goal.returns

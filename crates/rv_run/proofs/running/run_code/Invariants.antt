@@ -1,6 +1,0 @@
-use Rattle.std.proofs.Common.{[], false}
-use Rattle.rv_run.proofs.HostGoing.{Under}
-use Rattle.rv_run.proofs.running.run_code.Given as goal
-
-abbrev pub invariant-loop-done : goal.invariant-loop-done
-invariant-loop-done g l = Under l.host false l.flags l.place.base l.place.len l.limit l.initial.machine.full l.done l.machine []

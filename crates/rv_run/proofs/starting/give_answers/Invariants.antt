@@ -1,9 +1,0 @@
-use Rattle.std.proofs.Common.{◌≡◌, drop}
-use Rattle.rv_run.specs.Starting.{with_answers_of}
-use Rattle.rv_run.proofs.starting.give_answers.Given as goal
-
-abbrev pub invariant-loop-answer : goal.invariant-loop-answer
-invariant-loop-answer l = record {
-  given : with_answers_of l.machine (drop l.answer-index l.answers) ≡ with_answers_of l.initial.machine l.answers;
-  flags : l.machine.flags ≡ l.initial.machine.flags;
-}

@@ -1,6 +1,0 @@
-use Rattle.std.proofs.Common.{true}
-use Rattle.rv_run.proofs.HostGoing.{Under}
-use Rattle.rv_run.proofs.tracing.run_traced.Given as goal
-
-abbrev pub invariant-loop-done : goal.invariant-loop-done
-invariant-loop-done g l = Under l.host true l.flags l.place.base l.place.len l.limit l.initial.machine.full l.done l.machine l.out.items

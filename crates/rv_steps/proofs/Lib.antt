@@ -1,0 +1,4 @@
+pub mod Going
+pub mod IntegerRuns
+mod MoreAnswers
+pub mod HostGoing

@@ -1,0 +1,7 @@
+pub mod Files
+pub mod Computed
+pub mod FullRunning
+pub mod Running
+pub mod Starting
+pub mod Tracing
+pub mod Written
