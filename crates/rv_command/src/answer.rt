@@ -10,7 +10,7 @@ use crate::words::Request;
 use rv_asm::assemble;
 use rv_base::{List, OutOfMemory};
 use rv_gen::summary;
-use rv_inst::{Code, Context, EmitError, Job};
+use rv_inst::{Code, EmitError, Job};
 use rv_listing::{ReadError, read_job, report, report_with};
 use rv_text::texts;
 use std::alloc::Global;
@@ -102,12 +102,13 @@ pub(crate) fn answer_of_job(
 ) -> Result<Answer, OutOfMemory>
     ensures { IfOk result (λ answer. Means request job answer.outcome answer.text) }
 {
-    let context = Context {
-        flags: job.flags,
-        frame: &job.frame,
-        constants: job.constants.as_slice(),
-    };
-    match assemble(alloc, job.lines.as_slice(), &context) {
+    match assemble(
+        alloc,
+        job.lines.as_slice(),
+        job.flags,
+        &job.frame,
+        job.constants.as_slice(),
+    ) {
         Ok(code) => done(alloc, request, job, code),
         Err(error) => refused(alloc, error),
     }

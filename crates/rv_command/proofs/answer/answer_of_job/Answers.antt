@@ -14,7 +14,7 @@ returns-in-Ok c =
     let job = c.args.job in
     let code = c.in-Ok.code in
     let facts = c.in-Ok.ensures in
-    let same : job_of c.as_slice-2.result.now job.flags job.frame c.as_slice.result.now ≡ job = λ i. job_of (c.as_slice-2.ensures i) job.flags job.frame (c.as_slice.ensures i) in
+    let same : job_of c.as_slice.result.now job.flags job.frame c.as_slice-2.result.now ≡ job = λ i. job_of (c.as_slice.ensures i) job.flags job.frame (c.as_slice-2.ensures i) in
     let own : IsCodeOf job code = subst (λ (j : Job). IsCodeOf j code) same (facts.refused, facts.reported, facts.runs, facts.full_runs, facts.operations, facts.full_operations, facts.ranges) in
     IfOk-weaker c.done.result _ _ (λ answer is. means_of_answer c.args.request job (ends.Done code) (wanted c.args.request job code) answer is (own, refl)) c.done.ensures
 
@@ -22,6 +22,6 @@ pub returns-in-Err : goal.returns-in-Err
 returns-in-Err c =
     let job = c.args.job in
     let error = c.in-Err.error in
-    let same : job_of c.as_slice-2.result.now job.flags job.frame c.as_slice.result.now ≡ job = λ i. job_of (c.as_slice-2.ensures i) job.flags job.frame (c.as_slice.ensures i) in
+    let same : job_of c.as_slice.result.now job.flags job.frame c.as_slice-2.result.now ≡ job = λ i. job_of (c.as_slice.ensures i) job.flags job.frame (c.as_slice-2.ensures i) in
     let own : Finds {X = Code} (refusal job) (Err error) = subst (λ (j : Job). Finds {X = Code} (refusal j) (Err error)) same c.in-Err.ensures.refused in
     IfOk-weaker c.refused.result _ _ (λ answer is. means_of_answer c.args.request job (ends.Refused error) (error_line error) answer is.1 (is_refused job error is.0 own, refl)) c.refused.ensures
