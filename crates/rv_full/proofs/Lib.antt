@@ -3,3 +3,4 @@ pub mod LargerMachine
 pub mod Products
 pub mod Ranges
 pub mod Runs
+pub mod SharedStates

@@ -1,12 +1,13 @@
 //! Laws of the definitions, each the contract of a function that does nothing.
 
-ghost use Rattle.std.specs.Prelude.{◌≡◌, ℕ, [], Some};
+ghost use Rattle.std.specs.Prelude.{◌≡◌, ℕ, List, [], Some};
+ghost use Rattle.std.specs.List.{AllByRecursion};
 ghost use Rattle.rv_base.specs.declared.flags.IsaFlags as flags_of;
 ghost use Rattle.rv_machine.specs.State.{State};
 ghost use Rattle.rv_machine.specs.Steps.{iter};
-ghost use Rattle.rv_full.specs.Units.{FullState, put};
+ghost use Rattle.rv_full.specs.Units.{FullState, IsFullState, put};
 ghost use Rattle.rv_full.specs.Steps.{fiter};
-ghost use Rattle.rv_full.specs.Shared.{aiter};
+ghost use Rattle.rv_full.specs.Shared.{Write, AreWrites, IsShared, foreigns, interfere, aiter};
 
 /// A run of the integer machine is one of the machine with all units, which changes the integer part alone.
 pub fn integer_runs()
@@ -16,4 +17,10 @@ pub fn integer_runs()
 /// Where others write nothing, a shared machine runs as the machine alone.
 pub fn undisturbed_runs()
     ensures { (flags : flags_of.IsaFlags) (k : ℕ) (b c : FullState) → fiter flags k b ≡ Some c → aiter flags k (record { full = b; later = [] }) ≡ Some (record { full = c; later = [] }) }
+{}
+
+/// What others write, bytes at addresses of 64 bits, leaves every number of the machine in its range.
+pub fn writes_keep_states()
+    ensures written { (writes : List Write) (b : FullState) → AreWrites writes → IsFullState b → IsFullState (foreigns writes b) }
+    ensures later { (later : List (List Write)) (b : FullState) → AllByRecursion AreWrites later → IsFullState b → IsShared (interfere later b) }
 {}
