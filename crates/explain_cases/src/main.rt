@@ -1,53 +1,53 @@
-//! Goes through listings that have no code, with what is said of each to the person who wrote it.
+//! Goes through calls of `rvemit` over listings that have no code, with what each says to the person who called.
 #![tactic(auto)]
 
-use case_files::{Case, CaseError, Cases, expect_text, read, rows_of, run_cases};
-use rv_asm::assemble;
-use rv_base::OutOfMemory;
-use rv_explain::{explain_refusal, explain_syntax};
-use rv_inst::{Context, EmitError, Job};
-use rv_listing::{ReadError, read_job};
+use case_files::{Case, CaseError, Cases, blocks_of, expect_text, read, rows_of, run_cases};
+use rv_command::run_explained;
+use rv_stream::{SureSink, SureSource};
 use std::alloc::{AllocError, Global};
 use std::process::ExitCode;
 
-/// Listings with a mistake each.
+/// Calls with a mistake each.
 struct Mistakes;
 
-/// Why a job has no code, where it has none.
-fn refusal(alloc: Global, job: &Job) -> Option<EmitError> {
-    let context = Context {
-        flags: job.flags,
-        frame: &job.frame,
-        constants: job.constants.as_slice(),
-    };
-    assemble(alloc, job.lines.as_slice(), &context).err()
+/// The words of a command after the first, each a space apart.
+fn words_of(alloc: Global, command: &str) -> Result<Vec<String>, AllocError> {
+    let mut words = Vec::new(alloc);
+    for word in command.split(' ').skip(1) {
+        words.push(String::from_str(alloc, word)?)?;
+    }
+    Ok(words)
 }
 
-/// What is said of a listing.
-fn explained(alloc: Global, text: &[u8]) -> Result<String, OutOfMemory> {
-    match read_job(alloc, text) {
-        Ok(job) => match refusal(alloc, &job) {
-            Some(error) => explain_refusal(alloc, text, &error),
-            None => Ok(String::from_str(alloc, "it has code")?),
-        },
-        Err(ReadError::Syntax { line }) => explain_syntax(alloc, text, line),
-        Err(ReadError::OutOfMemory) => Err(OutOfMemory),
+/// What a call with these words over a listing says, and nothing where it says none.
+fn said(alloc: Global, words: &[String], listing: &str) -> Result<String, AllocError> {
+    let mut source = SureSource::new(listing.as_bytes());
+    let ending = run_explained(alloc, words, &mut source, &mut SureSink::new(alloc));
+    match ending.note {
+        Some(note) => Ok(note),
+        None => String::from_str(alloc, "nothing"),
     }
 }
 
-fn said(alloc: Global, listing: &str) -> Result<String, AllocError> {
-    match explained(alloc, listing.as_bytes()) {
-        Ok(said) => Ok(said),
-        Err(OutOfMemory) => String::from_str(alloc, "out of memory"),
-    }
-}
-
-/// Goes through cases, and returns how many there are.
-fn go_through_cases(alloc: Global, cases: &[Case]) -> Result<u32, CaseError> {
+/// Goes through listings, and returns how many there are.
+fn go_through_listings(alloc: Global, cases: &[Case]) -> Result<u32, CaseError> {
     let mut count = 0u32;
     for case in cases {
-        let got = said(alloc, &case.given)?;
+        let got = said(alloc, &[], &case.given)?;
         expect_text(alloc, &case.name, &case.answer, &got)?;
+        count = count.saturating_add(1);
+    }
+    Ok(count)
+}
+
+/// Goes through commands, each a line before its listing, and returns how many there are.
+fn go_through_commands(alloc: Global, cases: &[Case]) -> Result<u32, CaseError> {
+    let mut count = 0u32;
+    for case in cases {
+        let (command, listing) = case.given.split_once('\n').unwrap_or((&case.given, ""));
+        let words = words_of(alloc, command)?;
+        let got = said(alloc, &words, listing)?;
+        expect_text(alloc, &case.name, case.answer.trim_end(), &got)?;
         count = count.saturating_add(1);
     }
     Ok(count)
@@ -55,8 +55,12 @@ fn go_through_cases(alloc: Global, cases: &[Case]) -> Result<u32, CaseError> {
 
 impl Cases for Mistakes {
     fn go_through(&self, rt: &HostRuntime, path: &str) -> Result<u32, CaseError> {
-        let cases = rows_of(rt.alloc(), path, &read(rt, path)?)?;
-        go_through_cases(rt.alloc(), &cases)
+        let text = read(rt, path)?;
+        if path.ends_with(".commands") {
+            go_through_commands(rt.alloc(), &blocks_of(rt.alloc(), path, &text)?)
+        } else {
+            go_through_listings(rt.alloc(), &rows_of(rt.alloc(), path, &text)?)
+        }
     }
 }
 

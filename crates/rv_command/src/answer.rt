@@ -9,6 +9,7 @@ use crate::outcome::{Outcome, error_line, syntax_line, too_long_line, usage_line
 use crate::words::Request;
 use rv_asm::assemble;
 use rv_base::{List, OutOfMemory};
+use rv_explain::{explain_refusal, explain_syntax};
 use rv_gen::summary;
 use rv_inst::{Code, Context, EmitError, Job};
 use rv_listing::{ReadError, read_job, report, report_with};
@@ -19,7 +20,16 @@ use std::alloc::Global;
 pub struct Answer {
     pub outcome: Outcome,
     pub text: List<u8>,
+    /// What to mend, for the person who called. It is left out where there is no memory for it.
+    pub note: Option<String>,
 }
+
+/// What to mend where the words are none of the command's.
+const USAGE_NOTE: &str =
+    "the words are none, --text, or --gen N with N from 0 to 18446744073709551615; a listing is read from standard input";
+
+/// What to mend where the input is too long.
+const TOO_LONG_NOTE: &str = "the listing has more than 16777216 bytes";
 
 pub(crate) fn usage(alloc: Global) -> Result<Answer, OutOfMemory>
     ensures { IfOk result (Is ends.Usage usage_line) }
@@ -27,6 +37,7 @@ pub(crate) fn usage(alloc: Global) -> Result<Answer, OutOfMemory>
     Ok(Answer {
         outcome: Outcome::Usage,
         text: List::from_vec(usage_line(alloc)?),
+        note: String::from_str(alloc, USAGE_NOTE).ok(),
     })
 }
 
@@ -36,28 +47,40 @@ pub(crate) fn too_long(alloc: Global) -> Result<Answer, OutOfMemory>
     Ok(Answer {
         outcome: Outcome::TooLong,
         text: List::from_vec(too_long_line(alloc)?),
+        note: String::from_str(alloc, TOO_LONG_NOTE).ok(),
     })
 }
 
-fn syntax(alloc: Global, line: usize) -> Result<Answer, OutOfMemory>
+fn syntax(alloc: Global, input: &[u8], line: usize) -> Result<Answer, OutOfMemory>
     ensures { IfOk result (Is (ends.Syntax line) (syntax_line line)) }
 {
     Ok(Answer {
         outcome: Outcome::Syntax { line },
         text: List::from_vec(syntax_line(alloc, line)?),
+        note: explain_syntax(alloc, input, line).ok(),
     })
 }
 
-fn refused(alloc: Global, error: EmitError) -> Result<Answer, OutOfMemory>
+/// What is wrong with a listing that is refused; of a generated job nothing is said.
+fn refusal_note(alloc: Global, input: &Option<Vec<u8>>, error: &EmitError) -> Option<String> {
+    match input {
+        Some(input) => explain_refusal(alloc, input, error).ok(),
+        None => None,
+    }
+}
+
+fn refused(alloc: Global, input: &Option<Vec<u8>>, error: EmitError) -> Result<Answer, OutOfMemory>
     ensures { IfOk result (λ answer. (error ≢ errors.OutOfMemory) × Is (ends.Refused error) (error_line error) answer) }
 {
     match error {
         EmitError::OutOfMemory => Err(OutOfMemory),
         error => {
             let text = List::from_vec(error_line(alloc, &error)?);
+            let note = refusal_note(alloc, input, &error);
             Ok(Answer {
                 outcome: Outcome::Refused { error },
                 text,
+                note,
             })
         }
     }
@@ -91,14 +114,17 @@ fn done(alloc: Global, request: Request, job: Job, code: Code) -> Result<Answer,
     Ok(Answer {
         outcome: Outcome::Done { code },
         text,
+        note: None,
     })
 }
 
-/// The answer to a job that is asked for so.
+/// The answer to a job that is asked for so, which was read from this input, or is a generated one. The input is kept until it is known
+/// whether the job is refused.
 pub(crate) fn answer_of_job(
     alloc: Global,
     request: Request,
     job: Job,
+    input: Option<Vec<u8>>,
 ) -> Result<Answer, OutOfMemory>
     ensures { IfOk result (λ answer. Means request job answer.outcome answer.text) }
 {
@@ -109,11 +135,11 @@ pub(crate) fn answer_of_job(
     };
     match assemble(alloc, job.lines.as_slice(), &context) {
         Ok(code) => done(alloc, request, job, code),
-        Err(error) => refused(alloc, error),
+        Err(error) => refused(alloc, &input, error),
     }
 }
 
-/// The answer to an input, whose memory is given back once its job is read.
+/// The answer to an input.
 pub(crate) fn answer_of_input(
     alloc: Global,
     request: Request,
@@ -123,9 +149,8 @@ pub(crate) fn answer_of_input(
 {
     let job = match read_job(alloc, &input) {
         Ok(job) => job,
-        Err(ReadError::Syntax { line }) => return syntax(alloc, line),
+        Err(ReadError::Syntax { line }) => return syntax(alloc, &input, line),
         Err(ReadError::OutOfMemory) => return Err(OutOfMemory),
     };
-    drop(input);
-    answer_of_job(alloc, request, job)
+    answer_of_job(alloc, request, job, Some(input))
 }

@@ -73,6 +73,9 @@ fn name_reason(alloc: Global, name: &str) -> Result<String, OutOfMemory> {
 
 /// The names of fields, each after a space.
 fn names_of(alloc: Global, fields: &[Field]) -> Result<String, OutOfMemory> {
+    if fields.is_empty() {
+        return Ok(String::from_str(alloc, " no words")?);
+    }
     let mut names = String::new(alloc);
     for Field(name, _) in fields {
         names.push(' ')?;
@@ -85,18 +88,13 @@ fn names_of(alloc: Global, fields: &[Field]) -> Result<String, OutOfMemory> {
 fn count_reason(alloc: Global, form: Form, count: usize) -> Result<String, OutOfMemory> {
     let Form(name, fields) = form;
     let names = names_of(alloc, fields)?;
-    let takes = if fields.is_empty() {
-        " no words"
-    } else {
-        &names
-    };
     let words = if count == 1 { "word" } else { "words" };
     let after = if name.contains(' ') {
         "these"
     } else {
         "its name"
     };
-    Ok(format!(in alloc; "{name} takes{takes}, and this line has {count} {words} after {after}")?)
+    Ok(format!(in alloc; "{name} takes{names}, and this line has {count} {words} after {after}")?)
 }
 
 /// What is wrong with the step of an `Unwind`.
