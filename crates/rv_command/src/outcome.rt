@@ -29,6 +29,15 @@ pub enum Outcome {
     OutOfMemory,
 }
 
+/// How a call of the program ended, and what is said of it to the person who called.
+#[derive(Drop)]
+pub struct Ending {
+    pub outcome: Outcome,
+    /// What to mend where there is no report, on one line: the line of the listing, its words, and why. None where there was no memory to
+    /// say it.
+    pub note: Option<String>,
+}
+
 impl Outcome {
     ghost use Rattle.rv_command.specs.Outcomes.{status_of};
 

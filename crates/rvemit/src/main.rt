@@ -1,11 +1,12 @@
-//! `rvemit`: reads a listing from standard input, and writes the report of its code to standard output.
+//! `rvemit`: reads a listing from standard input, and writes the report of its code to standard output. Where there is none it writes why
+//! there, and to standard error what to mend.
 #![tactic(auto)]
 
 ghost use Rattle.std.specs.Prelude.{◌≡◌};
 ghost use Rattle.std.specs.Process.{exit_status};
 ghost use Rattle.rv_command.specs.Outcomes.{status_of};
 
-use rv_command::{Outcome, run};
+use rv_command::{Outcome, run_explained};
 use rv_stream::{StdSink, StdSource};
 use std::env;
 use std::io::{self, ErrorKind};
@@ -40,6 +41,9 @@ fn main(rt: HostRuntime) -> ExitCode {
     };
     let mut source = StdSource::new(rt.stdin());
     let mut sink = StdSink::new(rt.stdout());
-    let outcome = run(rt.alloc(), &words, &mut source, &mut sink);
-    exit(&outcome)
+    let ending = run_explained(rt.alloc(), &words, &mut source, &mut sink);
+    if let Some(note) = &ending.note {
+        let _ = eprintln!(rt; "{note}");
+    }
+    exit(&ending.outcome)
 }
