@@ -7,6 +7,7 @@ ghost use Rattle.rv_command.specs.Outcomes.{rule_name, error_line, usage_line, t
 use rv_base::OutOfMemory;
 use rv_inst::{Code, EmitError, Rule};
 use std::alloc::Global;
+use std::process::ExitCode;
 
 /// How a call of the program ended.
 #[derive(Drop)]
@@ -39,6 +40,7 @@ pub struct Ending {
 }
 
 impl Outcome {
+    ghost use Rattle.std.specs.Process.{exit_status};
     ghost use Rattle.rv_command.specs.Outcomes.{status_of};
 
     /// The status that the process ends with.
@@ -55,6 +57,13 @@ impl Outcome {
             Outcome::TooLong => 7,
             Outcome::OutOfMemory => 8,
         }
+    }
+
+    /// That status, as `main` returns it.
+    pub fn exit_code(&self) -> ExitCode
+        ensures { exit_status result ≡ status_of self.now }
+    {
+        ExitCode::from(self.status())
     }
 }
 

@@ -2,11 +2,7 @@
 //! there, and to standard error what to mend.
 #![tactic(auto)]
 
-ghost use Rattle.std.specs.Prelude.{◌≡◌};
-ghost use Rattle.std.specs.Process.{exit_status};
-ghost use Rattle.rv_command.specs.Outcomes.{status_of};
-
-use rv_command::{Outcome, run_explained};
+use rv_command::run_explained;
 use rv_stream::{StdSink, StdSource};
 use std::env;
 use std::io::{self, ErrorKind};
@@ -29,12 +25,6 @@ fn words(rt: &HostRuntime) -> io::Result<Vec<String>> {
     Ok(words)
 }
 
-fn exit(outcome: &Outcome) -> ExitCode
-    ensures { exit_status result ≡ status_of outcome.now }
-{
-    ExitCode::from(outcome.status())
-}
-
 fn main(rt: HostRuntime) -> ExitCode {
     let Ok(words) = words(&rt) else {
         return ExitCode::from(8);
@@ -45,5 +35,5 @@ fn main(rt: HostRuntime) -> ExitCode {
     if let Some(note) = &ending.note {
         let _ = eprintln!(rt; "{note}");
     }
-    exit(&ending.outcome)
+    ending.outcome.exit_code()
 }
