@@ -1,23 +1,15 @@
 -- A machine that others write to keeps its numbers in their ranges.
-use Rattle.std.proofs.Common.{ℕ, true, false, Option, Some, None, List, [], ◌∷◌}
+use Rattle.std.proofs.Common.{◌≡◌, ℕ, zero, suc, true, false, Option, Some, None, List, [], ◌∷◌, refl, subst}
 use Rattle.std.specs.Prelude.{IfSome, if◌then◌else◌}
 use Rattle.std.specs.List.{AllByRecursion}
+use Rattle.rv_full.proofs.RowsKeep.{reserved_set_fits}
+use Rattle.rv_full.proofs.StatesKept.{step_kept}
+use Rattle.rv_base.specs.declared.flags.IsaFlags.{IsaFlags}
 use Rattle.rv_machine.proofs.States.{set_byte_state}
 use Rattle.rv_full.specs.declared.units.Reservation.{Reservation}
-use Rattle.rv_full.specs.Units.{FullState, IsFullState, IsReservation, Units, AreUnits, set_reserved}
-use Rattle.rv_full.specs.Shared.{Write, IsWrite, AreWrites, IsShared, is_reserved, left_by, foreign, foreigns, interfere}
-
-pub set_reserved_fits : (u : Units) (r : Option Reservation) → AreUnits u → IfSome r IsReservation → AreUnits (set_reserved u r)
-set_reserved_fits u r h fits = record {
-  float_count = h.float_count;
-  float_fits = h.float_fits;
-  vector_count = h.vector_count;
-  vector_fits = h.vector_fits;
-  frm_fits = h.frm_fits;
-  reserved_fits = fits;
-  avl_fits = h.avl_fits;
-  vtype_fits = h.vtype_fits;
-}
+use Rattle.rv_full.specs.Units.{FullState, IsFullState, IsReservation}
+use Rattle.rv_full.specs.Steps.{fstep}
+use Rattle.rv_full.specs.Shared.{Shared, Write, IsWrite, AreWrites, IsShared, aiter, astep, foreign, foreigns, interfere, is_reserved, left_by, shared_by, then_astep}
 
 left_fits : (a : ℕ) (r : Option Reservation) → IfSome r IsReservation → IfSome (left_by a r) IsReservation
 left_fits a None h = tt
@@ -26,7 +18,7 @@ left_fits a (Some r) h = elim (is_reserved a r) as (λ c. IfSome (if c then None
 foreign_keeps : (w : Write) (b : FullState) → IsWrite w → IsFullState b → IsFullState (foreign w b)
 foreign_keeps w b fits h = record {
   state = set_byte_state b.state w.0 w.1 h.state fits.1;
-  units = set_reserved_fits b.units (left_by w.0 b.units.reserved) h.units (left_fits w.0 b.units.reserved h.units.reserved_fits);
+  units = reserved_set_fits b.units (left_by w.0 b.units.reserved) h.units (left_fits w.0 b.units.reserved h.units.reserved_fits);
   answers = h.answers;
 }
 
@@ -37,3 +29,20 @@ foreigns_keep (w ∷ ws) b fits h = foreigns_keep ws (foreign w b) fits.1 (forei
 pub interfered : (later : List (List Write)) (b : FullState) → AllByRecursion AreWrites later → IsFullState b → IsShared (interfere later b)
 interfered [] b fits h = record { full = h; later = tt }
 interfered (ws ∷ later) b fits h = record { full = foreigns_keep ws b fits.0 h; later = fits.1 }
+
+-- one step of the machine, and what others write after it
+shared_step : (flags : IsaFlags) (a c : Shared) → IsShared a → astep flags a ≡ Some c → IsShared c
+shared_step flags a c h went = after (fstep flags a.full) went (λ b is. step_kept flags a.full b h.full is)
+  where
+    after : (o : Option FullState) → shared_by a.later o ≡ Some c → ((b : FullState) → o ≡ Some b → IsFullState b) → IsShared c
+    after None went kept = absurd (cc)
+    after (Some b) went kept = let is : interfere a.later b ≡ c = cc in subst IsShared is (interfered a.later b h.later (kept b refl))
+
+pub shared_run : (flags : IsaFlags) (n : ℕ) (a c : Shared) → IsShared a → aiter flags n a ≡ Some c → IsShared c
+unfolding aiter
+shared_run flags zero a c h ran = let is : a ≡ c = cc in subst IsShared is h
+shared_run flags (suc n) a c h ran = after (aiter flags n a) ran (λ b first. shared_run flags n a b h first)
+  where
+    after : (o : Option Shared) → then_astep flags o ≡ Some c → ((b : Shared) → o ≡ Some b → IsShared b) → IsShared c
+    after None last first = absurd (cc)
+    after (Some b) last first = shared_step flags b c (first b refl) last
