@@ -15,7 +15,7 @@ use function::lines;
 use mach_records::FinalizedRelocTarget;
 use rv_asm::assemble;
 use rv_base::{ExternalName, FrameLayout, IsaFlags, Reloc};
-use rv_inst::{Code, Context, EmitError, Line, MachReloc};
+use rv_inst::{Code, EmitError, Line, MachReloc};
 use std::alloc::Global;
 use std::{env, io};
 use timing::assemble_again;
@@ -25,12 +25,7 @@ fn code_of(alloc: Global, lines: &[Line]) -> Result<Code, EmitError>
     ensures runs { IfOk result (λ code. RunsAsListed (job_of lines.now no_flags no_frame []) code) }
 {
     let frame = FrameLayout::none(alloc);
-    let context = Context {
-        flags: IsaFlags::none(),
-        frame: &frame,
-        constants: &[],
-    };
-    assemble(alloc, lines, &context)
+    assemble(alloc, lines, IsaFlags::none(), &frame, &[])
 }
 
 fn kind_name(kind: Reloc) -> &'static str {

@@ -14,7 +14,17 @@ use Rattle.mach_uses.specs.Places.{place_in}
 use Rattle.mach_buffer.specs.Inside.{AreSound, inside_of}
 
 abbrev pub shape_of : {L : Type 0} → MachBuffer L → Shape L
-shape_of b = record { bytes = b.code.bytes.items; uses = b.code.uses.items; place = place_in b.labels; labels = b.labels.bound.items; allocated = b.labels.allocated; records = b.records.items; registered = b.constants.registered.items; named = b.constants.named.items; constants = b.constants.placed.items }
+shape_of b = record {
+  bytes = b.code.bytes.items;
+  uses = b.code.uses.items;
+  place = place_in b.labels;
+  labels = b.labels.bound.items;
+  allocated = b.labels.allocated;
+  records = b.records.items;
+  registered = b.constants.registered.items;
+  named = b.constants.named.items;
+  constants = b.constants.placed.items;
+}
 
 -- the bytes so far
 abbrev pub bytes_of : {L : Type 0} → MachBuffer L → List ℕ

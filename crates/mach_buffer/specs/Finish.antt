@@ -23,8 +23,10 @@ pub record IsVia {L : Type 0} (kinds : Kinds L) (v : Veneer L) (bytes : List ℕ
   pub even : at % 2 ≡ 0
   pub inside : at + 8 ≤ length bytes
   pub front : window bytes at v.place ≡ take v.place v.bytes
-  pub own : SameOutside (kinds.fields v.kind) (take (length (kinds.fields v.kind)) (drop v.place v.bytes)) (window bytes (at + v.place) (length (kinds.fields v.kind)))
-  pub back : window bytes (at + (v.place + length (kinds.fields v.kind))) (8 - (v.place + length (kinds.fields v.kind))) ≡ drop (v.place + length (kinds.fields v.kind)) v.bytes
+  pub own :
+      SameOutside (kinds.fields v.kind) (take (length (kinds.fields v.kind)) (drop v.place v.bytes)) (window bytes (at + v.place) (length (kinds.fields v.kind)))
+  pub back :
+      window bytes (at + (v.place + length (kinds.fields v.kind))) (8 - (v.place + length (kinds.fields v.kind))) ≡ drop (v.place + length (kinds.fields v.kind)) v.bytes
   pub on : kinds.aims v.kind (window bytes (at + v.place) (length (kinds.fields v.kind))) (pos to -ℤ pos (at + v.place))
 
 -- where a use goes: straight to its label's place where it has no veneer, and else by its own veneer
@@ -34,7 +36,8 @@ Arrives kinds bytes u to (Some at) = (via : IsVia kinds (kinds.veneer u.kind) by
 
 -- each use does
 abbrev pub AllArrive : {L : Type 0} → Kinds L → List ℕ → (ℕ → Option ℕ) → List (Use L) → Type 0
-AllArrive {L} kinds bytes place uses = (j : ℕ) (u : Use L) (to : ℕ) → slice_get uses j ≡ Some u → place u.label.number ≡ Some to → Arrives kinds bytes u to u.veneer
+AllArrive {L} kinds bytes place uses =
+    (j : ℕ) (u : Use L) (to : ℕ) → slice_get uses j ≡ Some u → place u.label.number ≡ Some to → Arrives kinds bytes u to u.veneer
 
 -- the bytes before the last veneers: with zero bytes to a multiple of four where some use is pending
 abbrev pub before_last : List ℕ → ℕ → List ℕ
@@ -58,7 +61,12 @@ last_end kinds s = length (before_last s.bytes (length (pending_in kinds s))) + 
 pub record CanFinish {L : Type 0} (kinds : Kinds L) (s : Shape L) : Type 0 where
   pub windows : AreWindows kinds s.bytes s.uses
   pub bound : (j : ℕ) (u : Use L) → slice_get s.uses j ≡ Some u → (is_some (s.place u.label.number) ≡ true) ⊎ IsConstantLabel s.named u.label.number
-  pub direct : (j : ℕ) (u : Use L) → slice_get s.uses j ≡ Some u → kinds.has_veneer u.kind ≡ false → is_far kinds u ≡ false → is_reached kinds (s.place u.label.number) u ≡ true
+  pub direct :
+      (j : ℕ) (u : Use L) →
+      slice_get s.uses j ≡ Some u →
+      kinds.has_veneer u.kind ≡ false →
+      is_far kinds u ≡ false →
+      is_reached kinds (s.place u.label.number) u ≡ true
   pub reach : VeneersReach (length (before_last s.bytes (length (pending_in kinds s)))) (pending_in kinds s)
   pub short : end_after s (last_end kinds s) < code_limit
   pub constants : AllStand kinds s

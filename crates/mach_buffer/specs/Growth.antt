@@ -27,7 +27,12 @@ pub record RecordsLast {L : Type 0} (s t : Shape L) : Type 0 where
 -- or named, or stand, stay so
 pub record Lasts {L : Type 0} (kinds : Kinds L) (s t : Shape L) : Type 0 where
   pub grows : Grows s.bytes s.uses s.place t.bytes t.uses t.place
-  pub straight : (j : ℕ) (u : Use L) → slice_get s.uses j ≡ Some u → u.veneer ≡ None → is_reached kinds (s.place u.label.number) u ≡ true → slice_get t.uses j ≡ Some u
+  pub straight :
+      (j : ℕ) (u : Use L) →
+      slice_get s.uses j ≡ Some u →
+      u.veneer ≡ None →
+      is_reached kinds (s.place u.label.number) u ≡ true →
+      slice_get t.uses j ≡ Some u
   pub allocated : s.allocated ≤ t.allocated
   pub records : RecordsLast s t
   pub registered : t.registered ≡ s.registered

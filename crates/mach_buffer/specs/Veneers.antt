@@ -7,7 +7,10 @@ use Rattle.mach_buffer.specs.Shape.{Shape, veneer_use}
 -- a use gets its veneer: the veneer's bytes at the end of the code, and its own use at the end of the uses
 abbrev pub put_at : {L : Type 0} → Kinds L → ℕ → Option (Use L) → Shape L → Shape L
 put_at kinds index None s = s
-put_at kinds index (Some u) s = record s { bytes = s.bytes ++ (kinds.veneer u.kind).bytes; uses = slice_set s.uses index (record u { veneer = Some (length s.bytes) }) ++ veneer_use (kinds.veneer u.kind) (length s.bytes) u.label ∷ [] }
+put_at kinds index (Some u) s = record s {
+  bytes = s.bytes ++ (kinds.veneer u.kind).bytes;
+  uses = slice_set s.uses index (record u { veneer = Some (length s.bytes) }) ++ veneer_use (kinds.veneer u.kind) (length s.bytes) u.label ∷ [];
+}
 
 -- the use of a number does
 abbrev pub put_veneer : {L : Type 0} → Kinds L → ℕ → Shape L → Shape L

@@ -13,9 +13,19 @@ pub record AreWindows {L : Type 0} (kinds : Kinds L) (bytes : List ℕ) (uses : 
   pub even : (j : ℕ) (u : Use L) → slice_get uses j ≡ Some u → u.offset % 2 ≡ 0
   pub inside : (j : ℕ) (u : Use L) → slice_get uses j ≡ Some u → u.offset + length (kinds.fields u.kind) ≤ length bytes
   pub fresh : (j : ℕ) (u : Use L) → slice_get uses j ≡ Some u → IsFresh (kinds.fields u.kind) (window bytes u.offset (length (kinds.fields u.kind)))
-  pub apart : (j k : ℕ) (u v : Use L) → j ≢ k → slice_get uses j ≡ Some u → slice_get uses k ≡ Some v → IsApart u.offset (length (kinds.fields u.kind)) v.offset (length (kinds.fields v.kind))
+  pub apart :
+      (j k : ℕ) (u v : Use L) →
+      j ≢ k →
+      slice_get uses j ≡ Some u →
+      slice_get uses k ≡ Some v →
+      IsApart u.offset (length (kinds.fields u.kind)) v.offset (length (kinds.fields v.kind))
   pub veneers : (j : ℕ) (u : Use L) (at : ℕ) → slice_get uses j ≡ Some u → u.veneer ≡ Some at → at + 8 ≤ length bytes
-  pub clear : (j k : ℕ) (u v : Use L) (at : ℕ) → slice_get uses j ≡ Some u → u.veneer ≡ Some at → slice_get uses k ≡ Some v → (v ≡ veneer_use (kinds.veneer u.kind) at u.label) ⊎ IsApart v.offset (length (kinds.fields v.kind)) at 8
+  pub clear :
+      (j k : ℕ) (u v : Use L) (at : ℕ) →
+      slice_get uses j ≡ Some u →
+      u.veneer ≡ Some at →
+      slice_get uses k ≡ Some v →
+      (v ≡ veneer_use (kinds.veneer u.kind) at u.label) ⊎ IsApart v.offset (length (kinds.fields v.kind)) at 8
 
 -- each use's window ends in the bytes
 abbrev pub AllEnd : {L : Type 0} → Kinds L → Shape L → Type 0
@@ -39,19 +49,33 @@ pub record ChangesOnly (old new : List ℕ) (place size : ℕ) : Type 0 where
 -- each window can be patched, and no two share a byte
 pub record CanPatchAll {L : Type 0} (kinds : Kinds L) (bytes : List ℕ) (patches : List (Patch L)) : Type 0 where
   pub each : (j : ℕ) (u : Patch L) → slice_get patches j ≡ Some u → CanPatch kinds bytes u
-  pub apart : (j k : ℕ) (u v : Patch L) → j ≢ k → slice_get patches j ≡ Some u → slice_get patches k ≡ Some v → IsApart u.offset (length (kinds.fields u.kind)) v.offset (length (kinds.fields v.kind))
+  pub apart :
+      (j k : ℕ) (u v : Patch L) →
+      j ≢ k →
+      slice_get patches j ≡ Some u →
+      slice_get patches k ≡ Some v →
+      IsApart u.offset (length (kinds.fields u.kind)) v.offset (length (kinds.fields v.kind))
 
 -- each window aims at its target
 abbrev pub AllAim : {L : Type 0} → Kinds L → List ℕ → List (Patch L) → Type 0
-AllAim {L} kinds bytes patches = (j : ℕ) (u : Patch L) → slice_get patches j ≡ Some u → kinds.aims u.kind (window bytes u.offset (length (kinds.fields u.kind))) (pos u.target -ℤ pos u.offset)
+AllAim {L} kinds bytes patches =
+    (j : ℕ) (u : Patch L) →
+    slice_get patches j ≡ Some u →
+    kinds.aims u.kind (window bytes u.offset (length (kinds.fields u.kind))) (pos u.target -ℤ pos u.offset)
 
 -- each window keeps its bits outside the fields
 abbrev pub AllKept : {L : Type 0} → Kinds L → List ℕ → List ℕ → List (Patch L) → Type 0
-AllKept {L} kinds old new patches = (j : ℕ) (u : Patch L) → slice_get patches j ≡ Some u → SameOutside (kinds.fields u.kind) (window old u.offset (length (kinds.fields u.kind))) (window new u.offset (length (kinds.fields u.kind)))
+AllKept {L} kinds old new patches =
+    (j : ℕ) (u : Patch L) →
+    slice_get patches j ≡ Some u →
+    SameOutside (kinds.fields u.kind) (window old u.offset (length (kinds.fields u.kind))) (window new u.offset (length (kinds.fields u.kind)))
 
 -- bytes that stand in no window stay
 abbrev pub KeepsOthers : {L : Type 0} → Kinds L → List ℕ → List ℕ → List (Patch L) → Type 0
-KeepsOthers {L} kinds old new patches = (p m : ℕ) → ((j : ℕ) (u : Patch L) → slice_get patches j ≡ Some u → IsApart p m u.offset (length (kinds.fields u.kind))) → window new p m ≡ window old p m
+KeepsOthers {L} kinds old new patches =
+    (p m : ℕ) →
+    ((j : ℕ) (u : Patch L) → slice_get patches j ≡ Some u → IsApart p m u.offset (length (kinds.fields u.kind))) →
+    window new p m ≡ window old p m
 
 -- where a use is to go: to its veneer, or else to its label's place
 abbrev pub or_place : Option ℕ → Option ℕ → Option ℕ

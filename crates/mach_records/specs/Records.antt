@@ -35,7 +35,10 @@ event_recorded at offset (Trap code) = record nothing { traps = record { offset 
 event_recorded at offset (Reloc kind target addend) = record nothing { relocs = record { offset = offset; kind = kind; target = target; addend = addend } ∷ [] }
 event_recorded at offset (Unwind inst) = record nothing { unwinds = record { offset = offset; inst = inst } ∷ [] }
 event_recorded at offset CallSite = record nothing { call_sites = offset ∷ [] }
-event_recorded at offset (TryCallSite frame handlers) = record nothing { try_call_sites = record { offset = offset; frame_offset = frame; handlers = map (finalized_handler at) handlers } ∷ [] }
+event_recorded at offset (TryCallSite frame handlers) =
+    record nothing {
+      try_call_sites = record { offset = offset; frame_offset = frame; handlers = map (finalized_handler at) handlers } ∷ [];
+    }
 event_recorded at offset (PatchableCallSite len) = record nothing { patchable_call_sites = record { offset = offset; len = len } ∷ [] }
 event_recorded at offset (StackMap span entries) = record nothing { stack_maps = record { offset = offset; span = span; map = entries } ∷ [] }
 

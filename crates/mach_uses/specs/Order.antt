@@ -21,7 +21,14 @@ pub data IsSooner {L : Type 0} (kinds : Kinds L) (i : ℕ) (u : Use L) (j : ℕ)
 -- the order of veneers: exactly the uses for which a test holds, the soonest first
 pub record IsOrder {L : Type 0} (kinds : Kinds L) (test : Use L → Bool) (uses : List (Use L)) (order : List ℕ) : Type 0 where
   pub exactly : IsPermutation (numbers_of test uses) order
-  pub sorted : (a b i j : ℕ) (u v : Use L) → a < b → slice_get order a ≡ Some i → slice_get order b ≡ Some j → slice_get uses i ≡ Some u → slice_get uses j ≡ Some v → IsSooner kinds i u j v
+  pub sorted :
+      (a b i j : ℕ) (u v : Use L) →
+      a < b →
+      slice_get order a ≡ Some i →
+      slice_get order b ≡ Some j →
+      slice_get uses i ≡ Some u →
+      slice_get uses j ≡ Some v →
+      IsSooner kinds i u j v
 
 -- the use of a number supports a veneer, and reaches an offset
 pub record CanPutAt {L : Type 0} (kinds : Kinds L) (uses : List (Use L)) (cur number : ℕ) : Type 0 where

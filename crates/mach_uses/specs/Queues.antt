@@ -114,4 +114,6 @@ key_number t = t.index
 -- whether the slack of all queues shows that all veneers, put from an offset on, end by their deadlines: those of the uses in the
 -- queues before it may all come before one of a queue
 abbrev pub shows_slack : Pending → ℕ → Bool
-shows_slack p start = nat_le start p.short.slack && (nat_le (start + 8 * length p.short.numbers.items) p.near.slack && nat_le (start + 8 * (length p.short.numbers.items + length p.near.numbers.items)) p.far.slack)
+shows_slack p start =
+    nat_le start p.short.slack &&
+    (nat_le (start + 8 * length p.short.numbers.items) p.near.slack && nat_le (start + 8 * (length p.short.numbers.items + length p.near.numbers.items)) p.far.slack)

@@ -3,7 +3,7 @@
 use crate::headers::{constants_said, frame_said};
 use crate::{accesses, calls, floats, sequences, symbols, tail_calls};
 use rv_base::Reg;
-use rv_inst::{Context, Inst, Job, Line, is_bad_frame_for};
+use rv_inst::{Inst, Job, Line, is_bad_frame_for};
 use rv_listing::{ReadError, read_job, register};
 use std::alloc::{AllocError, Global};
 
@@ -72,11 +72,7 @@ fn line_said(alloc: Global, lines: &[Line]) -> Result<String, AllocError> {
 
 fn rule_broken(alloc: Global, job: &Job) -> Result<String, AllocError> {
     let rule = match job.lines.as_slice() {
-        [line, ..] => line.check(&Context {
-            flags: job.flags,
-            frame: &job.frame,
-            constants: job.constants.as_slice(),
-        }),
+        [line, ..] => line.check(job.flags, &job.frame, job.constants.as_slice()),
         [] => None,
     };
     match rule {

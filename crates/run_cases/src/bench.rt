@@ -6,37 +6,39 @@ use crate::error::RunError;
 use crate::linked::Placing;
 use crate::numbers::pair;
 use rv_asm::assemble;
-use rv_base::{FrameLayout, IsaFlags, OutOfMemory};
-use rv_inst::{Code, Context, Line};
+use rv_base::{Constant, FrameLayout, IsaFlags, OutOfMemory};
+use rv_inst::{Code, Line};
 use rv_listing::{read_job, report};
 use rv_machine::{IntMachine, Step};
 use std::alloc::Global;
 
 /// The code of lines, of which nothing is promised, so that what calls it need not carry what `assemble` promises.
-fn assembled(alloc: Global, lines: &[Line], context: &Context) -> Result<Code, RunError> {
-    Ok(assemble(alloc, lines, context)?)
+fn assembled(
+    alloc: Global,
+    lines: &[Line],
+    flags: IsaFlags,
+    frame: &FrameLayout,
+    constants: &[Constant],
+) -> Result<Code, RunError> {
+    Ok(assemble(alloc, lines, flags, frame, constants)?)
 }
 
 /// The code of lines that need no flags, frame or constants.
 pub(crate) fn plain_code(alloc: Global, lines: &[Line]) -> Result<Code, RunError> {
     let frame = FrameLayout::none(alloc);
-    let context = Context {
-        flags: IsaFlags::none(),
-        frame: &frame,
-        constants: &[],
-    };
-    assembled(alloc, lines, &context)
+    assembled(alloc, lines, IsaFlags::none(), &frame, &[])
 }
 
 /// The flags of a listing, and its code.
 pub(crate) fn code_of(alloc: Global, text: &str) -> Result<(IsaFlags, Code), RunError> {
     let job = read_job(alloc, text.as_bytes())?;
-    let context = Context {
-        flags: job.flags,
-        frame: &job.frame,
-        constants: job.constants.as_slice(),
-    };
-    let code = assembled(alloc, job.lines.as_slice(), &context)?;
+    let code = assembled(
+        alloc,
+        job.lines.as_slice(),
+        job.flags,
+        &job.frame,
+        job.constants.as_slice(),
+    )?;
     Ok((job.flags, code))
 }
 

@@ -7,7 +7,7 @@ ghost use Rattle.run_cases.specs.Loaded.{IsBefore};
 use crate::error::RunError;
 use rv_asm::assemble;
 use rv_base::{FrameLayout, IsaFlags};
-use rv_inst::{Code, Context, Inst, Line};
+use rv_inst::{Code, Inst, Line};
 use rv_machine::{IntMachine, Step};
 use std::alloc::Global;
 
@@ -33,12 +33,7 @@ fn started(alloc: Global, lines: &[Line], base: u64) -> Result<IntMachine, RunEr
     requires room { base + 2 ^ 32 ≤ 2 ^ 64 }
 {
     let frame = FrameLayout::none(alloc);
-    let context = Context {
-        flags: IsaFlags::none(),
-        frame: &frame,
-        constants: &[],
-    };
-    let code = assemble(alloc, lines, &context)?;
+    let code = assemble(alloc, lines, IsaFlags::none(), &frame, &[])?;
     loaded(alloc, &code, base)
 }
 

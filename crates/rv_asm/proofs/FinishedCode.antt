@@ -85,6 +85,7 @@ module _ (job : Job) (code : Code) (gaps : List Gap) (b : Buffer) (built : Lines
     none = λ e. end ∙ built.ends ∙ ap (end_before code.lines) e;
     within = omega arith;
     returns = returns;
+    returns_within = λ i inst r e is. (built.each i (Put inst) e).there.2.back.returns r is;
     labels = labels;
     constants = ap (map (λ (c : ConstPlace). c.constant)) constants ∙ f.finishes.listed ∙ built.named;
     placed = subst (HasConstants job.constants code.bytes) (sym constants) (subst (λ (cs : List Constant). HasConstants cs code.bytes f.finishes.put.constants) built.registered f.finishes.constants);

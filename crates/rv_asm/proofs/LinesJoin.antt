@@ -7,7 +7,7 @@ use Rattle.rv_asm.proofs.Words.{IsExit, IsOn, IsPlaced, IsPlacedAt, IsRecorded, 
 use Rattle.rv_asm.proofs.Words.{MeansSame, Memory, named_labels, nat_lt, Next, next_point, None, offset_in, OneFullLine, Option, Out, Overwrites, parts_of, PartsStand, Placing, Point, Put, put, Reached, refl, resumed_by, Resumes, Return, return_at, return_exit, return_of, Returned, returns_from}
 use Rattle.rv_asm.proofs.Words.{RunsAsListed, RunsOn, Same, same_but, same_Some, SameBut, Site, slice_get, slice_get_within, Some, StandsAt, start_of, State, Stop, Stops, subst, suc, sym, temporaries_from, temporaries_of, To, Trap, TrapCode, Trapped, true, try_call_of, try_exit, unwrap_or, Values}
 use Rattle.{rv_asm.proofs.Words.{wrap, writes_of, WritesOutside, zero, ℕ, ⊎_elim, ◌%◌, ◌*◌, ◌++◌, ◌+◌, ◌<◌, ◌∙◌, ◌∷◌, ◌≡◌, ◌≤◌, ◌⊎◌}, rv_full.specs.Vectors.is_legal, rv_inst.proofs.Meaning.{effect_agrees, exit_agrees, writes_agree}, rv_inst.specs.Core.{is_integer, is_integer_in, is_integer_line}}
-use Rattle.{rv_inst.specs.Environments.{AgreeOn, SameLabels}, std.proofs.lemmas.List.append-nil}
+use Rattle.{rv_inst.specs.Environments.{AgreeOn, SameLabels}, rv_runs.specs.FullInstRuns.WritesElsewhere, std.proofs.lemmas.List.{length-append, take_at}, std.proofs.Common.{drop, take, take-append-drop, ⊥, ◌×◌}}
 use Rattle.mach_records.specs.declared.records.Event.TheVariants as event
 use Rattle.rv_inst.specs.declared.inst.Inst.TheVariants.{Call, CallInd}
 
@@ -298,6 +298,59 @@ outside_or_on from size (a ∷ addresses) = ⊎_elim
     with_first first (inl others) = inl (outside_more from size a addresses first others)
     with_first first (inr (k, lt, low, high)) = inr (suc k, omega arith, low, high)
 
+-- ---- with the answers that it takes a meaning writes elsewhere, or on these bytes
+
+module _ (from size : ℕ) (m : FullMeaning) (env : Environment) (v : FullValues) (answers : List Answer) where
+  -- with the answers that it takes of these it writes on one of so many bytes from an address on
+  pub record WritesOn : Type 0 where
+    pub took : List Answer
+    pub left : List Answer
+    pub parted : answers ≡ took ++ left
+    pub made : FullValues
+    pub takes : m.takes env v (m.own_of took) ≡ Some (made, [])
+    pub on : IsOn from size (m.writes env v (m.own_of took))
+
+  -- where these are just the first n answers, it doesn't
+  abbrev ClearOf : ℕ → Type 0
+  ClearOf n = (made : FullValues) → m.takes env v (m.own_of (take n answers)) ≡ Some (made, []) → AreOutside from size (m.writes env v (m.own_of (take n answers)))
+
+  with_taken : (n : ℕ) (made : FullValues) (left : List Answer) → m.takes env v (m.own_of (take n answers)) ≡ Some (made, left) → ClearOf n ⊎ WritesOn
+  with_taken n made [] is = ⊎_elim
+      (λ outside. inl (λ other same. outside))
+      (λ on. inr (record { took = take n answers; left = drop n answers; parted = sym (take-append-drop n answers); made = made; takes = is; on = on }))
+      (outside_or_on from size (m.writes env v (m.own_of (take n answers))))
+  with_taken n made (a ∷ left) is = inl (λ other same. absurd (more_left (ap (λ (p : FullValues × List Answer). p.1) (same_Some (made, a ∷ left) (other, []) (sym is ∙ same)))))
+    where
+      more_left : a ∷ left ≡ [] → ⊥
+      more_left e = cc
+
+  with_first_of : (n : ℕ) (o : Option (FullValues × List Answer)) → m.takes env v (m.own_of (take n answers)) ≡ o → ClearOf n ⊎ WritesOn
+  with_first_of n None is = inl (λ other same. absurd (cc))
+  with_first_of n (Some w) is = with_taken n w.0 w.1 is
+
+  clear_below : (n : ℕ) → ((k : ℕ) → k < n → ClearOf k) ⊎ WritesOn
+  clear_below zero = inl (λ k lt. absurd (omega arith))
+  clear_below (suc n) = ⊎_elim
+      (λ below. ⊎_elim (λ here. inl (up_to below here)) (λ on. inr on) (with_first_of n (m.takes env v (m.own_of (take n answers))) refl))
+      (λ on. inr on)
+      (clear_below n)
+    where
+      up_to : ((k : ℕ) → k < n → ClearOf k) → ClearOf n → (k : ℕ) → k < suc n → ClearOf k
+      up_to below here k lt = ⊎_elim (λ less. below k less) (λ last. subst ClearOf (sym last) here) (below_or_last lt)
+        where
+          below_or_last : k < suc n → (k < n) ⊎ (k ≡ n)
+          below_or_last lt = grind (arith, lt)
+
+  elsewhere : ((k : ℕ) → k < suc (length answers) → ClearOf k) → WritesElsewhere from size m env v answers
+  elsewhere clear took left made parted takes =
+      let front : take (length took) answers ≡ took = ap (take (length took)) parted ∙ take_at took left (length took) refl in
+      let few : length took < suc (length answers) = omega (arith, ap length parted, length-append took left) in
+      subst (λ (ts : List Answer). AreOutside from size (m.writes env v (m.own_of ts))) front
+      (clear (length took) few made (subst (λ (ts : List Answer). m.takes env v (m.own_of ts) ≡ Some (made, [])) (sym front) takes))
+
+  pub elsewhere_or_on : WritesElsewhere from size m env v answers ⊎ WritesOn
+  elsewhere_or_on = ⊎_elim (λ clear. inl (elsewhere clear)) (λ on. inr on) (clear_below (suc (length answers)))
+
 -- ---- where lines lead there is a line
 
 abbrev IsThere : Job → Point → Type 0
@@ -391,7 +444,7 @@ module _ (job : Job) (code : Code) (known : Known) (t : IsThreaded job code know
 
       -- from its start
       inst_comes : StandsAt placing (At i) v b → OneComes placing (At i) v b
-      inst_comes s = by (outside_or_on base (length code.bytes) (m.writes env v (m.own_of b.answers)))
+      inst_comes s = by (elsewhere_or_on base (length code.bytes) m env v b.answers)
         where
           stood : InstIn full_site inst start end
           stood = t.line base symbols slots b.state.values.mem s.placed i (Put inst) listed
@@ -401,12 +454,17 @@ module _ (job : Job) (code : Code) (known : Known) (t : IsThreaded job code know
 
           led : EndsAsMeant full_site start end m (inst_exit own inst v.ints) (inst_temporaries inst) v b ⊎ FullyAsks full_site start end m v b → OneComes placing (At i) v b
           led (inl o) = inl (led_out i (Put inst) v b AtStart listed s (inst_exit own inst v.ints) (sym (exit_agrees (Put inst) v.ints agree)) (exit_bound job.lines own (Put inst) v.ints (t.named i (Put inst) listed)) o.ends (sym (means.takes (m.own_of o.took)) ∙ o.takes))
-          led (inr a) = inr (inl (record { there = there_from i (Put inst) AtStart listed; steps = a.steps; state = a.state; ran = a.ran; asks = a.asks; took = a.took; answers = a.answers; few = subst (λ n. length a.took < 2 * n) means.own a.few }))
+          led (inr a) = inr (inl (record { there = there_from i (Put inst) AtStart listed; steps = a.steps; state = a.state; ran = a.ran; asks = a.asks; took = a.took; answers = a.answers; lacks = λ once. sym (means.takes (m.own_of b.answers)) ∙ a.lacks; few = subst (λ n. length a.took < 2 * n) means.own a.few }))
 
-          by : AreOutside base (length code.bytes) (m.writes env v (m.own_of b.answers)) ⊎ IsOn base (length code.bytes) (m.writes env v (m.own_of b.answers)) → OneComes placing (At i) v b
-          by (inl outside) = led (inst_full_runs stood.setting inst (t.ruled i (Put inst) listed) (t.fit i (Put inst) listed) (enters job code known t base symbols slots i b.state v.ints s.placed s.is_state.state s.are_values s.same.ints inst listed s.pc) s.same s.is_state
-              (subst (λ n. AreOutside base n (m.writes own v (m.own_of b.answers))) (sym (from_long b.state.values.mem base (length code.bytes))) (subst (AreOutside base (length code.bytes)) (sym (means.writes (m.own_of b.answers))) outside)))
-          by (inr on) = inr (inr (record { there = there_from i (Put inst) AtStart listed; took = b.answers; left = []; answers = sym (append-nil b.answers); on = on }))
+          -- so does it by its own place
+          own_clear : WritesElsewhere base (length code.bytes) m env v b.answers → WritesElsewhere base (length full_site.bytes) m own v b.answers
+          own_clear clear took left made parted takes =
+              subst (λ n. AreOutside base n (m.writes own v (m.own_of took))) (sym (from_long b.state.values.mem base (length code.bytes)))
+              (subst (AreOutside base (length code.bytes)) (sym (means.writes (m.own_of took))) (clear took left made parted (sym (means.takes (m.own_of took)) ∙ takes)))
+
+          by : WritesElsewhere base (length code.bytes) m env v b.answers ⊎ WritesOn base (length code.bytes) m env v b.answers → OneComes placing (At i) v b
+          by (inl clear) = led (inst_full_runs stood.setting inst (t.ruled i (Put inst) listed) (t.fit i (Put inst) listed) (enters job code known t base symbols slots i b.state v.ints s.placed s.is_state.state s.are_values s.same.ints inst listed s.pc) s.same s.is_state (own_clear clear))
+          by (inr w) = inr (inr (record { there = there_from i (Put inst) AtStart listed; took = w.took; left = w.left; answers = w.parted; made = w.made; takes = w.takes; on = w.on }))
 
       -- from where it returns
       pub return_comes : (r : Return) → return_of job.flags inst ≡ Some r → StandsAt placing (Returned i) v b → CameOut placing (Returned i) v b

@@ -70,7 +70,12 @@ IsOutOfMemory TooLarge = ⊥
 
 -- fine lines are refused for no cause, up to some eight million, and with constants up to as many fewer as these take place
 abbrev pub FineLinesAccepted : Type 0
-FineLinesAccepted = (job : Job) → is_bad_frame job.frame ≡ false → AreFine (context_of job) job.lines → constants_sum job.constants + 128 * length job.lines ≤ size_limit → refusal job ≡ None
+FineLinesAccepted =
+    (job : Job) →
+    is_bad_frame job.frame ≡ false →
+    AreFine (context_of job) job.lines →
+    constants_sum job.constants + 128 * length job.lines ≤ size_limit →
+    refusal job ≡ None
 
 -- a job that is refused for no cause has no error but out of memory
 abbrev pub OnlyMemoryLeft : Type 0
@@ -83,7 +88,15 @@ SilentLinesUnrecorded = (job : Job) (code : Code) → Reported job code → AreS
 -- a load of eight bytes at a distance from the stack pointer into one of x0 to x29, and a store of one, are fine; the distance is well within
 -- 64 bits
 abbrev pub StackLoadsFine : Type 0
-StackLoadsFine = (context : Context) (flags : MemFlagsData) (n : ℕ) (in_file : n < 32) (distance : ℤ) → n < 30 → is_distant distance ≡ false → IsFine context (Put (Load (record { reg = int_reg n in_file }) Ld flags (SPOffset distance)))
+StackLoadsFine =
+    (context : Context) (flags : MemFlagsData) (n : ℕ) (in_file : n < 32) (distance : ℤ) →
+    n < 30 →
+    is_distant distance ≡ false →
+    IsFine context (Put (Load (record { reg = int_reg n in_file }) Ld flags (SPOffset distance)))
 
 abbrev pub StackStoresFine : Type 0
-StackStoresFine = (context : Context) (flags : MemFlagsData) (n : ℕ) (in_file : n < 32) (distance : ℤ) → n < 30 → is_distant distance ≡ false → IsFine context (Put (Store (int_reg n in_file) Sd flags (SPOffset distance)))
+StackStoresFine =
+    (context : Context) (flags : MemFlagsData) (n : ℕ) (in_file : n < 32) (distance : ℤ) →
+    n < 30 →
+    is_distant distance ≡ false →
+    IsFine context (Put (Store (int_reg n in_file) Sd flags (SPOffset distance)))

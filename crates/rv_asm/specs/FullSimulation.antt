@@ -1,6 +1,6 @@
 -- What it is for code to run as its job says on the machine with all units: from an entry on, over any number of lines, while the units'
 -- answers are taken in order.
-use Rattle.std.specs.Prelude.{◌≡◌, ℕ, zero, suc, ◌+◌, ◌*◌, ◌<◌, ◌≤◌, ◌⊎◌, ◌||◌, ◌&&◌, Bool, true, false, List, [], ◌∷◌, ◌++◌, length, slice_get, slice_index, Some}
+use Rattle.std.specs.Prelude.{◌≡◌, ℕ, zero, suc, ◌+◌, ◌*◌, ◌<◌, ◌≤◌, ◌⊎◌, ◌||◌, ◌&&◌, Bool, true, false, List, [], ◌∷◌, ◌++◌, length, slice_get, slice_index, None, Some}
 use Rattle.rv_base.specs.declared.frame.FrameLayout.{FrameLayout}
 use Rattle.rv_inst.specs.Context.{context_of}
 use Rattle.rv_inst.specs.Core.{is_integer_line}
@@ -80,7 +80,8 @@ pub record OneFullLine (x : Placing) (p : Point) (v : FullValues) (took : List A
   pub leads : Leads x.job.lines x.code there.index (exit_from there.entry (environment_at there) there.line v.ints) q
 
 -- one line after others, which take at least so many steps, and answers; it takes a step where it leads back
-pub record OneMore (x : Placing) (Before : ℕ → List Answer → Point → FullValues → Type 0) (least : ℕ) (took : List Answer) (q : Point) (w : FullValues) : Type 0 where
+pub record OneMore
+    (x : Placing) (Before : ℕ → List Answer → Point → FullValues → Type 0) (least : ℕ) (took : List Answer) (q : Point) (w : FullValues) : Type 0 where
   pub before_least : ℕ
   pub before_took : List Answer
   pub point : Point
@@ -114,8 +115,9 @@ pub record Reached (x : Placing) (k : ℕ) (p : Point) (v : FullValues) (b : Ful
   pub answers : b.answers ≡ took ++ state.answers
   pub stands : StandsAt x point values state
 
--- in the line at a point it stops, where an operation takes an answer and those that are left don't begin with one of its kind; it took
--- fewer than twice as many as the line's own operations take, since before each at most one setting is put
+-- in the line at a point it stops, where an operation takes an answer and those that are left don't begin with one of its kind; so the
+-- line, where only its own operations ask, each once, takes nothing of them. It took fewer than twice as many as these operations take,
+-- since before each at most one setting is put
 pub record Stops (x : Placing) (p : Point) (v : FullValues) (b : FullState) : Type 0 where
   pub there : LineAt x p
   pub steps : ℕ
@@ -124,18 +126,21 @@ pub record Stops (x : Placing) (p : Point) (v : FullValues) (b : FullState) : Ty
   pub asks : fnext x.job.flags state ≡ Asks
   pub took : List Answer
   pub answers : b.answers ≡ took ++ state.answers
+  pub lacks : (meaning_at there).asks_once ≡ true → (meaning_at there).takes (environment_at there) v ((meaning_at there).own_of b.answers) ≡ None
   pub few : length took < 2 * (meaning_at there).own_answers (environment_at there) v
 
 -- one of these addresses is one of so many from another on
 abbrev pub IsOn : ℕ → ℕ → List ℕ → Type 0
 IsOn from size addresses = (k : ℕ) × (k < length addresses) × (from ≤ slice_index addresses k) × (slice_index addresses k < from + size)
 
--- the line at a point, with the answers that it takes of those that are left, writes on the code
+-- the line at a point, with just the answers that it takes of those that are left, writes on the code
 pub record Overwrites (x : Placing) (p : Point) (v : FullValues) (b : FullState) : Type 0 where
   pub there : LineAt x p
   pub took : List Answer
   pub left : List Answer
   pub answers : b.answers ≡ took ++ left
+  pub made : FullValues
+  pub takes : (meaning_at there).takes (environment_at there) v ((meaning_at there).own_of took) ≡ Some (made, [])
   pub on : IsOn x.base (length x.code.bytes) ((meaning_at there).writes (environment_at there) v ((meaning_at there).own_of took))
 
 -- at these the listing's run ends
@@ -193,9 +198,18 @@ IsEntry job (InData i) = ⊥
 
 -- Wherever the code is placed and its symbols are, from each entry, with all values and answers, it runs on by any number of lines.
 pub record FullRuns (job : Job) (code : Code) : Type 0 where
-  pub from : (base : ℕ) (symbols slots : Addresses) (p : Point) (v : FullValues) (b : FullState) (k : ℕ) → IsEntry job p → StandsAt (record { job = job; code = code; base = base; symbols = symbols; slots = slots }) p v b → RunsOn (record { job = job; code = code; base = base; symbols = symbols; slots = slots }) k p v b
+  pub from :
+      (base : ℕ) (symbols slots : Addresses) (p : Point) (v : FullValues) (b : FullState) (k : ℕ) →
+      IsEntry job p →
+      StandsAt (record { job = job; code = code; base = base; symbols = symbols; slots = slots }) p v b →
+      RunsOn (record { job = job; code = code; base = base; symbols = symbols; slots = slots }) k p v b
 
 -- Wherever the code is placed, the machine with all units reads at the start of each line of one machine word the operation that stands
 -- for it, in that operation's own form.
 pub record HasFullOperations (job : Job) (code : Code) : Type 0 where
-  pub each : (i : ℕ) (inst : Inst) (d : Decoded) (base : ℕ) (symbols slots : Addresses) (mem : Memory) → slice_get job.lines i ≡ Some (Put inst) → operation_of (context_of job) inst ≡ Some d → IsPlaced code base symbols slots mem → (decode job.flags (fetch mem (base + start_of code.lines i)) ≡ Some d) × IsOwnForm d (fetch mem (base + start_of code.lines i))
+  pub each :
+      (i : ℕ) (inst : Inst) (d : Decoded) (base : ℕ) (symbols slots : Addresses) (mem : Memory) →
+      slice_get job.lines i ≡ Some (Put inst) →
+      operation_of (context_of job) inst ≡ Some d →
+      IsPlaced code base symbols slots mem →
+      (decode job.flags (fetch mem (base + start_of code.lines i)) ≡ Some d) × IsOwnForm d (fetch mem (base + start_of code.lines i))

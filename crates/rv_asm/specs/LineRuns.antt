@@ -40,16 +40,36 @@ pub record LineRan (job : Job) (code : Code) (base : ℕ) (symbols slots : Addre
 
 -- who enters placed code at its base stands at its first line
 abbrev pub EntryIsFirstLine : Type 0
-EntryIsFirstLine = (job : Job) (code : Code) (base : ℕ) (symbols slots : Addresses) (s : State) → Reported job code → IsPlaced code base symbols slots s.values.mem → IsState s → s.pc ≡ base → StandsAt code base symbols slots (At 0) s
+EntryIsFirstLine =
+    (job : Job) (code : Code) (base : ℕ) (symbols slots : Addresses) (s : State) →
+    Reported job code →
+    IsPlaced code base symbols slots s.values.mem →
+    IsState s →
+    s.pc ≡ base →
+    StandsAt code base symbols slots (At 0) s
 
 -- from the start of a line of the integer core that line runs, where it writes none of the code
 abbrev pub LinesRun : Type 0
-LinesRun = (job : Job) (code : Code) (base : ℕ) (symbols slots : Addresses) (i : ℕ) (line : Line) (s : State) → RunsAsListed job code → slice_get job.lines i ≡ Some line → is_integer_line job.frame line ≡ true → WritesOutside job code base symbols slots i line s.values → StandsAt code base symbols slots (At i) s → LineRan job code base symbols slots i line s
+LinesRun =
+    (job : Job) (code : Code) (base : ℕ) (symbols slots : Addresses) (i : ℕ) (line : Line) (s : State) →
+    RunsAsListed job code →
+    slice_get job.lines i ≡ Some line →
+    is_integer_line job.frame line ≡ true →
+    WritesOutside job code base symbols slots i line s.values →
+    StandsAt code base symbols slots (At i) s →
+    LineRan job code base symbols slots i line s
 
 -- a run of no steps
 abbrev pub NothingRuns : Type 0
-NothingRuns = (flags : IsaFlags) (code : Code) (base : ℕ) (symbols slots : Addresses) (p : Point) (s : State) → StandsAt code base symbols slots p s → Reaches flags code base symbols slots s p s
+NothingRuns =
+    (flags : IsaFlags) (code : Code) (base : ℕ) (symbols slots : Addresses) (p : Point) (s : State) →
+    StandsAt code base symbols slots p s →
+    Reaches flags code base symbols slots s p s
 
 -- a run, and one from where it ends
 abbrev pub RunsCompose : Type 0
-RunsCompose = (flags : IsaFlags) (code : Code) (base : ℕ) (symbols slots : Addresses) (p q : Point) (s t u : State) → Reaches flags code base symbols slots s p t → Reaches flags code base symbols slots t q u → Reaches flags code base symbols slots s q u
+RunsCompose =
+    (flags : IsaFlags) (code : Code) (base : ℕ) (symbols slots : Addresses) (p q : Point) (s t u : State) →
+    Reaches flags code base symbols slots s p t →
+    Reaches flags code base symbols slots t q u →
+    Reaches flags code base symbols slots s q u

@@ -59,7 +59,10 @@ pub record SpansIn (context : Context) (inst : Inst) (f : Shape LabelUse) (start
 
 -- the parts of an instruction stand between two offsets, by some setting of the vector unit; a bind has no bytes
 abbrev pub LineStands : Context → Line → Buffer → ℕ → ℕ → ℕ → ℕ → Type 0
-LineStands context (Put inst) b start from to end = (setting : EmitVState) × PartsIn context.flags (parts_of context setting inst) (shape_of b) start end × SpansIn context inst (shape_of b) start from to end
+LineStands context (Put inst) b start from to end =
+    (setting : EmitVState) ×
+    PartsIn context.flags (parts_of context setting inst) (shape_of b) start end ×
+    SpansIn context inst (shape_of b) start from to end
 LineStands context (Bind label) b start from to end = (start ≡ end) × (place_of b label.number ≡ Some start) × (from ≡ to)
 
 -- after the offset where the line before ends stands nothing, or an island, and then the line
@@ -76,7 +79,10 @@ pub record LinesStand (context : Context) (lines : List Line) (spans : List Line
   pub count : length spans ≡ length lines
   pub gap_count : length gaps ≡ length lines
   pub indices : (i : ℕ) (s : LineSpan) → slice_get spans i ≡ Some s → s.index ≡ i
-  pub each : (i : ℕ) (line : Line) → slice_get lines i ≡ Some line → StandsAfter context line b (end_before spans i) (start_of spans i) (from_of gaps i) (to_of gaps i) (end_of spans i)
+  pub each :
+      (i : ℕ) (line : Line) →
+      slice_get lines i ≡ Some line →
+      StandsAfter context line b (end_before spans i) (start_of spans i) (from_of gaps i) (to_of gaps i) (end_of spans i)
   pub ends : length (bytes_of b) ≡ end_before spans (length lines)
   pub first : start_of spans 0 ≡ 0
   pub nothing : length lines ≡ 0 → uses_of b ≡ []
@@ -108,7 +114,10 @@ pub record Named (lines : List Line) (spans : List LineSpan) (b : Buffer) : Type
   pub labels : labels_of b ≡ binds_from spans 0 lines
   pub unbound : (label : ℕ) → label < first_inner → is_bound lines label ≡ false → place_of b label ≡ None
   pub kinds : (j : ℕ) (u : Use LabelUse) → slice_get (uses_of b) j ≡ Some u → (has_veneer_of u.kind ≡ true) ⊎ (is_far label_kinds u ≡ true)
-  pub named : (j : ℕ) (u : Use LabelUse) → slice_get (uses_of b) j ≡ Some u → (is_some (place_of b u.label.number) ≡ true) ⊎ IsNamed lines u.label.number ⊎ (first_constant ≤ u.label.number)
+  pub named :
+      (j : ℕ) (u : Use LabelUse) →
+      slice_get (uses_of b) j ≡ Some u →
+      (is_some (place_of b u.label.number) ≡ true) ⊎ IsNamed lines u.label.number ⊎ (first_constant ≤ u.label.number)
 
 -- ---- reach and room
 
@@ -168,7 +177,11 @@ pub record BindPut (label : MachLabel) (old new : Buffer) (span : LineSpan) : Ty
 
 -- the vector unit's setting known after an instruction before which an island was put where one was needed, by that known before
 abbrev pub InstSetting : Context → Inst → Buffer → EmitVState → EmitVState → Type 0
-InstSetting context inst old before after = (mid : Buffer) × (made : Bool) × IslandIfNeeded line_space old mid made × (after ≡ setting_after context mid inst (setting_beyond made before))
+InstSetting context inst old before after =
+    (mid : Buffer) ×
+    (made : Bool) ×
+    IslandIfNeeded line_space old mid made ×
+    (after ≡ setting_after context mid inst (setting_beyond made before))
 
 -- and after a line: nothing is known where a label is bound
 abbrev pub LineSetting : Context → Line → Buffer → EmitVState → EmitVState → Type 0

@@ -62,8 +62,14 @@ FilledBy Abs8 at to old new = new ≡ to_le_bytes w64 to
 -- The bytes of a relocation are filled: by where its symbol is, or, where it names a place in the code, with the lower part of the
 -- distance whose upper part stands there.
 abbrev pub IsFilledAt : Code → ℕ → Addresses → Addresses → MachReloc → FinalizedRelocTarget → List ℕ → List ℕ → Type 0
-IsFilledAt code base symbols slots r (ExternalName name) old new = (to : ℕ) × (goal_of symbols slots r.kind (ExternalName name) r.addend ≡ Some to) × FilledBy r.kind (wrap (base + r.offset)) to old new
-IsFilledAt code base symbols slots r (Func at) old new = (j : ℕ) (upper : MachReloc) (to : ℕ) → slice_get code.relocs j ≡ Some upper → upper.offset ≡ at → goal_of symbols slots upper.kind upper.target upper.addend ≡ Some to → Holds PCRelLo12I (distance_to (wrap (base + at)) to -ℤ pos 4) old new
+IsFilledAt code base symbols slots r (ExternalName name) old new =
+    (to : ℕ) × (goal_of symbols slots r.kind (ExternalName name) r.addend ≡ Some to) × FilledBy r.kind (wrap (base + r.offset)) to old new
+IsFilledAt code base symbols slots r (Func at) old new =
+    (j : ℕ) (upper : MachReloc) (to : ℕ) →
+    slice_get code.relocs j ≡ Some upper →
+    upper.offset ≡ at →
+    goal_of symbols slots upper.kind upper.target upper.addend ≡ Some to →
+    Holds PCRelLo12I (distance_to (wrap (base + at)) to -ℤ pos 4) old new
 
 -- The code's bytes stand in the memory from base on, but for those of relocations, which are filled.
 pub record IsPlaced (code : Code) (base : ℕ) (symbols slots : Addresses) (mem : Memory) : Type 0 where
@@ -71,4 +77,7 @@ pub record IsPlaced (code : Code) (base : ℕ) (symbols slots : Addresses) (mem 
   pub room : base + length code.bytes ≤ 2 ^ 64
   pub bytes : (k : ℕ) → k < length code.bytes → byte mem (base + k) < 256
   pub there : (k : ℕ) → k < length code.bytes → IsOutside code.relocs k 1 → byte mem (base + k) ≡ slice_index code.bytes k
-  pub filled : (j : ℕ) (r : MachReloc) → slice_get code.relocs j ≡ Some r → IsFilledAt code base symbols slots r r.target (window code.bytes r.offset (field_size r.kind)) (bytes_from mem (base + r.offset) (field_size r.kind))
+  pub filled :
+      (j : ℕ) (r : MachReloc) →
+      slice_get code.relocs j ≡ Some r →
+      IsFilledAt code base symbols slots r r.target (window code.bytes r.offset (field_size r.kind)) (bytes_from mem (base + r.offset) (field_size r.kind))

@@ -32,7 +32,8 @@ uses_from context spans i (Bind label ∷ lines) = uses_from context spans (suc 
 
 -- the uses after which no island stands
 abbrev pub uses_after_island : Context → List Line → List LineSpan → List Gap → List (Use LabelUse)
-uses_after_island context lines spans gaps = uses_from context spans (first_after_island spans gaps (length lines)) (drop (first_after_island spans gaps (length lines)) lines)
+uses_after_island context lines spans gaps =
+    uses_from context spans (first_after_island spans gaps (length lines)) (drop (first_after_island spans gaps (length lines)) lines)
 
 -- where lines, the first of which has an index, bind a label
 abbrev pub bound_by : List LineSpan → ℕ → List Line → ℕ → Option ℕ
@@ -55,7 +56,12 @@ constants_waiting context lines spans gaps = drop (length (constants_taken conte
 -- where an island ends that begins at an offset after these lines: after its jump, which may have a veneer of its own, the veneers, and
 -- those constants
 abbrev pub island_after : Context → List Line → List LineSpan → List Gap → ℕ → ℕ
-island_after context lines spans gaps from = island_end (constants_end context.constants (constants_waiting context lines spans gaps)) (aligned (from + 4)) (length (waiting context lines spans gaps)) (from + forward_of Jal20)
+island_after context lines spans gaps from =
+    island_end
+    (constants_end context.constants (constants_waiting context lines spans gaps))
+    (aligned (from + 4))
+    (length (waiting context lines spans gaps))
+    (from + forward_of Jal20)
 
 -- ---- no island stands early
 
@@ -67,8 +73,17 @@ pub record IsDue (context : Context) (lines : List Line) (spans : List LineSpan)
 
 -- no island stands before or in a line unless it is due there, nor is it longer than it must be
 pub record NotEarly (context : Context) (lines : List Line) (spans : List LineSpan) (gaps : List Gap) : Type 0 where
-  pub before : (i : ℕ) → i < length lines → end_before spans i < start_of spans i → IsDue context lines spans gaps i (end_before spans i) (start_of spans i) line_space
-  pub within : (i : ℕ) (inst : Inst) (space : ℕ) → slice_get lines i ≡ Some (Put inst) → from_of gaps i < to_of gaps i → space_in (request_of context inst) (end_of spans i - to_of gaps i) ≡ Some space → IsDue context lines spans gaps i (from_of gaps i) (to_of gaps i) space
+  pub before :
+      (i : ℕ) →
+      i < length lines →
+      end_before spans i < start_of spans i →
+      IsDue context lines spans gaps i (end_before spans i) (start_of spans i) line_space
+  pub within :
+      (i : ℕ) (inst : Inst) (space : ℕ) →
+      slice_get lines i ≡ Some (Put inst) →
+      from_of gaps i < to_of gaps i →
+      space_in (request_of context inst) (end_of spans i - to_of gaps i) ≡ Some space →
+      IsDue context lines spans gaps i (from_of gaps i) (to_of gaps i) space
 
 -- ---- after the last line
 
@@ -80,8 +95,18 @@ veneers_end (suc n) from = aligned from + 8 * suc n
 -- What follows the last line: a veneer for each use that waits for one, after zero bytes to a multiple of four where there is one; then
 -- each constant that no island took, after zero bytes to its alignment; and nothing else.
 pub record HasTail (job : Job) (code : Code) (gaps : List Gap) : Type 0 where
-  pub before : (j : ℕ) (c : ConstPlace) (k : Constant) → j < length (constants_taken (context_of job) job.lines code.lines gaps) → slice_get code.constants j ≡ Some c → slice_get job.constants c.constant.number ≡ Some k → c.offset + length k.bytes ≤ code.end
-  pub long : length code.bytes ≡ constants_end job.constants (constants_waiting (context_of job) job.lines code.lines gaps) (veneers_end (length (waiting (context_of job) job.lines code.lines gaps)) code.end)
+  pub before :
+      (j : ℕ) (c : ConstPlace) (k : Constant) →
+      j < length (constants_taken (context_of job) job.lines code.lines gaps) →
+      slice_get code.constants j ≡ Some c →
+      slice_get job.constants c.constant.number ≡ Some k →
+      c.offset + length k.bytes ≤ code.end
+  pub long :
+      length code.bytes ≡
+      constants_end
+      job.constants
+      (constants_waiting (context_of job) job.lines code.lines gaps)
+      (veneers_end (length (waiting (context_of job) job.lines code.lines gaps)) code.end)
 
 -- ---- all of it
 

@@ -94,7 +94,10 @@ too_large context lines = if nat_lt size_limit (size_sum context lines) then Som
 
 -- why lines are refused in a context, if they are
 unfoldable pub lines_refusal : Context → List Line → Option EmitError
-lines_refusal context lines = first_of (broken_from context 0 lines) (first_of (twice_from (λ label. false) lines) (first_of (unbound_in (is_bound lines) lines) (too_large context lines)))
+lines_refusal context lines =
+    first_of
+    (broken_from context 0 lines)
+    (first_of (twice_from (λ label. false) lines) (first_of (unbound_in (is_bound lines) lines) (too_large context lines)))
 
 -- why a job is refused, if it is
 unfoldable pub refusal : Job → Option EmitError

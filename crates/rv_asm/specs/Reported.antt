@@ -64,11 +64,19 @@ AreApart start end from to = (end ≤ from) ⊎ (to ≤ start)
 
 -- constants that stand there have no byte between two offsets
 abbrev pub StandOutside : List Constant → List ConstPlace → ℕ → ℕ → Type 0
-StandOutside registered constants start end = (j : ℕ) (c : ConstPlace) (k : Constant) → slice_get constants j ≡ Some c → slice_get registered c.constant.number ≡ Some k → AreApart start end c.offset (c.offset + length k.bytes)
+StandOutside registered constants start end =
+    (j : ℕ) (c : ConstPlace) (k : Constant) →
+    slice_get constants j ≡ Some c →
+    slice_get registered c.constant.number ≡ Some k →
+    AreApart start end c.offset (c.offset + length k.bytes)
 
 -- nor has one a byte among the bytes of an instruction: those before its gap, and those after
 abbrev pub StandApart : Context → List Line → List LineSpan → List Gap → List ConstPlace → Type 0
-StandApart context lines spans gaps constants = (i : ℕ) (inst : Inst) → slice_get lines i ≡ Some (Put inst) → StandOutside context.constants constants (start_of spans i) (from_of gaps i) × StandOutside context.constants constants (to_of gaps i) (end_of spans i)
+StandApart context lines spans gaps constants =
+    (i : ℕ) (inst : Inst) →
+    slice_get lines i ≡ Some (Put inst) →
+    StandOutside context.constants constants (start_of spans i) (from_of gaps i) ×
+    StandOutside context.constants constants (to_of gaps i) (end_of spans i)
 
 -- the bytes that a relocation fills are all in the span of one of the lines
 abbrev pub FillsInLine : List LineSpan → MachReloc → Type 0
@@ -80,30 +88,49 @@ pub record Stands (code : Code) (at : ℕ) (bytes : List ℕ) : Type 0 where
   pub unfilled : IsOutside code.relocs at (length bytes)
 
 -- Every line has one span, in order, as long as the line may be. The first starts at 0; between two stands nothing, or an island.
--- The code's end is that of the last line, its labels are the binds, its returns are those of the calls, and its records are
--- those of the lines: what a linker fills, traps, call sites, those of calls that may throw, each handler with the offset of its label,
+-- The code's end is that of the last line, its labels are the binds, its returns are those of the calls, each within its line, and its
+-- records are those of the lines: what a linker fills, traps, call sites, those of calls that may throw, each handler with the offset of its label,
 -- calls that may be patched, values on the stack, and steps in the making of the frame.
 -- Each constant that a line names has one offset, a multiple of its alignment, at which its bytes stand, and no other constant
 -- has one; they are in the order of their first use. In this order each ends before the next one begins, and none has a byte
 -- among an instruction's bytes, so their bytes are those of islands, or come after all lines. The bytes that a relocation fills
 -- are in the span of a line, and neither a constant nor another relocation has one of them. Data stand as they are listed, and traps
--- are zero bytes, two or four, where a `Udf` stands and where another line records one. Islands and the end of the code are as `InReach` says, and jumps and branches go as `HasJumps` says.
+-- are zero bytes, two or four, where a `Udf` stands and where another line records one. Islands and the end of the code are as `InReach`
+-- says, and jumps and branches go as `HasJumps` says.
 pub record Reported (job : Job) (code : Code) : Type 0 where
   pub gaps : List Gap
   pub count : length code.lines ≡ length job.lines
   pub indices : (i : ℕ) (span : LineSpan) → slice_get code.lines i ≡ Some span → span.index ≡ i
   pub first : start_of code.lines 0 ≡ 0
-  pub long : (i : ℕ) (line : Line) → slice_get job.lines i ≡ Some line → IsSpan (context_of job) code.bytes line (start_of code.lines i) (from_of gaps i) (to_of gaps i) (end_of code.lines i)
+  pub long :
+      (i : ℕ) (line : Line) →
+      slice_get job.lines i ≡ Some line →
+      IsSpan (context_of job) code.bytes line (start_of code.lines i) (from_of gaps i) (to_of gaps i) (end_of code.lines i)
   pub joined : (i : ℕ) → suc i < length job.lines → IsGap job.flags code.bytes (end_of code.lines i) (start_of code.lines (suc i))
   pub last : (i : ℕ) → suc i ≡ length job.lines → code.end ≡ end_of code.lines i
   pub none : length job.lines ≡ 0 → code.end ≡ 0
   pub within : code.end ≤ length code.bytes
   pub returns : code.returns ≡ returns_from job.flags code.lines 0 job.lines
+  pub returns_within :
+      (i : ℕ) (inst : Inst) (r : Return) →
+      slice_get job.lines i ≡ Some (Put inst) →
+      return_of job.flags inst ≡ Some r →
+      start_of code.lines i + r.offset ≤ end_of code.lines i
   pub labels : code.labels ≡ binds_from code.lines 0 job.lines
   pub constants : map (λ (c : ConstPlace). c.constant) code.constants ≡ constants_named job.lines
   pub placed : HasConstants job.constants code.bytes code.constants
-  pub ascend : (i j : ℕ) (c d : ConstPlace) (k : Constant) → i < j → slice_get code.constants i ≡ Some c → slice_get code.constants j ≡ Some d → slice_get job.constants c.constant.number ≡ Some k → c.offset + length k.bytes ≤ d.offset
-  pub unfilled : (j : ℕ) (c : ConstPlace) (k : Constant) → slice_get code.constants j ≡ Some c → slice_get job.constants c.constant.number ≡ Some k → IsOutside code.relocs c.offset (length k.bytes)
+  pub ascend :
+      (i j : ℕ) (c d : ConstPlace) (k : Constant) →
+      i < j →
+      slice_get code.constants i ≡ Some c →
+      slice_get code.constants j ≡ Some d →
+      slice_get job.constants c.constant.number ≡ Some k →
+      c.offset + length k.bytes ≤ d.offset
+  pub unfilled :
+      (j : ℕ) (c : ConstPlace) (k : Constant) →
+      slice_get code.constants j ≡ Some c →
+      slice_get job.constants c.constant.number ≡ Some k →
+      IsOutside code.relocs c.offset (length k.bytes)
   pub apart : StandApart (context_of job) job.lines code.lines gaps code.constants
   pub relocs : code.relocs ≡ relocs_in (records_from (context_of job) code.lines 0 job.lines)
   pub traps : code.traps ≡ traps_in (records_from (context_of job) code.lines 0 job.lines)
@@ -113,9 +140,18 @@ pub record Reported (job : Job) (code : Code) : Type 0 where
   pub stack_maps : code.stack_maps ≡ maps_in (records_from (context_of job) code.lines 0 job.lines)
   pub unwinds : code.unwinds ≡ unwinds_in (records_from (context_of job) code.lines 0 job.lines)
   pub fields : (j : ℕ) (r : MachReloc) → slice_get code.relocs j ≡ Some r → FillsInLine code.lines r
-  pub fields_apart : (j k : ℕ) (r s : MachReloc) → j ≢ k → slice_get code.relocs j ≡ Some r → slice_get code.relocs k ≡ Some s → IsApart r.offset (field_size r.kind) s.offset (field_size s.kind)
+  pub fields_apart :
+      (j k : ℕ) (r s : MachReloc) →
+      j ≢ k →
+      slice_get code.relocs j ≡ Some r →
+      slice_get code.relocs k ≡ Some s →
+      IsApart r.offset (field_size r.kind) s.offset (field_size s.kind)
   pub raw_data : (i : ℕ) (bytes : List ℕ) → slice_get job.lines i ≡ Some (Put (RawData bytes)) → Stands code (start_of code.lines i) bytes
   pub udf : (i : ℕ) (cause : TrapCode) → slice_get job.lines i ≡ Some (Put (Udf cause)) → Stands code (start_of code.lines i) (zeros (trap_size job.flags))
-  pub trap_after : (i : ℕ) (inst : Inst) (after : ℕ) (cause : TrapCode) → slice_get job.lines i ≡ Some (Put inst) → recorded_of inst ≡ TrapAfter after cause → Stands code (start_of code.lines i + after) (zeros (trap_size job.flags))
+  pub trap_after :
+      (i : ℕ) (inst : Inst) (after : ℕ) (cause : TrapCode) →
+      slice_get job.lines i ≡ Some (Put inst) →
+      recorded_of inst ≡ TrapAfter after cause →
+      Stands code (start_of code.lines i + after) (zeros (trap_size job.flags))
   pub reach : InReach job code gaps
   pub jumps : HasJumps job code gaps

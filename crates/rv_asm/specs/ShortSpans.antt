@@ -15,4 +15,9 @@ IsShort context (Bind label) start end = end ≡ start
 
 -- the spans of the lines of a job are so in its code
 abbrev pub SpansAreShort : Type 0
-SpansAreShort = (job : Job) (code : Code) → Reported job code → (i : ℕ) (line : Line) → slice_get job.lines i ≡ Some line → IsShort (context_of job) line (start_of code.lines i) (end_of code.lines i)
+SpansAreShort =
+    (job : Job) (code : Code) →
+    Reported job code →
+    (i : ℕ) (line : Line) →
+    slice_get job.lines i ≡ Some line →
+    IsShort (context_of job) line (start_of code.lines i) (end_of code.lines i)

@@ -57,7 +57,16 @@ Leads lines code i Data q = q ≡ InData i
 -- what a line is read among, for code that stands at a base: a label has the address of the first line that binds it, and a
 -- constant that of its offset
 abbrev pub environment_of : Job → Code → ℕ → Addresses → Addresses → ℕ → Environment
-environment_of job code base symbols slots i = record { start = wrap (base + start_of code.lines i); after = wrap (base + end_of code.lines i); label = λ label. wrap (base + label_start code.lines job.lines label); constant = λ number. wrap (base + unwrap_or (offset_in code.constants number) 0); flags = job.flags; frame = job.frame; symbol = λ number. unwrap_or (address_of_name symbols number) 0; slot = λ number. unwrap_or (address_of_name slots number) 0 }
+environment_of job code base symbols slots i = record {
+  start = wrap (base + start_of code.lines i);
+  after = wrap (base + end_of code.lines i);
+  label = λ label. wrap (base + label_start code.lines job.lines label);
+  constant = λ number. wrap (base + unwrap_or (offset_in code.constants number) 0);
+  flags = job.flags;
+  frame = job.frame;
+  symbol = λ number. unwrap_or (address_of_name symbols number) 0;
+  slot = λ number. unwrap_or (address_of_name slots number) 0;
+}
 
 -- a line writes no byte of the code, which stands at a base
 abbrev pub WritesOutside : Job → Code → ℕ → Addresses → Addresses → ℕ → Line → Values → Type 0
@@ -136,10 +145,36 @@ pub record Comes (job : Job) (code : Code) (base : ℕ) (symbols slots : Address
 -- from all values from which the line doesn't write on the code; and from where each call of the core returns, with all values. What other lines
 -- mean is said of the machine with all units.
 pub record RunsAsListed (job : Job) (code : Code) : Type 0 where
-  pub from : (base : ℕ) (symbols slots : Addresses) (i : ℕ) (line : Line) (s : State) (v : Values) → slice_get job.lines i ≡ Some line → is_integer_line job.frame line ≡ true → WritesOutside job code base symbols slots i line v → IsPlaced code base symbols slots s.values.mem → IsState s → AreValues v → s.pc ≡ address_of code base (At i) → Same v s.values → Comes job code base symbols slots (At i) v s
-  pub back : (base : ℕ) (symbols slots : Addresses) (i : ℕ) (inst : Inst) (r : Return) (s : State) (v : Values) → slice_get job.lines i ≡ Some (Put inst) → is_integer inst ≡ true → return_of job.flags inst ≡ Some r → IsPlaced code base symbols slots s.values.mem → IsState s → AreValues v → s.pc ≡ address_of code base (Returned i) → Same v s.values → Comes job code base symbols slots (Returned i) v s
+  pub from :
+      (base : ℕ) (symbols slots : Addresses) (i : ℕ) (line : Line) (s : State) (v : Values) →
+      slice_get job.lines i ≡ Some line →
+      is_integer_line job.frame line ≡ true →
+      WritesOutside job code base symbols slots i line v →
+      IsPlaced code base symbols slots s.values.mem →
+      IsState s →
+      AreValues v →
+      s.pc ≡ address_of code base (At i) →
+      Same v s.values →
+      Comes job code base symbols slots (At i) v s
+  pub back :
+      (base : ℕ) (symbols slots : Addresses) (i : ℕ) (inst : Inst) (r : Return) (s : State) (v : Values) →
+      slice_get job.lines i ≡ Some (Put inst) →
+      is_integer inst ≡ true →
+      return_of job.flags inst ≡ Some r →
+      IsPlaced code base symbols slots s.values.mem →
+      IsState s →
+      AreValues v →
+      s.pc ≡ address_of code base (Returned i) →
+      Same v s.values →
+      Comes job code base symbols slots (Returned i) v s
 
 -- Wherever the code is placed, the machine reads at the start of a line of the integer core of one machine word the operation that stands
 -- for it: in two bytes where the instruction has a form of sixteen bits, and then that form's own, else in four.
 pub record HasOperations (job : Job) (code : Code) : Type 0 where
-  pub each : (i : ℕ) (inst : Inst) (d : Decoded) (base : ℕ) (symbols slots : Addresses) (mem : Memory) → slice_get job.lines i ≡ Some (Put inst) → is_integer inst ≡ true → operation_of (context_of job) inst ≡ Some d → IsPlaced code base symbols slots mem → (int_decode job.flags (fetch mem (base + start_of code.lines i)) ≡ Some d) × IsOwnForm d (fetch mem (base + start_of code.lines i))
+  pub each :
+      (i : ℕ) (inst : Inst) (d : Decoded) (base : ℕ) (symbols slots : Addresses) (mem : Memory) →
+      slice_get job.lines i ≡ Some (Put inst) →
+      is_integer inst ≡ true →
+      operation_of (context_of job) inst ≡ Some d →
+      IsPlaced code base symbols slots mem →
+      (int_decode job.flags (fetch mem (base + start_of code.lines i)) ≡ Some d) × IsOwnForm d (fetch mem (base + start_of code.lines i))

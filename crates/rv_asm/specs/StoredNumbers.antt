@@ -15,4 +15,8 @@ SameAreLoadedAlike = (m n : Memory) (a : ℕ) → ((k : ℕ) → k < 8 → byte 
 
 -- bytes that are put elsewhere change none
 abbrev pub ElsewhereUnchanged : Type 0
-ElsewhereUnchanged = (mem : Memory) (at a : ℕ) (bs : List ℕ) → at < 2 ^ 64 → ((k : ℕ) → k < length bs → a ≢ wrap (at + k)) → byte (store mem at bs) a ≡ byte mem a
+ElsewhereUnchanged =
+    (mem : Memory) (at a : ℕ) (bs : List ℕ) →
+    at < 2 ^ 64 →
+    ((k : ℕ) → k < length bs → a ≢ wrap (at + k)) →
+    byte (store mem at bs) a ≡ byte mem a

@@ -23,4 +23,13 @@ pub record IsIn (uses : List (Use LabelUse)) (u : Use LabelUse) : Type 0 where
 -- a use of a line whose label is bound within its reach, with no island between that line and the one that binds it, is in the buffer
 -- as it was put, without a veneer
 pub record GoStraight (context : Context) (lines : List Line) (spans : List LineSpan) (gaps : List Gap) (b : Buffer) : Type 0 where
-  pub each : (i : ℕ) (inst : Inst) (k : ℕ) (u : Use LabelUse) (m : ℕ) (l : MachLabel) → slice_get lines i ≡ Some (Put inst) → slice_get (uses_in context (start_of spans i) (end_of spans i) inst) k ≡ Some u → has_veneer_of u.kind ≡ true → slice_get lines m ≡ Some (Bind l) → l.number ≡ u.label.number → is_reached label_kinds (Some (start_of spans m)) u ≡ true → first_after_island spans gaps m ≤ i → IsIn (uses_of b) u
+  pub each :
+      (i : ℕ) (inst : Inst) (k : ℕ) (u : Use LabelUse) (m : ℕ) (l : MachLabel) →
+      slice_get lines i ≡ Some (Put inst) →
+      slice_get (uses_in context (start_of spans i) (end_of spans i) inst) k ≡ Some u →
+      has_veneer_of u.kind ≡ true →
+      slice_get lines m ≡ Some (Bind l) →
+      l.number ≡ u.label.number →
+      is_reached label_kinds (Some (start_of spans m)) u ≡ true →
+      first_after_island spans gaps m ≤ i →
+      IsIn (uses_of b) u

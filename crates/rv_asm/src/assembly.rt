@@ -2,7 +2,7 @@
 
 ghost use Rattle.std.specs.Prelude.{◌≡◌, false, None, IfOk};
 ghost use Rattle.rv_listing.specs.CodeRanges.{CodeFits};
-ghost use Rattle.rv_asm.specs.Job.{job_in};
+ghost use Rattle.rv_asm.specs.Job.{job_of};
 ghost use Rattle.rv_asm.specs.Refusal.{has_bad_frame, lines_refusal, refusal, Finds};
 ghost use Rattle.rv_asm.specs.Reported.{Reported};
 ghost use Rattle.rv_asm.specs.Simulation.{RunsAsListed, HasOperations};
@@ -14,27 +14,75 @@ use crate::lines::put_line;
 use crate::refusal::refuse;
 use crate::returns::add_return;
 use mach_buffer::MachBuffer;
-use rv_base::{List, OutOfMemory};
+use rv_base::{Constant, FrameLayout, IsaFlags, List, OutOfMemory};
 use rv_emit::{EmitInfo, EmitState, MachInstEmitState};
 use rv_inst::{Code, Context, EmitError, LabelUse, Line};
 use std::alloc::Global;
 
-/// The code of a listing, which runs as its lines say on a machine with the context's flags. With `has_zca` an instruction that
-/// has a form of sixteen bits is put in it.
-pub fn assemble(alloc: Global, lines: &[Line], context: &Context<'_>) -> Result<Code, EmitError>
-    ensures reported { IfOk result (λ code. Reported (job_in lines.now context.now) code) }
-    ensures runs { IfOk result (λ code. RunsAsListed (job_in lines.now context.now) code) }
-    ensures full_runs { IfOk result (λ code. FullRuns (job_in lines.now context.now) code) }
-    ensures operations { IfOk result (λ code. HasOperations (job_in lines.now context.now) code) }
-    ensures full_operations { IfOk result (λ code. HasFullOperations (job_in lines.now context.now) code) }
+/// The code of a listing, for a machine with these flags, in this frame and with these constants. It runs as its lines say. With `has_zca`
+/// an instruction that has a form of sixteen bits is put in it.
+pub fn assemble(
+    alloc: Global,
+    lines: &[Line],
+    flags: IsaFlags,
+    frame: &FrameLayout,
+    constants: &[Constant],
+) -> Result<Code, EmitError>
+    ensures reported { IfOk result (λ code. Reported (job_of lines.now flags frame.now constants.now) code) }
+    ensures runs { IfOk result (λ code. RunsAsListed (job_of lines.now flags frame.now constants.now) code) }
+    ensures full_runs { IfOk result (λ code. FullRuns (job_of lines.now flags frame.now constants.now) code) }
+    ensures operations { IfOk result (λ code. HasOperations (job_of lines.now flags frame.now constants.now) code) }
+    ensures full_operations { IfOk result (λ code. HasFullOperations (job_of lines.now flags frame.now constants.now) code) }
     ensures ranges { IfOk result CodeFits }
-    ensures refused { Finds (refusal (job_in lines.now context.now)) result }
+    ensures refused { Finds (refusal (job_of lines.now flags frame.now constants.now)) result }
 {
-    refuse(alloc, lines, context)?;
-    match build(alloc, lines, context) {
+    check_lines(alloc, lines, flags, frame, constants)?;
+    match assemble_checked(alloc, lines, flags, frame, constants) {
         Ok(code) => Ok(code),
         Err(OutOfMemory) => Err(EmitError::OutOfMemory),
     }
+}
+
+/// Refuses a listing for its first cause, where it has one: the first half of `assemble`, for who lets go of something before the second.
+pub fn check_lines(
+    alloc: Global,
+    lines: &[Line],
+    flags: IsaFlags,
+    frame: &FrameLayout,
+    constants: &[Constant],
+) -> Result<(), EmitError>
+    ensures { Finds (refusal (job_of lines.now flags frame.now constants.now)) result }
+{
+    let context = Context {
+        flags,
+        frame,
+        constants,
+    };
+    refuse(alloc, lines, &context)
+}
+
+/// The code of a listing that isn't refused: the second half of `assemble`.
+pub fn assemble_checked(
+    alloc: Global,
+    lines: &[Line],
+    flags: IsaFlags,
+    frame: &FrameLayout,
+    constants: &[Constant],
+) -> Result<Code, OutOfMemory>
+    requires accepted { refusal (job_of lines.now flags frame.now constants.now) ≡ None }
+    ensures reported { IfOk result (λ code. Reported (job_of lines.now flags frame.now constants.now) code) }
+    ensures runs { IfOk result (λ code. RunsAsListed (job_of lines.now flags frame.now constants.now) code) }
+    ensures full_runs { IfOk result (λ code. FullRuns (job_of lines.now flags frame.now constants.now) code) }
+    ensures operations { IfOk result (λ code. HasOperations (job_of lines.now flags frame.now constants.now) code) }
+    ensures full_operations { IfOk result (λ code. HasFullOperations (job_of lines.now flags frame.now constants.now) code) }
+    ensures ranges { IfOk result CodeFits }
+{
+    let context = Context {
+        flags,
+        frame,
+        constants,
+    };
+    build(alloc, lines, &context)
 }
 
 /// The code of lines that aren't refused.

@@ -9,7 +9,7 @@ mod refusal;
 mod returns;
 mod survey;
 
-pub use assembly::assemble;
+pub use assembly::{assemble, assemble_checked, check_lines};
 pub use line_laws::{
     elsewhere_unchanged, entry_is_first_line, fine_lines_accepted, lines_run, nothing_runs,
     only_memory_left, runs_compose, same_are_loaded_alike, silent_lines_unrecorded,

@@ -77,7 +77,7 @@ fn check_rules(lines: &[Line], context: &Context<'_>) -> Result<(), EmitError>
     ensures { Finds (broken_from context.now 0 lines.now) result }
 {
     for (index, line) in lines.iter().enumerate() {
-        if let Some(rule) = line.check(context) {
+        if let Some(rule) = line.broken_rule(context) {
             return Err(EmitError::Malformed { index, rule });
         }
     }

@@ -60,7 +60,7 @@ fn left_after_other(line: &Line, context: &Context<'_>, left: u64) -> Option<u64
     if is_unfit(line, context.frame) {
         return None;
     }
-    match line.check(context) {
+    match line.broken_rule(context) {
         Some(_) => None,
         None => left_of(left, line.size_sum(context.frame)),
     }

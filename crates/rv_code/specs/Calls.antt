@@ -56,7 +56,9 @@ try_pieces (Some t) = Go t.continuation ∷ []
 
 -- to a symbol, by way of ra, which links; and these pieces after it
 abbrev pub call_pieces : IsaFlags → FrameLayout → CallInfo ExternalName → List Piece → List Piece
-call_pieces flags frame info last = Call 1 1 info.dest ∷ rest_pieces frame info.callee_pop_size info.patchable (call_size flags 8 info.callee_pop_size) info.stack_map info.try_call_info last
+call_pieces flags frame info last =
+    Call 1 1 info.dest ∷
+    rest_pieces frame info.callee_pop_size info.patchable (call_size flags 8 info.callee_pop_size) info.stack_map info.try_call_info last
 
 -- to an address in a register
 abbrev pub call_ind_pieces : FrameLayout → CallInfo Reg → List Piece → List Piece

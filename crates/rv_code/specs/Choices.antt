@@ -36,7 +36,8 @@ move_pieces class type rd rs = if nat_eq rd rs then [] else Do (move_action clas
 abbrev pub moves_then : List Reg → List Reg → List Piece → List Piece
 moves_then [] sources more = more
 moves_then (rd ∷ rds) [] more = more
-moves_then (rd ∷ rds) (rs ∷ sources) more = move_pieces (class_of rd) (canonical_type (class_of rd)) (number_of rd) (number_of rs) ++ moves_then rds sources more
+moves_then (rd ∷ rds) (rs ∷ sources) more =
+    move_pieces (class_of rd) (canonical_type (class_of rd)) (number_of rd) (number_of rs) ++ moves_then rds sources more
 
 -- one value is moved, and then the other, unless a branch leads over that
 abbrev pub choice_pieces : List Reg → List Reg → List Reg → IntCC → ℕ → ℕ → List Piece
@@ -50,7 +51,11 @@ same_numbers (m ∷ ms) (n ∷ ns) = nat_eq m n && same_numbers ms ns
 
 -- where the results are the second value's registers already, that one isn't moved, and a branch leads over the move of the first
 abbrev pub chosen_pieces : List Reg → IntCC → ℕ → ℕ → List Reg → List Reg → List Piece
-chosen_pieces rds how a b xs ys = if same_numbers (map number_of ys) (map number_of rds) then choice_pieces rds ys xs (complement_of how) a b else choice_pieces rds xs ys how a b
+chosen_pieces rds how a b xs ys =
+    if same_numbers (map number_of ys) (map number_of rds)
+    then choice_pieces rds ys xs (complement_of how) a b
+    else choice_pieces rds xs ys how a b
 
 abbrev pub select_pieces : SelectInfo → List Piece
-select_pieces info = chosen_pieces (written_in info.dst) info.condition.kind (number_of info.condition.rs1) (number_of info.condition.rs2) (all_of info.x) (all_of info.y)
+select_pieces info =
+    chosen_pieces (written_in info.dst) info.condition.kind (number_of info.condition.rs1) (number_of info.condition.rs2) (all_of info.x) (all_of info.y)

@@ -184,4 +184,11 @@ AllOutside site (addresses ∷ m) = AreOutside site.base (length site.bytes) add
 
 -- where pieces stand that write no byte of the code, the machine's steps over them are what the evaluation says, at most so many
 abbrev pub PiecesRun : Type 0
-PiecesRun = (site : Site) (first last allocated start end : ℕ) (whole : List Piece) → StandIn site allocated start end whole → (n : ℕ) (p q : Point) (s : State) → evaluate (environment site first last) n whole p ≡ Some q → AllOutside site q.written → IsAtPoint site allocated start end p s → ComesToPoint (steps_of (environment site first last) n whole p) site allocated start end q s
+PiecesRun =
+    (site : Site) (first last allocated start end : ℕ) (whole : List Piece) →
+    StandIn site allocated start end whole →
+    (n : ℕ) (p q : Point) (s : State) →
+    evaluate (environment site first last) n whole p ≡ Some q →
+    AllOutside site q.written →
+    IsAtPoint site allocated start end p s →
+    ComesToPoint (steps_of (environment site first last) n whole p) site allocated start end q s

@@ -150,7 +150,8 @@ labelled (AtConstant k) = AtLabel (constant_label k)
 -- the low 32 bits of the index in x31, how many labels there are beside the default, and the jumps
 abbrev pub table_slots : IsaFlags → ℕ → ℕ → ℕ → List MachLabel → List Slot
 table_slots flags index tmp1 tmp2 [] = []
-table_slots flags index tmp1 tmp2 (default ∷ labels) = slots_of flags (extend_pieces 31 index false 32) ++ number_slots flags tmp2 (pos (length labels)) ++ jump_slots tmp1 tmp2 default labels
+table_slots flags index tmp1 tmp2 (default ∷ labels) =
+    slots_of flags (extend_pieces 31 index false 32) ++ number_slots flags tmp2 (pos (length labels)) ++ jump_slots tmp1 tmp2 default labels
 
 -- ---- tail calls
 
@@ -238,7 +239,8 @@ parts_of context setting (AluRRR op rd rs1 rs2) = slots_alone (slots_of context.
 parts_of context setting (AluRRImm12 op rd rs imm) = slots_alone (slots_of context.flags (Do (Rri op (number_of rd.reg) (number_of rs) imm.value) ∷ []))
 parts_of context setting (Mov rd rm type) = slots_alone (slots_of context.flags (move_pieces (class_of rd.reg) type (number_of rd.reg) (number_of rm)))
 parts_of context setting (MovFromPReg rd rm) = slots_alone (slots_of context.flags (move_pieces Int I64 (number_of rd.reg) rm.number))
-parts_of context setting (Extend rd rn signed from_bits to_bits) = slots_alone (slots_of context.flags (extend_pieces (number_of rd.reg) (number_of rn) signed from_bits))
+parts_of context setting (Extend rd rn signed from_bits to_bits) =
+    slots_alone (slots_of context.flags (extend_pieces (number_of rd.reg) (number_of rn) signed from_bits))
 parts_of context setting (Select info) = slots_alone (slots_of context.flags (select_pieces info))
 parts_of context setting (Load rd op flags from) = slots_alone (load_line_slots context.flags (number_of rd.reg) op flags.trap (location_of context.frame from))
 parts_of context setting (Store src op flags to) = slots_alone (store_line_slots context.flags op (number_of src) flags.trap (location_of context.frame to))
@@ -248,16 +250,28 @@ parts_of context setting Ret = slots_alone (slots_of context.flags (piece.Jalr 0
 parts_of context setting (TrapIf cmp code) = slots_alone (slots_of context.flags (trap_if_pieces cmp code))
 parts_of context setting (Jal label) = slots_alone (slots_of context.flags (Go label ∷ []))
 parts_of context setting (CondBr taken not_taken kind) = slots_alone (branch_slots context.flags kind taken not_taken)
-parts_of context setting (BrTable index tmp1 tmp2 targets) = Ask (table_space (length targets)) ∷ Slots (table_slots context.flags (number_of index) (number_of tmp1.reg) (number_of tmp2.reg) targets) ∷ []
+parts_of context setting (BrTable index tmp1 tmp2 targets) =
+    Ask (table_space (length targets)) ∷
+    Slots (table_slots context.flags (number_of index) (number_of tmp1.reg) (number_of tmp2.reg) targets) ∷
+    []
 parts_of context setting (Udf code) = slots_alone (slots_of context.flags (Trap code ∷ []))
 parts_of context setting (Jalr rd base offset) = slots_alone (slots_of context.flags (piece.Jalr (number_of rd.reg) (number_of base) offset.value ∷ []))
-parts_of context setting (StackProbeLoop guard_size probe_count tmp) = slots_alone (slots_of context.flags (probe_pieces (number_of tmp.reg) (low_word guard_size) (low_word probe_count)))
+parts_of context setting (StackProbeLoop guard_size probe_count tmp) =
+    slots_alone (slots_of context.flags (probe_pieces (number_of tmp.reg) (low_word guard_size) (low_word probe_count)))
 parts_of context setting (LoadExtNameGot rd name) = slots_alone (slots_of context.flags (Take (number_of rd.reg) (OfSymbol (SlotOf name)) ∷ []))
-parts_of context setting (LoadExtNameNear rd name offset) = slots_alone (slots_of context.flags (Take (number_of rd.reg) (OfSymbol (AddressOf name offset)) ∷ []))
+parts_of context setting (LoadExtNameNear rd name offset) =
+    slots_alone (slots_of context.flags (Take (number_of rd.reg) (OfSymbol (AddressOf name offset)) ∷ []))
 parts_of context setting (LoadExtNameFar rd name offset) = slots_alone (slots_of context.flags (Constant (number_of rd.reg) (NameAddress name offset) ∷ []))
-parts_of context setting (Call info) = call_parts context.flags (call_pieces context.flags context.frame info) (loads_unless info.patchable info.defs) info.try_call_info
+parts_of context setting (Call info) =
+    call_parts context.flags (call_pieces context.flags context.frame info) (loads_unless info.patchable info.defs) info.try_call_info
 parts_of context setting (CallInd info) = call_parts context.flags (call_ind_pieces context.frame info) (result_loads info.defs) info.try_call_info
-parts_of context setting (ReturnCall info) = Ask (return_size context.flags context.frame info.new_stack_arg_size + 8) ∷ Slots (tail_slots context.flags context.frame info.new_stack_arg_size info.dest) ∷ []
-parts_of context setting (ReturnCallInd info) = Ask (return_size context.flags context.frame info.new_stack_arg_size + 4) ∷ Slots (t0_slots context.flags context.frame info.new_stack_arg_size) ∷ []
+parts_of context setting (ReturnCall info) =
+    Ask (return_size context.flags context.frame info.new_stack_arg_size + 8) ∷
+    Slots (tail_slots context.flags context.frame info.new_stack_arg_size info.dest) ∷
+    []
+parts_of context setting (ReturnCallInd info) =
+    Ask (return_size context.flags context.frame info.new_stack_arg_size + 4) ∷
+    Slots (t0_slots context.flags context.frame info.new_stack_arg_size) ∷
+    []
 parts_of context setting (Unwind inst) = slots_alone (slots_of context.flags (Note (event.Unwind inst) ∷ []))
 parts_of context setting inst = described_parts context.flags (description_of inst refl) refl

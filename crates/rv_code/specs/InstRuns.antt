@@ -44,7 +44,13 @@ abbrev pub Arrives : Site → ℕ → ℕ → Exit → State → Type 0
 Arrives site start after Next t = t.pc ≡ wrap (site.base + after)
 Arrives site start after (To label) t = (at : ℕ) × (site.place label ≡ Some at) × (t.pc ≡ wrap (site.base + at))
 Arrives site start after (Leave a) t = t.pc ≡ a
-Arrives site start after (Trap code) t = (at : ℕ) × IsRecorded site.records at (event.Trap code) × (start ≤ at) × (at < after) × (t.pc ≡ wrap (site.base + at)) × IsZeroHalf t.values.mem t.pc
+Arrives site start after (Trap code) t =
+    (at : ℕ) ×
+    IsRecorded site.records at (event.Trap code) ×
+    (start ≤ at) ×
+    (at < after) ×
+    (t.pc ≡ wrap (site.base + at)) ×
+    IsZeroHalf t.values.mem t.pc
 Arrives site start after Data t = t.pc ≡ wrap (site.base + start)
 Arrives site start after Break t = (t.pc ≡ wrap (site.base + start)) × IsBreak site.context.flags t.values.mem t.pc
 
@@ -63,7 +69,16 @@ pub record ComesOut (site : Site) (start after : ℕ) (exit : Exit) (free : List
 -- what the parts of an instruction are read among that stand between two offsets; a label that isn't bound, and a constant whose
 -- label isn't, is at the base
 abbrev pub environment : Site → ℕ → ℕ → Environment
-environment site start after = record { start = wrap (site.base + start); after = wrap (site.base + after); label = λ label. wrap (site.base + unwrap_or (site.place label) 0); constant = λ number. wrap (site.base + unwrap_or (site.place (first_constant + number)) 0); flags = site.context.flags; frame = site.context.frame; symbol = site.symbol; slot = site.slot }
+environment site start after = record {
+  start = wrap (site.base + start);
+  after = wrap (site.base + after);
+  label = λ label. wrap (site.base + unwrap_or (site.place label) 0);
+  constant = λ number. wrap (site.base + unwrap_or (site.place (first_constant + number)) 0);
+  flags = site.context.flags;
+  frame = site.context.frame;
+  symbol = site.symbol;
+  slot = site.slot;
+}
 
 -- a machine where a call returns, at an offset within its parts, beside the values that its callee returns with
 pub record Resumes (site : Site) (start after from : ℕ) (parts : List Part) (s : State) (v : Values) : Type 0 where
@@ -79,8 +94,15 @@ pub record Resumes (site : Site) (start after from : ℕ) (parts : List Part) (s
 
 -- what is left of a call then runs as the call means, wherever it stands in the code
 pub record ResumesIn (site : Site) (setting : EmitVState) (inst : Inst) (r : Return) : Type 0 where
-  pub run : (start after : ℕ) (s : State) (v : Values) → Resumes site start after (start + r.offset) (parts_of site.context setting inst) s v → ComesOut site start after (try_exit (try_call_of inst)) [] (resumed r v) s
+  pub run :
+      (start after : ℕ) (s : State) (v : Values) →
+      Resumes site start after (start + r.offset) (parts_of site.context setting inst) s v →
+      ComesOut site start after (try_exit (try_call_of inst)) [] (resumed r v) s
 
 -- the parts of an instruction run as it means, wherever they stand in the code, where it writes no byte of the code
 pub record RunsIn (site : Site) (setting : EmitVState) (inst : Inst) : Type 0 where
-  pub run : (start after : ℕ) (s : State) (v : Values) → Enters site start after (parts_of site.context setting inst) s v → AreOutside site.base (length site.bytes) (inst_writes (environment site start after) inst v) → ComesOut site start after (inst_exit (environment site start after) inst v) (inst_temporaries inst) (inst_effect (environment site start after) inst v) s
+  pub run :
+      (start after : ℕ) (s : State) (v : Values) →
+      Enters site start after (parts_of site.context setting inst) s v →
+      AreOutside site.base (length site.bytes) (inst_writes (environment site start after) inst v) →
+      ComesOut site start after (inst_exit (environment site start after) inst v) (inst_temporaries inst) (inst_effect (environment site start after) inst v) s

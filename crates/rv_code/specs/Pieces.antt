@@ -104,7 +104,11 @@ trap_slots flags code = Records (event.Trap code) ∷ Data (trap_bytes flags) �
 
 -- a load of so many bytes that stand after it and a jump over them
 abbrev pub load_over : IsaFlags → ℕ → LoadOP → ℕ → List Slot
-load_over flags rd op size = Op (decoded (Base Auipc) rd 0 0 (pos 0)) ∷ Op (decoded_load op rd rd (pos (8 + jump_size flags))) ∷ Op (short_jump flags (pos (size + jump_size flags))) ∷ []
+load_over flags rd op size =
+    Op (decoded (Base Auipc) rd 0 0 (pos 0)) ∷
+    Op (decoded_load op rd rd (pos (8 + jump_size flags))) ∷
+    Op (short_jump flags (pos (size + jump_size flags))) ∷
+    []
 
 -- a literal: by which load, how many bytes it has, and these
 abbrev pub literal_load : Literal → LoadOP
@@ -160,7 +164,8 @@ label_base op rd = if is_float_load op then 31 else rd
 
 -- a load from a label: the lower part of its distance is in the load's word
 abbrev pub label_load_slots : ℕ → ℕ → LoadOP → Option TrapCode → MachLabel → List Slot
-label_load_slots base rd op trap l = upper_at base l ∷ access_slots trap ++ Fixup PCRelLo12I (Label l) (λ d. decoded_load op rd base (lower_of_distance d) ∷ []) ∷ []
+label_load_slots base rd op trap l =
+    upper_at base l ∷ access_slots trap ++ Fixup PCRelLo12I (Label l) (λ d. decoded_load op rd base (lower_of_distance d) ∷ []) ∷ []
 
 -- to a symbol by the distance to it, by way of a register; another one is the address after it
 abbrev pub call_to : ℕ → ℕ → ExternalName → Slot

@@ -16,7 +16,11 @@ use Rattle.rv_code.specs.Pieces.{Piece, Rrr, Rri, Do, Branch, Jump, New, Bind}
 
 -- before the loop: none is counted, all bits are left, and the highest is the next where they are counted downward, else the lowest
 abbrev pub count_start : Bool → ℕ → ℕ → ℕ → ℕ → List Piece
-count_start downward sum tmp step bits = Do (Rri Addi sum 0 (pos 0)) ∷ Do (Rri Addi step 0 (pos bits)) ∷ Do (Rri Addi tmp 0 (pos 1)) ∷ (if downward then Do (Rri Slli tmp tmp (pos (bits - 1))) ∷ [] else [])
+count_start downward sum tmp step bits =
+    Do (Rri Addi sum 0 (pos 0)) ∷
+    Do (Rri Addi step 0 (pos bits)) ∷
+    Do (Rri Addi tmp 0 (pos 1)) ∷
+    (if downward then Do (Rri Slli tmp tmp (pos (bits - 1))) ∷ [] else [])
 
 -- to label 1 where no bit is left, else the next one goes to x30
 abbrev pub count_test : ℕ → ℕ → ℕ → List Piece → List Piece
@@ -51,11 +55,25 @@ reverse_start rd tmp tmp2 step bits =
 -- where the next bit goes: by how many bits are left of its byte, which is in x30, to the lowest bit of the byte below, or to the bit above
 -- the last one in the same byte; and a turn begins
 abbrev pub reverse_move : ℕ → List Piece
-reverse_move tmp2 = Branch NotEqual 30 0 3 ∷ Do (Rri Srli tmp2 tmp2 (pos 15)) ∷ Jump 4 ∷ Bind 3 ∷ Do (Rri Slli tmp2 tmp2 (pos 1)) ∷ Bind 4 ∷ Jump 0 ∷ Bind 1 ∷ []
+reverse_move tmp2 =
+    Branch NotEqual 30 0 3 ∷
+    Do (Rri Srli tmp2 tmp2 (pos 15)) ∷
+    Jump 4 ∷
+    Bind 3 ∷
+    Do (Rri Slli tmp2 tmp2 (pos 1)) ∷
+    Bind 4 ∷
+    Jump 0 ∷
+    Bind 1 ∷
+    []
 
 -- one bit less is left, the one below is the next, and x30 holds how many are left of its byte
 abbrev pub reverse_down : ℕ → ℕ → ℕ → List Piece
-reverse_down tmp tmp2 step = Do (Rri Addi step step (negsuc 0)) ∷ Do (Rri Srli tmp tmp (pos 1)) ∷ Do (Rri Addi 30 0 (pos 8)) ∷ Do (Rrr Rem 30 step 30) ∷ reverse_move tmp2
+reverse_down tmp tmp2 step =
+    Do (Rri Addi step step (negsuc 0)) ∷
+    Do (Rri Srli tmp tmp (pos 1)) ∷
+    Do (Rri Addi 30 0 (pos 8)) ∷
+    Do (Rrr Rem 30 step 30) ∷
+    reverse_move tmp2
 
 -- to label 1 where no bit is left; a bit is set where the next one is one
 abbrev pub reverse_turn : ℕ → ℕ → ℕ → ℕ → ℕ → List Piece
@@ -75,4 +93,5 @@ pieces_by ReversedBytes rd tmp1 tmp2 tmp3 rs bits = reverse_pieces rd tmp2 tmp3 
 
 -- where there are two temporaries, the second stands for the third, which none of these has then
 abbrev pub sequence_pieces : Sequence → List Piece
-sequence_pieces s = pieces_by s.computation (number_of s.rd.reg) (number_of s.tmp1.reg) (number_of s.tmp2.reg) (number_of (unwrap_or s.tmp3 s.tmp2).reg) (number_of s.rs) (bits_of s.ty)
+sequence_pieces s =
+    pieces_by s.computation (number_of s.rd.reg) (number_of s.tmp1.reg) (number_of s.tmp2.reg) (number_of (unwrap_or s.tmp3 s.tmp2).reg) (number_of s.rs) (bits_of s.ty)

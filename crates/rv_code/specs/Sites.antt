@@ -68,7 +68,14 @@ pub record ComesTo (flags : IsaFlags) (least address : ℕ) (v : Values) (s : St
 
 -- from one offset the machine comes to another, and changes at most x31
 pub record LeadsOn (site : Site) (from to : ℕ) : Type 0 where
-  pub run : (s : State) (v : Values) → IsPlacedAt site s.values.mem → s.pc ≡ wrap (site.base + from) → IsState s → AreValues v → Same v s.values → ComesTo site.context.flags 0 (wrap (site.base + to)) v s
+  pub run :
+      (s : State) (v : Values) →
+      IsPlacedAt site s.values.mem →
+      s.pc ≡ wrap (site.base + from) →
+      IsState s →
+      AreValues v →
+      Same v s.values →
+      ComesTo site.context.flags 0 (wrap (site.base + to)) v s
 
 -- where a use may aim whose label may stand far away: where a veneer is supported, at what leads to the label's place; else at the
 -- place itself, which is even
@@ -113,14 +120,18 @@ pub record LinksFrom (site : Site) (at : ℕ) (name : ExternalName) (ops : ℤ �
 abbrev pub StandsIn : Site → ℕ → ℕ → List Slot → Type 0
 StandsIn site allocated at [] = Unit {0}
 StandsIn site allocated at (Op d ∷ slots) = CodeHas site at (d ∷ []) × StandsIn site allocated (at + d.len) slots
-StandsIn site allocated at (Fixup kind target ops ∷ slots) = AimsFrom site allocated at kind target ops × StandsIn site allocated (at + length (marks_of kind)) slots
-StandsIn site allocated at (Data bytes ∷ slots) = ((mem : Memory) → IsPlacedAt site mem → BytesAt mem (site.base + at) bytes) × StandsIn site allocated (at + length bytes) slots
+StandsIn site allocated at (Fixup kind target ops ∷ slots) =
+    AimsFrom site allocated at kind target ops × StandsIn site allocated (at + length (marks_of kind)) slots
+StandsIn site allocated at (Data bytes ∷ slots) =
+    ((mem : Memory) → IsPlacedAt site mem → BytesAt mem (site.base + at) bytes) × StandsIn site allocated (at + length bytes) slots
 StandsIn site allocated at (Records event ∷ slots) = IsRecorded site.records at event × StandsIn site allocated at slots
 StandsIn site allocated at (Names k ∷ slots) = StandsIn site allocated at slots
 StandsIn site allocated at (Allocate ∷ slots) = StandsIn site allocated at slots
 StandsIn site allocated at (Here k ∷ slots) = (site.place (own_label allocated k).number ≡ Some at) × StandsIn site allocated at slots
 StandsIn site allocated at (RelocPair symbol upper lower ∷ slots) = FillsFrom site at symbol upper lower × StandsIn site allocated (at + 8) slots
-StandsIn site allocated at (Address name addend ∷ slots) = ((mem : Memory) → IsPlacedAt site mem → BytesAt mem (site.base + at) (to_le_bytes w64 (symbol_address site (AddressOf name addend)))) × StandsIn site allocated (at + 8) slots
+StandsIn site allocated at (Address name addend ∷ slots) =
+    ((mem : Memory) → IsPlacedAt site mem → BytesAt mem (site.base + at) (to_le_bytes w64 (symbol_address site (AddressOf name addend)))) ×
+    StandsIn site allocated (at + 8) slots
 StandsIn site allocated at (CallTo name ops ∷ slots) = LinksFrom site at name ops × StandsIn site allocated (at + 8) slots
 
 -- nothing stands between two offsets, or what leads on

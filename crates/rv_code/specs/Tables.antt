@@ -19,7 +19,12 @@ far_jump tmp label = Fixup PCRel32 (Label label) (λ d. decoded (Base base.Auipc
 -- to the default where x31 isn't below the number of the other labels, else into the table after it: to its own address, with eight
 -- bytes for each label before that of the index, and 16 for the four words that make the jump
 abbrev pub enter_ops : ℕ → ℕ → List Decoded
-enter_ops tmp1 tmp2 = decoded (Base base.Auipc) tmp1 0 0 (pos 0) ∷ decoded_rri Slli tmp2 31 (pos 3) ∷ decoded_rrr Add tmp1 tmp1 tmp2 ∷ decoded_jalr 0 tmp1 (pos 16) ∷ []
+enter_ops tmp1 tmp2 =
+    decoded (Base base.Auipc) tmp1 0 0 (pos 0) ∷
+    decoded_rri Slli tmp2 31 (pos 3) ∷
+    decoded_rrr Add tmp1 tmp1 tmp2 ∷
+    decoded_jalr 0 tmp1 (pos 16) ∷
+    []
 
 abbrev pub bound_op : ℕ → Decoded
 bound_op tmp2 = decoded (Base base.Bltu) 0 31 tmp2 (pos 12)

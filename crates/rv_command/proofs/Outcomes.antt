@@ -70,7 +70,7 @@ input_of_job request input job ends.OutOfMemory text reads means = absurd means
 
 -- ---- refusals
 
-pub is_refused : (job : Job) (error : EmitError) → (error ≡ errors.OutOfMemory → ⊥) → Finds {X = Code} (refusal job) (Err error) → IsRefused job error
+pub is_refused : (job : Job) (error : EmitError) → (error ≡ errors.OutOfMemory → ⊥) → Finds {X = Unit {0}} (refusal job) (Err error) → IsRefused job error
 is_refused job errors.OutOfMemory real is = absurd (real refl)
 is_refused job errors.BadFrame real is = is
 is_refused job (errors.Malformed index rule) real is = is

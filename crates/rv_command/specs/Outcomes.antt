@@ -1,6 +1,6 @@
 -- How a call of the program ends, and why.
 use Rattle.std.specs.Prelude.{◌≡◌, ℕ, ◌<◌, ◌≤◌, ◌⊎◌, Bool, true, false, List, ◌++◌, length, Option, Some, None, Result, Ok, Err, IfSome, codes}
-use Rattle.std.specs.Io.KnownBytes.{Appends, Keeps}
+use Rattle.std.specs.Io.KnownBytes.{Appends, IsAtEnd, Keeps}
 use Rattle.std.specs.Fmt.{decimal}
 use Rattle.clap.specs.Words.{Text}
 use Rattle.rv_base.specs.declared.out_of_memory.OutOfMemory.{OutOfMemory}
@@ -85,7 +85,14 @@ status_of ends.OutOfMemory = 8
 -- the code of a job that isn't refused, which reports its lines and runs as they say, in operations as short as they have, and its
 -- numbers in the ranges in which no other code has its report
 abbrev pub IsCodeOf : Job → Code → Type 0
-IsCodeOf job code = (refusal job ≡ None) × Reported job code × RunsAsListed job code × FullRuns job code × HasOperations job code × HasFullOperations job code × CodeFits code
+IsCodeOf job code =
+    (refusal job ≡ None) ×
+    Reported job code ×
+    RunsAsListed job code ×
+    FullRuns job code ×
+    HasOperations job code ×
+    HasFullOperations job code ×
+    CodeFits code
 
 -- the job is refused so; never when out of memory
 abbrev pub IsRefused : Job → EmitError → Type 0
@@ -108,7 +115,17 @@ pub record Call : Type 0 where
   pub write_faults_after : ℕ
 
 abbrev pub call : List Text → Option (List ℕ) → Option (List ℕ) → ℕ → ℕ → Option (List ℕ) → Option (List ℕ) → ℕ → ℕ → Call
-call words left left_after r r_after taken taken_after w w_after = record { words = words; left = left; left_after = left_after; read_faults = r; read_faults_after = r_after; taken = taken; taken_after = taken_after; write_faults = w; write_faults_after = w_after }
+call words left left_after r r_after taken taken_after w w_after = record {
+  words = words;
+  left = left;
+  left_after = left_after;
+  read_faults = r;
+  read_faults_after = r_after;
+  taken = taken;
+  taken_after = taken_after;
+  write_faults = w;
+  write_faults_after = w_after;
+}
 
 abbrev pub input_limit : ℕ
 input_limit = 16777216
@@ -123,9 +140,9 @@ AsksNoListing None = Unit {0}
 AsksNoListing (Some (Listing with_texts)) = ⊥
 AsksNoListing (Some (Generated number)) = Unit {0}
 
--- all that was left was read, and it is this
+-- all that was left was read, to the end, and it is this
 abbrev pub Read : Call → List ℕ → Type 0
-Read call input = IfSome call.left (λ left. input ≡ left) × (length input ≤ input_limit)
+Read call input = IfSome call.left (λ left. input ≡ left) × (length input ≤ input_limit) × IsAtEnd call.left_after
 
 -- the job that is asked for so: of the input that was read, or of a number
 abbrev pub HasJob : Call → Request → Job → Type 0
@@ -158,7 +175,11 @@ WroteFront call = (outcome : Outcome) × (text : List ℕ) × Due call outcome t
 
 -- why a call ended so, and what it left written; a fault of the source came before more bytes than may be read
 abbrev pub Ended : Call → Outcome → Type 0
-Ended call ends.ReadFault = AsksListing call × Rose call.read_faults call.read_faults_after × Gave (λ n. n ≤ input_limit) call.left call.left_after × Keeps call.taken call.taken_after
+Ended call ends.ReadFault =
+    AsksListing call ×
+    Rose call.read_faults call.read_faults_after ×
+    Gave (λ n. n ≤ input_limit) call.left call.left_after ×
+    Keeps call.taken call.taken_after
 Ended call ends.WriteFault = Rose call.write_faults call.write_faults_after × WroteFront call
 Ended call ends.OutOfMemory = Keeps call.taken call.taken_after ⊎ WroteFront call
 Ended call outcome = Wrote call outcome
@@ -201,9 +222,24 @@ KnownJob call (Generated number) job = job ≡ gen_job number
 pub record IsSettled (call : Call) (returned : Outcome) : Type 0 where
   pub usage : asked call.words ≡ None → NoFault call → IsOrOutOfMemory returned ends.Usage
   pub too_long : AsksListing call → NoFault call → IfSome call.left (λ input. input_limit < length input → IsOrOutOfMemory returned ends.TooLong)
-  pub syntax_line : AsksListing call → NoFault call → IfSome call.left (λ input. length input ≤ input_limit → (line : ℕ) → reads input ≡ Err line → IsOrOutOfMemory returned (ends.Syntax line))
-  pub refused : NoFault call → (request : Request) (job : Job) (error : EmitError) → asked call.words ≡ Some request → KnownJob call request job → refusal job ≡ Some error → IsOrOutOfMemory returned (ends.Refused error)
-  pub complete : NoFault call → (request : Request) (job : Job) → asked call.words ≡ Some request → KnownJob call request job → refusal job ≡ None → IsDone returned
+  pub syntax_line :
+      AsksListing call →
+      NoFault call →
+      IfSome call.left (λ input. length input ≤ input_limit → (line : ℕ) → reads input ≡ Err line → IsOrOutOfMemory returned (ends.Syntax line))
+  pub refused :
+      NoFault call →
+      (request : Request) (job : Job) (error : EmitError) →
+      asked call.words ≡ Some request →
+      KnownJob call request job →
+      refusal job ≡ Some error →
+      IsOrOutOfMemory returned (ends.Refused error)
+  pub complete :
+      NoFault call →
+      (request : Request) (job : Job) →
+      asked call.words ≡ Some request →
+      KnownJob call request job →
+      refusal job ≡ None →
+      IsDone returned
 
 -- ---- between the program's functions
 

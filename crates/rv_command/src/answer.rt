@@ -1,16 +1,18 @@
 //! What a call has to write, and how it ends once that is written.
 
-ghost use Rattle.std.specs.Prelude.{◌≡◌, ◌≢◌, IfOk};
+ghost use Rattle.std.specs.Prelude.{◌≡◌, ◌≢◌, None, IfOk};
 ghost use Rattle.rv_inst.specs.declared.error.EmitError.TheVariants as errors;
+ghost use Rattle.rv_asm.specs.Refusal.{refusal};
 ghost use Rattle.rv_command.specs.declared.outcome.Outcome.TheVariants as ends;
 ghost use Rattle.rv_command.specs.Outcomes.{wanted, usage_line, too_long_line, syntax_line, error_line, Means, MeansInput, Is};
 
 use crate::outcome::{Outcome, error_line, syntax_line, too_long_line, usage_line};
 use crate::words::Request;
-use rv_asm::assemble;
+use rv_asm::{assemble_checked, check_lines};
 use rv_base::{List, OutOfMemory};
+use rv_explain::{explain_refusal, explain_syntax};
 use rv_gen::summary;
-use rv_inst::{Code, Context, EmitError, Job};
+use rv_inst::{Code, EmitError, Job};
 use rv_listing::{ReadError, read_job, report, report_with};
 use rv_text::texts;
 use std::alloc::Global;
@@ -19,7 +21,16 @@ use std::alloc::Global;
 pub struct Answer {
     pub outcome: Outcome,
     pub text: List<u8>,
+    /// What to mend, for the person who called. It is left out where there is no memory for it.
+    pub note: Option<String>,
 }
+
+/// What to mend where the words are none of the command's.
+const USAGE_NOTE: &str =
+    "the words are none, --text, or --gen N with N from 0 to 18446744073709551615; a listing is read from standard input";
+
+/// What to mend where the input is too long.
+const TOO_LONG_NOTE: &str = "the listing has more than 16777216 bytes";
 
 pub(crate) fn usage(alloc: Global) -> Result<Answer, OutOfMemory>
     ensures { IfOk result (Is ends.Usage usage_line) }
@@ -27,6 +38,7 @@ pub(crate) fn usage(alloc: Global) -> Result<Answer, OutOfMemory>
     Ok(Answer {
         outcome: Outcome::Usage,
         text: List::from_vec(usage_line(alloc)?),
+        note: String::from_str(alloc, USAGE_NOTE).ok(),
     })
 }
 
@@ -36,28 +48,40 @@ pub(crate) fn too_long(alloc: Global) -> Result<Answer, OutOfMemory>
     Ok(Answer {
         outcome: Outcome::TooLong,
         text: List::from_vec(too_long_line(alloc)?),
+        note: String::from_str(alloc, TOO_LONG_NOTE).ok(),
     })
 }
 
-fn syntax(alloc: Global, line: usize) -> Result<Answer, OutOfMemory>
+fn syntax(alloc: Global, input: &[u8], line: usize) -> Result<Answer, OutOfMemory>
     ensures { IfOk result (Is (ends.Syntax line) (syntax_line line)) }
 {
     Ok(Answer {
         outcome: Outcome::Syntax { line },
         text: List::from_vec(syntax_line(alloc, line)?),
+        note: explain_syntax(alloc, input, line).ok(),
     })
 }
 
-fn refused(alloc: Global, error: EmitError) -> Result<Answer, OutOfMemory>
+/// What is wrong with a listing that is refused; of a generated job nothing is said.
+fn refusal_note(alloc: Global, input: &Option<Vec<u8>>, error: &EmitError) -> Option<String> {
+    match input {
+        Some(input) => explain_refusal(alloc, input, error).ok(),
+        None => None,
+    }
+}
+
+fn refused(alloc: Global, input: &Option<Vec<u8>>, error: EmitError) -> Result<Answer, OutOfMemory>
     ensures { IfOk result (λ answer. (error ≢ errors.OutOfMemory) × Is (ends.Refused error) (error_line error) answer) }
 {
     match error {
         EmitError::OutOfMemory => Err(OutOfMemory),
         error => {
             let text = List::from_vec(error_line(alloc, &error)?);
+            let note = refusal_note(alloc, input, &error);
             Ok(Answer {
                 outcome: Outcome::Refused { error },
                 text,
+                note,
             })
         }
     }
@@ -91,29 +115,51 @@ fn done(alloc: Global, request: Request, job: Job, code: Code) -> Result<Answer,
     Ok(Answer {
         outcome: Outcome::Done { code },
         text,
+        note: None,
     })
 }
 
-/// The answer to a job that is asked for so.
+/// The answer to a job that isn't refused.
+fn answer_of_accepted(alloc: Global, request: Request, job: Job) -> Result<Answer, OutOfMemory>
+    requires { refusal job ≡ None }
+    ensures { IfOk result (λ answer. Means request job answer.outcome answer.text) }
+{
+    let code = assemble_checked(
+        alloc,
+        job.lines.as_slice(),
+        job.flags,
+        &job.frame,
+        job.constants.as_slice(),
+    )?;
+    done(alloc, request, job, code)
+}
+
+/// The answer to a job that is asked for so, which was read from this input, or is a generated one. The input is kept until it is known
+/// whether the job is refused.
 pub(crate) fn answer_of_job(
     alloc: Global,
     request: Request,
     job: Job,
+    input: Option<Vec<u8>>,
 ) -> Result<Answer, OutOfMemory>
     ensures { IfOk result (λ answer. Means request job answer.outcome answer.text) }
 {
-    let context = Context {
-        flags: job.flags,
-        frame: &job.frame,
-        constants: job.constants.as_slice(),
-    };
-    match assemble(alloc, job.lines.as_slice(), &context) {
-        Ok(code) => done(alloc, request, job, code),
-        Err(error) => refused(alloc, error),
+    match check_lines(
+        alloc,
+        job.lines.as_slice(),
+        job.flags,
+        &job.frame,
+        job.constants.as_slice(),
+    ) {
+        Ok(()) => {
+            drop(input);
+            answer_of_accepted(alloc, request, job)
+        }
+        Err(error) => refused(alloc, &input, error),
     }
 }
 
-/// The answer to an input, whose memory is given back once its job is read.
+/// The answer to an input.
 pub(crate) fn answer_of_input(
     alloc: Global,
     request: Request,
@@ -123,9 +169,8 @@ pub(crate) fn answer_of_input(
 {
     let job = match read_job(alloc, &input) {
         Ok(job) => job,
-        Err(ReadError::Syntax { line }) => return syntax(alloc, line),
+        Err(ReadError::Syntax { line }) => return syntax(alloc, &input, line),
         Err(ReadError::OutOfMemory) => return Err(OutOfMemory),
     };
-    drop(input);
-    answer_of_job(alloc, request, job)
+    answer_of_job(alloc, request, job, Some(input))
 }

@@ -6,7 +6,7 @@ mod outcome;
 mod program;
 mod words;
 
-pub use outcome::Outcome;
-pub use program::run;
+pub use outcome::{Ending, Outcome};
+pub use program::{run, run_explained};
 pub use rv_stream::{MemSink, MemSource, Sink, Source, StdSink, StdSource, SureSink, SureSource};
 pub use words::{Request, WordsError, read_words};

@@ -7,6 +7,7 @@ ghost use Rattle.rv_command.specs.Outcomes.{rule_name, error_line, usage_line, t
 use rv_base::OutOfMemory;
 use rv_inst::{Code, EmitError, Rule};
 use std::alloc::Global;
+use std::process::ExitCode;
 
 /// How a call of the program ended.
 #[derive(Drop)]
@@ -29,7 +30,17 @@ pub enum Outcome {
     OutOfMemory,
 }
 
+/// How a call of the program ended, and what is said of it to the person who called.
+#[derive(Drop)]
+pub struct Ending {
+    pub outcome: Outcome,
+    /// What to mend where there is no report, on one line: the line of the listing, its words, and why. None where there was no memory to
+    /// say it.
+    pub note: Option<String>,
+}
+
 impl Outcome {
+    ghost use Rattle.std.specs.Process.{exit_status};
     ghost use Rattle.rv_command.specs.Outcomes.{status_of};
 
     /// The status that the process ends with.
@@ -46,6 +57,13 @@ impl Outcome {
             Outcome::TooLong => 7,
             Outcome::OutOfMemory => 8,
         }
+    }
+
+    /// That status, as `main` returns it.
+    pub fn exit_code(&self) -> ExitCode
+        ensures { exit_status result ≡ status_of self.now }
+    {
+        ExitCode::from(self.status())
     }
 }
 

@@ -54,16 +54,42 @@ pub record HasCode (context : Context) (f : Shape LabelUse) (site : Site) : Type
 -- comes out as it means. That is where it writes on no byte of the code. And where one operation stands for it, that is read at the first
 -- offset.
 pub record RunsBetween (site : Site) (inst : Inst) (start end : ℕ) : Type 0 where
-  pub run : (s : State) (v : Values) → is_integer_in site.context.frame inst ≡ true → IsPlacedAt site s.values.mem → s.pc ≡ wrap (site.base + start) → IsState s → AreValues v → Same v s.values → AreOutside site.base (length site.bytes) (inst_writes (environment site start end) inst v) → ComesOut site start end (inst_exit (environment site start end) inst v) (inst_temporaries inst) (inst_effect (environment site start end) inst v) s
-  pub back : (r : Return) (s : State) (v : Values) → is_integer inst ≡ true → return_of site.context.flags inst ≡ Some r → IsPlacedAt site s.values.mem → s.pc ≡ wrap (site.base + (start + r.offset)) → IsState s → AreValues v → Same v s.values → ComesOut site start end (try_exit (try_call_of inst)) [] (resumed r v) s
+  pub run :
+      (s : State) (v : Values) →
+      is_integer_in site.context.frame inst ≡ true →
+      IsPlacedAt site s.values.mem →
+      s.pc ≡ wrap (site.base + start) →
+      IsState s →
+      AreValues v →
+      Same v s.values →
+      AreOutside site.base (length site.bytes) (inst_writes (environment site start end) inst v) →
+      ComesOut site start end (inst_exit (environment site start end) inst v) (inst_temporaries inst) (inst_effect (environment site start end) inst v) s
+  pub back :
+      (r : Return) (s : State) (v : Values) →
+      is_integer inst ≡ true →
+      return_of site.context.flags inst ≡ Some r →
+      IsPlacedAt site s.values.mem →
+      s.pc ≡ wrap (site.base + (start + r.offset)) →
+      IsState s →
+      AreValues v →
+      Same v s.values →
+      ComesOut site start end (try_exit (try_call_of inst)) [] (resumed r v) s
   pub full : RunsFully site start end inst AtStart start
   pub full_back : (r : Return) → return_of site.context.flags inst ≡ Some r → RunsFully site start end inst AtReturn (start + r.offset)
-  pub reads : (d : Decoded) (mem : Memory) → operation_of site.context inst ≡ Some d → IsPlacedAt site mem → decode site.context.flags (fetch mem (site.base + start)) ≡ Some d
+  pub reads :
+      (d : Decoded) (mem : Memory) →
+      operation_of site.context inst ≡ Some d →
+      IsPlacedAt site mem →
+      decode site.context.flags (fetch mem (site.base + start)) ≡ Some d
 
 -- What was put between the ends of two buffers runs so wherever the second one's code is finished, with what came after it; what stood
 -- lasts; and the records, with the pending map in place of a call's own, the constant and no label of a listing were added.
 pub record EmitsRun (context : Context) (map : Option UserStackMap) (inst : Inst) (old new : Buffer) : Type 0 where
-  pub runs : (f : Shape LabelUse) (site : Site) → Lasts label_kinds (shape_of new) f → HasCode context f site → RunsBetween site inst (length (bytes_of old)) (length (bytes_of new))
+  pub runs :
+      (f : Shape LabelUse) (site : Site) →
+      Lasts label_kinds (shape_of new) f →
+      HasCode context f site →
+      RunsBetween site inst (length (bytes_of old)) (length (bytes_of new))
   pub built : IsBuilt new
   pub lasts : Lasts label_kinds (shape_of old) (shape_of new)
   pub records : records_of new ≡ records_of old ++ inst_records context (length (bytes_of old)) (length (bytes_of new)) (with_map map inst)
@@ -77,6 +103,10 @@ Promises context map inst old new = IsBuilt old → EmitsRun context map inst ol
 
 -- Between the ends of two buffers stands nothing, or an island: wherever the second one's code is finished, what stands there leads on.
 pub record GapLeads (old new : Buffer) : Type 0 where
-  pub leads : (context : Context) (f : Shape LabelUse) (site : Site) → Lasts label_kinds (shape_of new) f → HasCode context f site → LeadsOn site (length (bytes_of old)) (length (bytes_of new))
+  pub leads :
+      (context : Context) (f : Shape LabelUse) (site : Site) →
+      Lasts label_kinds (shape_of new) f →
+      HasCode context f site →
+      LeadsOn site (length (bytes_of old)) (length (bytes_of new))
   pub built : IsBuilt new
   pub lasts : Lasts label_kinds (shape_of old) (shape_of new)

@@ -4,6 +4,7 @@ pub mod Numbers
 pub mod Tables
 pub mod Halfwords
 pub mod HalfwordsOfMemory
+pub mod AtomicDecoding
 pub mod ByFields
 pub mod FloatDecoding
 pub mod CsrDecoding

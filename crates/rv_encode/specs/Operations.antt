@@ -1,5 +1,5 @@
 -- The operations of the machine that instructions are, with their operands.
-use Rattle.std.specs.Prelude.{◌≡◌, ℕ, ◌^◌, ◌==◌, if◌then◌else◌, Bool, true, ℤ, pos, Option, Some, None}
+use Rattle.std.specs.Prelude.{◌≡◌, ℕ, ◌+◌, ◌*◌, ◌^◌, ◌==◌, if◌then◌else◌, Bool, true, ℤ, pos, Option, Some, None}
 use Rattle.std.specs.Option.{option_map}
 use Rattle.rv_base.specs.declared.flags.IsaFlags.{IsaFlags}
 use Rattle.rv_base.specs.Regs.{number_of}
@@ -19,6 +19,9 @@ use Rattle.rv_ops.specs.declared.float_fields.FRM.{FRM}
 use Rattle.rv_ops.specs.declared.fpu_rr.FpuOPRR.{FpuOPRR}
 use Rattle.rv_ops.specs.declared.fpu.FpuOPRRR.{FpuOPRRR}
 use Rattle.rv_ops.specs.declared.fpu.FpuOPRRRR.{FpuOPRRRR}
+use Rattle.rv_ops.specs.declared.atomic.AMO.{AMO}
+use Rattle.rv_ops.specs.declared.atomic.AtomicOP.{AtomicOP}
+use Rattle.rv_ops.specs.Atomic.{amo_bits, atomic_op, atomic_width}
 use Rattle.rv_ops.specs.declared.csr.CsrRegOP.{CsrRegOP}
 use Rattle.rv_ops.specs.declared.csr.CsrImmOP.{CsrImmOP}
 use Rattle.rv_ops.specs.FloatFields.{format_of, frm_bits, mode_of}
@@ -28,7 +31,7 @@ use Rattle.rv_ops.specs.Compare.{branch_of, rs1_of, rs2_of}
 use Rattle.rv_ops.specs.Operations.{is_exchanged, rrr_op, rri_op, immediate_of, kept_bits}
 use Rattle.rv_machine.specs.declared.decoding.Decoded.{Decoded}
 use Rattle.rv_machine.specs.declared.ops.MOp.{MOp}
-use Rattle.rv_machine.specs.declared.ops.MOp.TheVariants.{Base, Load, Store, Alu, Csr, FloatLoad, FloatStore, Float}
+use Rattle.rv_machine.specs.declared.ops.MOp.TheVariants.{Base, Load, Store, Alu, Atomic, Csr, FloatLoad, FloatStore, Float}
 use Rattle.rv_machine.specs.declared.ops.BaseOp.{BaseOp}
 use Rattle.rv_machine.specs.declared.ops.BaseOp.TheVariants as base
 use Rattle.rv_machine.specs.declared.ops.FloatFormat.{FloatFormat}
@@ -170,3 +173,13 @@ decoded_csr_reg op rd rs = decoded (Csr (csr_reg_op op)) rd rs 0 (pos 0)
 
 abbrev pub decoded_csr_imm : CsrImmOP → ℕ → ℕ → Decoded
 decoded_csr_imm op rd imm = decoded (Csr (csr_imm_op op)) rd imm 0 (pos 0)
+
+-- ---- atomic operations, and fences
+
+-- the ordering bits stand in the place of the immediate
+abbrev pub decoded_atomic : AtomicOP → AMO → ℕ → ℕ → ℕ → Decoded
+decoded_atomic op amo rd addr src = decoded (Atomic (atomic_op op) (atomic_width op)) rd addr src (pos (amo_bits amo))
+
+-- what comes before, and what comes after
+abbrev pub decoded_fence : ℕ → ℕ → Decoded
+decoded_fence pred succ = decoded (Base base.Fence) 0 0 0 (pos (16 * pred + succ))

@@ -1,6 +1,7 @@
 //! The words and halfwords of operations with their operands.
 #![tactic(auto)]
 
+mod atomic;
 mod compressed;
 mod compressed_float;
 mod compressed_memory;
@@ -11,6 +12,7 @@ mod layouts;
 mod memory;
 mod operations;
 
+pub use atomic::{encode_atomic, encode_fence};
 pub use compressed::{
     encode_c_addi16sp, encode_ca_type, encode_cb_type, encode_ci_type, encode_ciw_type,
     encode_cj_type, encode_cr_type, encode_cr2_type, encode_cszn_type, reg_to_compressed_gpr_num,

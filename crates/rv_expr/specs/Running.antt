@@ -35,4 +35,7 @@ pub record Returns (flags : IsaFlags) (size number : ℕ) (s : State) : Type 0 w
 
 -- Wherever the code is placed, and from every state in which it is entered, it returns the value of the program.
 pub record Computes (flags : IsaFlags) (ops : List ExprOp) (code : Code) : Type 0 where
-  pub from : (base : ℕ) (symbols slots : Addresses) (args : List ℕ) (s : State) → IsEntered code base symbols slots (frame_size (length ops)) args s → Returns flags (frame_size (length ops)) (value ops args) s
+  pub from :
+      (base : ℕ) (symbols slots : Addresses) (args : List ℕ) (s : State) →
+      IsEntered code base symbols slots (frame_size (length ops)) args s →
+      Returns flags (frame_size (length ops)) (value ops args) s

@@ -11,7 +11,7 @@ use crate::lines::lines_of;
 use crate::ops::ExprOp;
 use rv_asm::assemble;
 use rv_base::{FrameLayout, IsaFlags};
-use rv_inst::{Code, Context, EmitError};
+use rv_inst::{Code, EmitError};
 use std::alloc::Global;
 
 /// The code of a program, for a machine with these flags: called with the arguments in a0 to a7, it returns with the value of the last
@@ -26,12 +26,7 @@ pub fn compile(alloc: Global, flags: IsaFlags, ops: &[ExprOp]) -> Result<Code, E
     }
     let lines = lines_of(alloc, ops)?;
     let frame = FrameLayout::none(alloc);
-    let context = Context {
-        flags,
-        frame: &frame,
-        constants: &[],
-    };
-    match assemble(alloc, &lines, &context) {
+    match assemble(alloc, &lines, flags, &frame, &[]) {
         Ok(code) => Ok(code),
         Err(error) => Err(no_memory(error)),
     }

@@ -105,4 +105,7 @@ pub record IsFieldOf (relocs : List MachReloc) (base : ℕ) (symbols slots : Tab
 pub record IsFilled (bytes : List ℕ) (relocs : List MachReloc) (base : ℕ) (symbols slots : Table) (image : List ℕ) : Type 0 where
   pub long : length image ≡ length bytes
   pub kept : (k : ℕ) → k < length bytes → IsOutside relocs k 1 → slice_index image k ≡ slice_index bytes k
-  pub filled : (j : ℕ) (r : MachReloc) → slice_get relocs j ≡ Some r → IsFieldOf relocs base symbols slots r (window bytes r.offset (field_size r.kind)) (window image r.offset (field_size r.kind))
+  pub filled :
+      (j : ℕ) (r : MachReloc) →
+      slice_get relocs j ≡ Some r →
+      IsFieldOf relocs base symbols slots r (window bytes r.offset (field_size r.kind)) (window image r.offset (field_size r.kind))

@@ -36,7 +36,8 @@ is_bad_target relocs Abs8 (Func at) = true
 
 -- a relocation whose field isn't within so many bytes, or meets an earlier one's, or whose target is none
 abbrev pub is_bad_record : ℕ → List MachReloc → ℕ → MachReloc → Bool
-is_bad_record count relocs index r = nat_lt count (r.offset + field_size r.kind) || list_any (meets r) (take index relocs) || is_bad_target relocs r.kind r.target
+is_bad_record count relocs index r =
+    nat_lt count (r.offset + field_size r.kind) || list_any (meets r) (take index relocs) || is_bad_target relocs r.kind r.target
 
 -- whether so far is too far for an upper and a lower part
 abbrev pub is_far : Reloc → ℕ → ℕ → Bool

@@ -20,7 +20,8 @@ put offset field size image = take offset image ++ (field ++ drop (offset + size
 
 abbrev pub put_course : ℕ → MachReloc → Option (ℕ × ℕ) → List ℕ → List ℕ
 put_course base r None image = image
-put_course base r (Some c) image = put r.offset (filled_field r.kind (distance (wrap (base + c.0)) c.1) c.1 (window image r.offset (field_size r.kind))) (field_size r.kind) image
+put_course base r (Some c) image =
+    put r.offset (filled_field r.kind (distance (wrap (base + c.0)) c.1) c.1 (window image r.offset (field_size r.kind))) (field_size r.kind) image
 
 unfoldable pub put_field : List MachReloc → ℕ → Table → Table → MachReloc → List ℕ → List ℕ
 put_field relocs base symbols slots r image = put_course base r (course_of relocs symbols slots r) image

@@ -23,9 +23,26 @@ pub data Formula : Type 0 where
 abbrev pub IsSpelled : Formula → List Lexed → List Lexed → Type 0
 IsSpelled (Number n) xs rest = (x : Lexed) × (x.token ≡ token.Number n) × (xs ≡ x ∷ rest)
 IsSpelled (Argument k) xs rest = (x : Lexed) × (x.token ≡ token.Argument k) × (xs ≡ x ∷ rest)
-IsSpelled (Group f) xs rest = (first : Lexed) × (last : Lexed) × (inner : List Lexed) × (first.token ≡ token.Open) × (last.token ≡ token.Close) × (xs ≡ first ∷ inner) × IsSpelled f inner (last ∷ rest)
-IsSpelled (Binary op l r) xs rest = (sign : Lexed) × (right : List Lexed) × (sign.token ≡ token.Operator op) × IsSpelled l xs (sign ∷ right) × IsSpelled r right rest
-IsSpelled (Choice c x y) xs rest = (question : Lexed) × (colon : Lexed) × (first : List Lexed) × (second : List Lexed) × (question.token ≡ token.Question) × (colon.token ≡ token.Colon) × IsSpelled c xs (question ∷ first) × IsSpelled x first (colon ∷ second) × IsSpelled y second rest
+IsSpelled (Group f) xs rest =
+    (first : Lexed) ×
+    (last : Lexed) ×
+    (inner : List Lexed) ×
+    (first.token ≡ token.Open) ×
+    (last.token ≡ token.Close) ×
+    (xs ≡ first ∷ inner) ×
+    IsSpelled f inner (last ∷ rest)
+IsSpelled (Binary op l r) xs rest =
+    (sign : Lexed) × (right : List Lexed) × (sign.token ≡ token.Operator op) × IsSpelled l xs (sign ∷ right) × IsSpelled r right rest
+IsSpelled (Choice c x y) xs rest =
+    (question : Lexed) ×
+    (colon : Lexed) ×
+    (first : List Lexed) ×
+    (second : List Lexed) ×
+    (question.token ≡ token.Question) ×
+    (colon.token ≡ token.Colon) ×
+    IsSpelled c xs (question ∷ first) ×
+    IsSpelled x first (colon ∷ second) ×
+    IsSpelled y second rest
 
 -- how tightly operators bind, more with a greater number
 abbrev pub rank_of : BinOp → ℕ
@@ -86,7 +103,9 @@ program_from i (Number n) = Const n ∷ []
 program_from i (Argument k) = Arg k ∷ []
 program_from i (Group f) = program_from i f
 program_from i (Binary op l r) = program_from i l ++ (program_from (i + size l) r ++ Bin op (i + size l - 1) (i + size l + size r - 1) ∷ [])
-program_from i (Choice c x y) = program_from i c ++ (program_from (i + size c) x ++ (program_from (i + size c + size x) y ++ Pick (i + size c - 1) (i + size c + size x - 1) (i + size c + size x + size y - 1) ∷ []))
+program_from i (Choice c x y) =
+    program_from i c ++
+    (program_from (i + size c) x ++ (program_from (i + size c + size x) y ++ Pick (i + size c - 1) (i + size c + size x - 1) (i + size c + size x + size y - 1) ∷ []))
 
 abbrev pub program : Formula → List ExprOp
 program f = program_from 0 f

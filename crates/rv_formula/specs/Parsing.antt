@@ -42,7 +42,8 @@ on_ending (Some (op, column)) stopped more = more op
 -- an operand ends what binds at least so tightly, innermost first
 abbrev pub close : ℕ → List ExprOp → List Pending → ℕ → Closed
 close least ops [] v = record { ops = ops; pending = []; value = v }
-close least ops (p ∷ ps) v = on_ending (ending least p v) (record { ops = ops; pending = p ∷ ps; value = v }) (λ op. close least (ops ++ op ∷ []) ps (length ops))
+close least ops (p ∷ ps) v =
+    on_ending (ending least p v) (record { ops = ops; pending = p ∷ ps; value = v }) (λ op. close least (ops ++ op ∷ []) ps (length ops))
 
 abbrev pub closed : ℕ → Parse → ℕ → Closed
 closed least p v = close least p.ops p.pending v
@@ -234,7 +235,11 @@ HasFront text from (x ∷ xs) end = (next_of text from ≡ Ok (Some x)) × HasFr
 
 -- a call's result is what the tokens of the text are read to
 abbrev pub IsExact : {X : Type 0} → (X → List ExprOp) → Result X FormulaError → List ℕ → Type 0
-IsExact items result text = (xs : List Lexed) (end : ℕ) (stop : Option FormulaError) → HasFront text 0 xs end → next_of text end ≡ stop_of stop → Finishes items result (concluded (run start xs) stop (length text + 1)) (weights xs)
+IsExact items result text =
+    (xs : List Lexed) (end : ℕ) (stop : Option FormulaError) →
+    HasFront text 0 xs end →
+    next_of text end ≡ stop_of stop →
+    Finishes items result (concluded (run start xs) stop (length text + 1)) (weights xs)
 
 -- so far a text's tokens were read to this
 pub record IsSoFar (text : List ℕ) (at : ℕ) (p : Parse) : Type 0 where

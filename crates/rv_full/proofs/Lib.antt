@@ -1,5 +1,9 @@
+pub mod DecodedRanges
 pub mod FirstAnswers
 pub mod LargerMachine
 pub mod Products
 pub mod Ranges
+pub mod RowsKeep
 pub mod Runs
+pub mod SharedStates
+pub mod StatesKept

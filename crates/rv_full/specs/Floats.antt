@@ -101,7 +101,7 @@ abbrev pub put_number : Target → Decoded → ℕ → FullValues → FullValues
 put_number target.Integer d x v = put_x d x v
 put_number target.Float d x v = put_f d x v
 
--- one number is taken, noted with all that it may depend on, and put
+-- one number is taken, noted with the values that were read, and put
 abbrev pub number_row : Target → List ℕ → Decoded → FullValues → Row
 number_row to inputs d v = Takes OneNumber (λ answer. put_number to d (unwrap_or (bits_of answer) 0) (put_units (noted (entry_of d v.units inputs [] answer) v.units) v))
 

@@ -137,7 +137,8 @@ put_units u v = record { ints = v.ints; units = u }
 abbrev pub put_memory : Memory → FullValues → FullValues
 put_memory mem v = record { ints = record { regs = v.ints.regs; mem = mem }; units = v.units }
 
--- a step that took an answer: what it may depend on, and the answer
+-- a step that took an answer: its operation, the registers that are read, the setting and frm, the bytes that a vector load reads,
+-- and the answer
 abbrev pub entry_of : Decoded → Units → List ℕ → List ℕ → Answer → Entry
 entry_of d u inputs span answer = record { decoded = d; inputs = inputs; avl = u.setting.avl; vtype = u.setting.vtype; frm = u.frm; span = span; answer = answer }
 

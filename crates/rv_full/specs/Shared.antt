@@ -1,16 +1,24 @@
 -- The machine with others that write to its memory between its steps: what they write is a schedule, a list of writes for each
 -- of the next steps.
-use Rattle.std.specs.Prelude.{ℕ, zero, suc, ◌+◌, ◌-◌, ◌^◌, Bool, if◌then◌else◌, nat_lt, List, [], ◌∷◌, Option, Some, None}
+use Rattle.std.specs.Prelude.{ℕ, zero, suc, ◌+◌, ◌-◌, ◌^◌, ◌<◌, Bool, if◌then◌else◌, nat_lt, List, [], ◌∷◌, Option, Some, None}
 use Rattle.std.specs.FinMap as map
+use Rattle.std.specs.List.{AllByRecursion}
 use Rattle.rv_base.specs.declared.flags.IsaFlags.{IsaFlags}
 use Rattle.rv_machine.specs.State.{State, at, wrap}
 use Rattle.rv_full.specs.declared.units.Reservation.{Reservation}
-use Rattle.rv_full.specs.Units.{FullState, set_reserved}
+use Rattle.rv_full.specs.Units.{FullState, IsFullState, set_reserved}
 use Rattle.rv_full.specs.Steps.{fstep}
 
 -- an address, and the byte that is written there
 abbrev pub Write : Type 0
 Write = ℕ × ℕ
+
+-- each in its range
+abbrev pub IsWrite : Write → Type 0
+IsWrite w = (w.0 < 2 ^ 64) × (w.1 < 256)
+
+abbrev pub AreWrites : List Write → Type 0
+AreWrites ws = AllByRecursion IsWrite ws
 
 -- whether a byte is one of those reserved; addresses wrap
 abbrev pub is_reserved : ℕ → Reservation → Bool
@@ -36,6 +44,11 @@ foreigns (w ∷ ws) b = foreigns ws (foreign w b)
 pub record Shared : Type 0 where
   pub full : FullState
   pub later : List (List Write)
+
+-- each number of it is in its range
+pub record IsShared (a : Shared) : Type 0 where
+  pub full : IsFullState a.full
+  pub later : AllByRecursion AreWrites a.later
 
 abbrev pub interfere : List (List Write) → FullState → Shared
 interfere [] b = record { full = b; later = [] }

@@ -22,13 +22,17 @@ pub enum Answer {
     Length(u8),
 }
 
-/// A step that took an answer: all that the answer may depend on, and the answer.
+/// A step that took an answer, and the answer. Of an operation of floating-point numbers it has all that its result depends
+/// on. Of a vector operation it doesn't: of a group of registers it has the first, it has the length that was asked for and
+/// not the one that was granted, and of vxrm, the rounding mode of fixed-point numbers, nothing.
 #[derive(Drop)]
 pub struct Entry {
     pub decoded: Decoded,
     /// The values of the registers that are read: rs1, rs2, rs3; of a vector instruction then the old value of the
-    /// vector register that its field rd numbers, and v0 where it is masked.
+    /// vector register that its field rd numbers, and v0 where it is masked. Each vector register is the one that its field
+    /// numbers, and no further one of its group.
     pub inputs: List<u128>,
+    /// The application's vector length; the length that was granted may be less.
     pub avl: u8,
     pub vtype: u8,
     pub frm: u8,

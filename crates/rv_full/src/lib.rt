@@ -14,7 +14,7 @@ mod units;
 mod vector_acts;
 
 pub use answer::{Answer, Entry};
-pub use laws::{integer_runs, undisturbed_runs};
+pub use laws::{integer_runs, states_stay, undisturbed_runs};
 pub use machine::{FullMachine, FullStep};
 pub use shapes::{FloatShape, Sources, Target, VectorShape, float_shape, vector_shape};
 pub use units::{Reservation, Setting};

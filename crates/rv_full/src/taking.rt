@@ -68,7 +68,7 @@ impl FullMachine {
         }
     }
 
-    /// Notes an operation that takes an answer, with all that the answer may depend on.
+    /// Notes an operation that takes an answer, with these inputs, these bytes of a load, the setting and frm.
     pub(crate) fn note(
         &mut self,
         d: Decoded,

@@ -81,7 +81,8 @@ form_where guard form = if guard then Some form else None
 
 -- c.add
 abbrev pub add_form : ℕ → ℕ → ℕ → Option Decoded
-add_form rd rs1 rs2 = form_where (is_either rd rs1 rs2 && not (rs1 == 0) && not (rs2 == 0)) (compressed (Alu (Int int.Add)) rd rd (other_source rd rs1 rs2) (pos 0))
+add_form rd rs1 rs2 =
+    form_where (is_either rd rs1 rs2 && not (rs1 == 0) && not (rs2 == 0)) (compressed (Alu (Int int.Add)) rd rd (other_source rd rs1 rs2) (pos 0))
 
 -- c.and, c.or, c.xor, c.addw and c.mul, which take their sources in either order
 abbrev pub either_form : AluOp → ℕ → ℕ → ℕ → Option Decoded
@@ -177,11 +178,13 @@ andi_form flags rd rs imm =
 
 -- c.not
 abbrev pub not_form : IsaFlags → ℕ → ℕ → ℤ → Option Decoded
-not_form flags rd rs imm = form_where (flags.has_zcb && (rd == rs) && is_short rs && is_equal imm (negsuc 0)) (compressed (Alu (Int int.Xori)) rd rd 0 (negsuc 0))
+not_form flags rd rs imm =
+    form_where (flags.has_zcb && (rd == rs) && is_short rs && is_equal imm (negsuc 0)) (compressed (Alu (Int int.Xori)) rd rd 0 (negsuc 0))
 
 -- c.sext.b, c.sext.h and c.zext.h
 abbrev pub extend_form : IsaFlags → AluOp → ℕ → ℕ → ℤ → Option Decoded
-extend_form flags op rd rs imm = form_where (flags.has_zcb && flags.has_zbb && (rd == rs) && is_short rs && is_equal imm (pos 0)) (compressed (Alu op) rd rd 0 (pos 0))
+extend_form flags op rd rs imm =
+    form_where (flags.has_zcb && flags.has_zbb && (rd == rs) && is_short rs && is_equal imm (pos 0)) (compressed (Alu op) rd rd 0 (pos 0))
 
 -- the form of an operation of a register and an immediate, in its way
 abbrev pub immediate_form : IsaFlags → Option ImmediateForm → AluOp → ℕ → ℕ → ℤ → Option Decoded
@@ -205,11 +208,13 @@ form_rri flags op rd rs imm = if flags.has_zca then zca_rri flags op rd rs imm e
 
 -- c.lui
 abbrev pub form_lui : IsaFlags → ℕ → ℤ → Option Decoded
-form_lui flags rd imm = form_where (flags.has_zca && not (rd == 0) && not (rd == sp) && not (is_equal imm (pos 0)) && is_six_bits imm) (compressed (Base Lui) rd 0 0 imm)
+form_lui flags rd imm =
+    form_where (flags.has_zca && not (rd == 0) && not (rd == sp) && not (is_equal imm (pos 0)) && is_six_bits imm) (compressed (Base Lui) rd 0 0 imm)
 
 -- c.jr and c.jalr
 abbrev pub form_jalr : IsaFlags → ℕ → ℕ → ℤ → Option Decoded
-form_jalr flags rd base offset = form_where (flags.has_zca && is_either rd 0 ra && not (base == 0) && is_equal offset (pos 0)) (compressed (Base Jalr) rd base 0 (pos 0))
+form_jalr flags rd base offset =
+    form_where (flags.has_zca && is_either rd 0 ra && not (base == 0) && is_equal offset (pos 0)) (compressed (Base Jalr) rd base 0 (pos 0))
 
 -- c.ebreak
 abbrev pub form_ebreak : IsaFlags → Option Decoded
@@ -229,7 +234,8 @@ word_load_form op rd base offset =
 
 -- c.lbu, c.lhu and c.lh, with so many sizes as their offset at most
 abbrev pub narrow_load_form : IsaFlags → ℕ → LoadOP → ℕ → ℕ → ℤ → Option Decoded
-narrow_load_form flags most op rd base offset = form_where (flags.has_zcb && is_short rd && is_short base && is_scaled (load_size op) most offset) (load_form (load_op op) rd base offset)
+narrow_load_form flags most op rd base offset =
+    form_where (flags.has_zcb && is_short rd && is_short base && is_scaled (load_size op) most offset) (load_form (load_op op) rd base offset)
 
 -- c.fldsp from sp, and c.fld from a short register
 abbrev pub fld_form : IsaFlags → ℕ → ℕ → ℤ → Option Decoded
@@ -267,7 +273,8 @@ word_store_form op base src offset =
 
 -- c.sb and c.sh, with so many sizes as their offset at most
 abbrev pub narrow_store_form : IsaFlags → ℕ → StoreOP → ℕ → ℕ → ℤ → Option Decoded
-narrow_store_form flags most op base src offset = form_where (flags.has_zcb && is_short src && is_short base && is_scaled (store_size op) most offset) (store_form (store_op op) base src offset)
+narrow_store_form flags most op base src offset =
+    form_where (flags.has_zcb && is_short src && is_short base && is_scaled (store_size op) most offset) (store_form (store_op op) base src offset)
 
 -- c.fsdsp to sp, and c.fsd to a short register
 abbrev pub fsd_form : IsaFlags → ℕ → ℕ → ℤ → Option Decoded

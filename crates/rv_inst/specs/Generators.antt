@@ -32,7 +32,10 @@ is_zero (negsuc n) = false
 -- addi of the lower immediate to what lui made of the upper one; no lui where the upper one is 0, and after lui no addi where
 -- the lower one is 0
 abbrev pub split_insts : Writable Reg → Imm20 → Imm12 → List Inst
-split_insts rd upper lower = if is_zero upper.value then addi_of rd zero_register lower ∷ [] else Lui rd upper ∷ (if is_zero lower.value then [] else addi_of rd rd.reg lower ∷ [])
+split_insts rd upper lower =
+    if is_zero upper.value then addi_of rd zero_register lower ∷
+    [] else Lui rd upper ∷
+    (if is_zero lower.value then [] else addi_of rd rd.reg lower ∷ [])
 
 -- the instructions of a number's own two immediates
 pub record AreSplit (rd : Writable Reg) (z : ℤ) (insts : List Inst) : Type 0 where

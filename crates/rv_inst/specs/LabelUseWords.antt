@@ -43,7 +43,8 @@ branch_bits n = n / 2048 % 2 * 128 + n / 2 % 16 * 256 + n / 32 % 64 * 33554432 +
 
 -- and in a jump of sixteen bits: [5] at 2, [3:1] at 3, [7] at 6, [6] at 7, [10] at 8, [9:8] at 9, [4] at 11, [11] at 12
 abbrev pub compressed_jump_bits : ℕ → ℕ
-compressed_jump_bits n = n / 32 % 2 * 4 + n / 2 % 8 * 8 + n / 128 % 2 * 64 + n / 64 % 2 * 128 + n / 1024 % 2 * 256 + n / 256 % 4 * 512 + n / 16 % 2 * 2048 + n / 2048 * 4096
+compressed_jump_bits n =
+    n / 32 % 2 * 4 + n / 2 % 8 * 8 + n / 128 % 2 * 64 + n / 64 % 2 * 128 + n / 1024 % 2 * 256 + n / 256 % 4 * 512 + n / 16 % 2 * 2048 + n / 2048 * 4096
 
 -- the upper twenty bits of a distance's thirty-two, for a lower part of twelve that is read signed
 abbrev pub upper_bits : ℕ → ℕ

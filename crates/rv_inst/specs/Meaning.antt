@@ -126,9 +126,11 @@ inst_meaning env (AluRRR op rd rs1 rs2) v = goes Next (set_reg v (number_of rd.r
 inst_meaning env (AluRRImm12 op rd rs imm) v = goes Next (set_reg v (number_of rd.reg) (alu_rri op (reg v (number_of rs)) imm.value))
 inst_meaning env (Mov rd rm type) v = goes Next (set_reg v (number_of rd.reg) (reg v (number_of rm)))
 inst_meaning env (MovFromPReg rd rm) v = goes Next (set_reg v (number_of rd.reg) (reg v rm.number))
-inst_meaning env (Select info) v = goes Next (set_regs v (map number_of (written_in info.dst)) (map (λ (r : Reg). reg v (number_of r)) (if compares info.condition v then all_of info.x else all_of info.y)))
+inst_meaning env (Select info) v =
+    goes Next (set_regs v (map number_of (written_in info.dst)) (map (λ (r : Reg). reg v (number_of r)) (if compares info.condition v then all_of info.x else all_of info.y)))
 inst_meaning env (Load rd op flags from) v = goes Next (loaded op (number_of rd.reg) (address_of env from v) v)
-inst_meaning env (Store src op flags to) v = record (goes Next (stored op (number_of src) (address_of env to v) v)) { writes = addresses_from (address_of env to v) (store_size op) }
+inst_meaning env (Store src op flags to) v =
+    record (goes Next (stored op (number_of src) (address_of env to v) v)) { writes = addresses_from (address_of env to v) (store_size op) }
 inst_meaning env (LoadAddr rd mem) v = goes Next (set_reg v (number_of rd.reg) (address_of env mem v))
 inst_meaning env Ret v = goes (Leave (reg v 1 / 2 * 2)) v
 inst_meaning env (Jal label) v = goes (To label.number) v

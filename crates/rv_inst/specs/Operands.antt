@@ -133,13 +133,25 @@ pub record Operands : Type 0 where
 
 -- these registers, and nothing else
 abbrev pub only : Family → List Reg → Operands
-only family registers = record { family = family; registers = registers; targets = Nowhere; table = []; temporaries = []; floats = false; results = []; try_call = None; returns = λ flags. None; tail_call = None }
+only family registers = record {
+  family = family;
+  registers = registers;
+  targets = Nowhere;
+  table = [];
+  temporaries = [];
+  floats = false;
+  results = [];
+  try_call = None;
+  returns = λ flags. None;
+  tail_call = None;
+}
 
 -- those of a sequence are asked for in the order of its source, its temporaries and its result
 abbrev pub described_operands : Description → Operands
 described_operands (Word w) = only w.family (registers_in w.places)
 described_operands (Computes s with) = record (only Loop (sequence_registers s)) { temporaries = map number_of (temporaries_in s) }
-described_operands (Gives g) = record (only g.family (facts_registers g.facts)) { targets = g.facts.targets; temporaries = map number_of (result_in g.facts.scratch) }
+described_operands (Gives g) =
+    record (only g.family (facts_registers g.facts)) { targets = g.facts.targets; temporaries = map number_of (result_in g.facts.scratch) }
 
 -- a call returns after an auipc and a jalr, or after a jalr alone
 abbrev pub operands_of : Inst → Operands
@@ -158,20 +170,38 @@ operands_of (AluRRR op rd rs1 rs2) = only Integer (rd.reg ∷ rs1 ∷ rs2 ∷ []
 operands_of (AluRRImm12 op rd rs imm) = only Integer (rd.reg ∷ rs ∷ [])
 operands_of (Mov rd rm type) = record (only Integer (rd.reg ∷ rm ∷ [])) { floats = is_float rd.reg }
 operands_of (MovFromPReg rd rm) = only Integer (rd.reg ∷ Real rm ∷ [])
-operands_of (Select info) = record (only Integer (written_in info.dst ++ info.condition.rs1 ∷ info.condition.rs2 ∷ all_of info.x ++ all_of info.y)) { floats = list_any is_float (written_in info.dst ++ all_of info.x ++ all_of info.y) }
-operands_of (Load rd op flags from) = record (only Memory (rd.reg ∷ registers_of from)) { targets = address_targets (load_size op) from; floats = is_float_load op }
+operands_of (Select info) = record (only Integer (written_in info.dst ++ info.condition.rs1 ∷ info.condition.rs2 ∷ all_of info.x ++ all_of info.y)) {
+  floats = list_any is_float (written_in info.dst ++ all_of info.x ++ all_of info.y);
+}
+operands_of (Load rd op flags from) =
+    record (only Memory (rd.reg ∷ registers_of from)) { targets = address_targets (load_size op) from; floats = is_float_load op }
 operands_of (Store src op flags to) = record (only Memory (src ∷ registers_of to)) { targets = address_targets 0 to; floats = is_float_store op }
 operands_of (LoadAddr rd mem) = record (only Memory (rd.reg ∷ registers_of mem)) { targets = address_targets 0 mem }
 operands_of Ret = only Control []
 operands_of (Jal label) = record (only Control []) { targets = Jumps label }
 operands_of (CondBr taken not_taken kind) = record (only Control (kind.rs1 ∷ kind.rs2 ∷ [])) { targets = Branches taken not_taken }
-operands_of (BrTable index tmp1 tmp2 targets) = record (only Control (index ∷ tmp1.reg ∷ tmp2.reg ∷ [])) { table = targets; temporaries = number_of tmp1.reg ∷ number_of tmp2.reg ∷ [] }
+operands_of (BrTable index tmp1 tmp2 targets) =
+    record (only Control (index ∷ tmp1.reg ∷ tmp2.reg ∷ [])) { table = targets; temporaries = number_of tmp1.reg ∷ number_of tmp2.reg ∷ [] }
 operands_of (Udf code) = only Control []
 operands_of (Jalr rd base offset) = only Control (rd.reg ∷ base ∷ [])
-operands_of (Call info) = record (only Calls (use_registers info.uses ++ def_registers info.defs)) { floats = loads_float (loads_unless info.patchable info.defs); results = info.defs; try_call = info.try_call_info; returns = λ flags. returns_at 8 info.callee_pop_size (loads_unless info.patchable info.defs) }
-operands_of (CallInd info) = record (only Calls (info.dest ∷ use_registers info.uses ++ def_registers info.defs)) { floats = loads_float (result_loads info.defs); results = info.defs; try_call = info.try_call_info; returns = λ flags. returns_at (short_jalr flags 1 (number_of info.dest) (pos 0)).len info.callee_pop_size (result_loads info.defs) }
-operands_of (ReturnCall info) = record (only Calls (use_registers info.uses)) { tail_call = Some (record { stack_arg_size = info.new_stack_arg_size; by_register = false }) }
-operands_of (ReturnCallInd info) = record (only Calls (info.dest ∷ use_registers info.uses)) { tail_call = Some (record { stack_arg_size = info.new_stack_arg_size; by_register = true }) }
+operands_of (Call info) = record (only Calls (use_registers info.uses ++ def_registers info.defs)) {
+  floats = loads_float (loads_unless info.patchable info.defs);
+  results = info.defs;
+  try_call = info.try_call_info;
+  returns = λ flags. returns_at 8 info.callee_pop_size (loads_unless info.patchable info.defs);
+}
+operands_of (CallInd info) = record (only Calls (info.dest ∷ use_registers info.uses ++ def_registers info.defs)) {
+  floats = loads_float (result_loads info.defs);
+  results = info.defs;
+  try_call = info.try_call_info;
+  returns = λ flags. returns_at (short_jalr flags 1 (number_of info.dest) (pos 0)).len info.callee_pop_size (result_loads info.defs);
+}
+operands_of (ReturnCall info) = record (only Calls (use_registers info.uses)) {
+  tail_call = Some (record { stack_arg_size = info.new_stack_arg_size; by_register = false });
+}
+operands_of (ReturnCallInd info) = record (only Calls (info.dest ∷ use_registers info.uses)) {
+  tail_call = Some (record { stack_arg_size = info.new_stack_arg_size; by_register = true });
+}
 operands_of inst = described_operands (description_of inst refl)
 
 abbrev pub family_of : Inst → Family

@@ -57,7 +57,9 @@ is_plain (Store src op access to) = not (is_float_store op) && (is_usable src &&
 is_plain (LoadAddr rd mem) = false
 is_plain Ret = false
 is_plain (Jal label) = not (is_buffer_label label)
-is_plain (CondBr taken not_taken kind) = list_all is_usable (kind.rs1 ∷ kind.rs2 ∷ []) && (not (is_fallthrough taken) && not (list_any is_buffer_label (target_labels taken ++ target_labels not_taken)))
+is_plain (CondBr taken not_taken kind) =
+    list_all is_usable (kind.rs1 ∷ kind.rs2 ∷ []) &&
+    (not (is_fallthrough taken) && not (list_any is_buffer_label (target_labels taken ++ target_labels not_taken)))
 is_plain (BrTable index tmp1 tmp2 targets) = false
 is_plain (Udf code) = false
 is_plain (Jalr rd base offset) = false

@@ -26,7 +26,8 @@ access_records at (Some code) = noted at (event.Trap code)
 -- a distance in two parts: the upper is that to a symbol, or to its slot, and the lower is of the distance whose upper part stands
 -- at the start
 abbrev pub part_records : ℕ → Reloc → ExternalName → ℤ → List MachRecord
-part_records start upper name addend = noted start (event.Reloc upper (ToName name) addend) ++ noted (start + 4) (event.Reloc RiscvPCRelLo12I (ToPlace start) (pos 0))
+part_records start upper name addend =
+    noted start (event.Reloc upper (ToName name) addend) ++ noted (start + 4) (event.Reloc RiscvPCRelLo12I (ToPlace start) (pos 0))
 
 -- what an instruction records whose description gives its code: nothing; a trap, so many bytes after its start; the distance to the slot of
 -- a symbol, or to a symbol plus an offset, in two parts at its start; or the address of a symbol plus an offset, in its last eight bytes

@@ -127,7 +127,8 @@ is_vector r = is_vector_class (class_of r)
 
 -- whether values of which one is chosen differ in class at a place, or have a vector register
 abbrev pub values_differ : List Reg → List Reg → List Reg → Bool
-values_differ results xs ys = differ_at_places results xs || (differ_at_places results ys || (differ_at_places xs ys || list_any is_vector (results ++ xs ++ ys)))
+values_differ results xs ys =
+    differ_at_places results xs || (differ_at_places results ys || (differ_at_places xs ys || list_any is_vector (results ++ xs ++ ys)))
 
 -- sp
 abbrev pub is_stack : Reg → Bool
@@ -178,7 +179,9 @@ is_high d = is_high_at d.location
 
 -- whether the two registers of an argument or of a result are of different classes
 abbrev pub call_differs : List CallArgPair → List CallRetPair → Bool
-call_differs uses defs = list_any (λ (p : CallArgPair). differ_in_class p.vreg p.preg) uses || list_any (λ (d : CallRetPair). location_differs d.vreg.reg d.location) defs
+call_differs uses defs =
+    list_any (λ (p : CallArgPair). differ_in_class p.vreg p.preg) uses ||
+    list_any (λ (d : CallRetPair). location_differs d.vreg.reg d.location) defs
 
 -- t0, which is x5
 abbrev pub is_fifth : Reg → Bool
@@ -242,7 +245,18 @@ pub record Faults : Type 0 where
   pub size : Bool
 
 abbrev pub has_other_class : Bool → Faults
-has_other_class class = record { class = class; zeroed = false; clashing = false; type = false; range = false; rounding = false; width = false; table = false; target = false; size = false }
+has_other_class class = record {
+  class = class;
+  zeroed = false;
+  clashing = false;
+  type = false;
+  range = false;
+  rounding = false;
+  width = false;
+  table = false;
+  target = false;
+  size = false;
+}
 
 -- of a sequence: its temporaries and its result are written while its source is still read
 abbrev pub sequence_faults : Sequence → Faults
@@ -288,13 +302,30 @@ faults_of (EmitIsland needed_space) = has_other_class false
 faults_of (RawData bytes) = record (has_other_class false) { size = not (length bytes == 4 || length bytes == 8) }
 faults_of (Lui rd imm) = has_other_class (list_any is_other_class (rd.reg ∷ []))
 faults_of (AluRRR op rd rs1 rs2) = has_other_class (list_any is_other_class (rd.reg ∷ rs1 ∷ rs2 ∷ []))
-faults_of (AluRRImm12 op rd rs imm) = record (has_other_class (list_any is_other_class (rd.reg ∷ rs ∷ []))) { range = is_beyond (shift_limit (immediate_of op)) imm.value }
+faults_of (AluRRImm12 op rd rs imm) =
+    record (has_other_class (list_any is_other_class (rd.reg ∷ rs ∷ []))) { range = is_beyond (shift_limit (immediate_of op)) imm.value }
 faults_of (Mov rd rm type) = record (has_other_class (differ_in_class rd.reg rm)) { type = not (is_movable (class_of rm) type) }
 faults_of (MovFromPReg rd rm) = has_other_class (is_other_class rd.reg || not (is_stack_or_frame rm))
-faults_of (Select info) = record (has_other_class (list_any is_other_class (info.condition.rs1 ∷ info.condition.rs2 ∷ []) || values_differ (written_in info.dst) (all_of info.x) (all_of info.y))) { clashing = is_uneven info.dst info.x info.y || select_clash info.dst (info.condition.rs1 ∷ info.condition.rs2 ∷ []) (all_of info.x ++ all_of info.y) }
-faults_of (Load rd op flags from) = record (has_other_class (is_not_of (load_class op) rd.reg || list_any is_other_class (registers_of from))) { zeroed = is_none (base_of from) && is_zero rd.reg; range = is_distant (own_offset from) }
-faults_of (Store src op flags to) = record (has_other_class (is_not_of (store_class op) src || list_any is_other_class (registers_of to))) { range = is_distant (own_offset to) }
-faults_of (LoadAddr rd mem) = record (has_other_class (list_any is_other_class (rd.reg ∷ registers_of mem))) { zeroed = is_zero rd.reg; clashing = is_base rd.reg (base_of mem); range = is_distant (own_offset mem) }
+faults_of (Select info) =
+    record (has_other_class (
+    list_any is_other_class (info.condition.rs1 ∷ info.condition.rs2 ∷ []) ||
+    values_differ (written_in info.dst) (all_of info.x) (all_of info.y))) {
+      clashing =
+          is_uneven info.dst info.x info.y ||
+          select_clash info.dst (info.condition.rs1 ∷ info.condition.rs2 ∷ []) (all_of info.x ++ all_of info.y);
+    }
+faults_of (Load rd op flags from) = record (has_other_class (is_not_of (load_class op) rd.reg || list_any is_other_class (registers_of from))) {
+  zeroed = is_none (base_of from) && is_zero rd.reg;
+  range = is_distant (own_offset from);
+}
+faults_of (Store src op flags to) = record (has_other_class (is_not_of (store_class op) src || list_any is_other_class (registers_of to))) {
+  range = is_distant (own_offset to);
+}
+faults_of (LoadAddr rd mem) = record (has_other_class (list_any is_other_class (rd.reg ∷ registers_of mem))) {
+  zeroed = is_zero rd.reg;
+  clashing = is_base rd.reg (base_of mem);
+  range = is_distant (own_offset mem);
+}
 faults_of Ret = has_other_class false
 faults_of (Jal label) = has_other_class false
 faults_of (CondBr taken not_taken kind) = record (has_other_class (list_any is_other_class (kind.rs1 ∷ kind.rs2 ∷ []))) { target = is_fallthrough taken }
@@ -305,8 +336,16 @@ faults_of (BrTable index tmp1 tmp2 targets) = record (has_other_class (list_any 
 }
 faults_of (Udf code) = has_other_class false
 faults_of (Jalr rd base offset) = has_other_class (list_any is_other_class (rd.reg ∷ base ∷ []))
-faults_of (Call info) = record (has_other_class (call_differs info.uses info.defs)) { clashing = results_clash info.defs; type = list_any is_unloadable info.defs; range = nat_le (2 ^ 31) info.callee_pop_size || list_any is_high info.defs }
-faults_of (CallInd info) = record (has_other_class (is_other_class info.dest || call_differs info.uses info.defs)) { clashing = results_clash info.defs; type = list_any is_unloadable info.defs; range = nat_le (2 ^ 31) info.callee_pop_size || list_any is_high info.defs }
+faults_of (Call info) = record (has_other_class (call_differs info.uses info.defs)) {
+  clashing = results_clash info.defs;
+  type = list_any is_unloadable info.defs;
+  range = nat_le (2 ^ 31) info.callee_pop_size || list_any is_high info.defs;
+}
+faults_of (CallInd info) = record (has_other_class (is_other_class info.dest || call_differs info.uses info.defs)) {
+  clashing = results_clash info.defs;
+  type = list_any is_unloadable info.defs;
+  range = nat_le (2 ^ 31) info.callee_pop_size || list_any is_high info.defs;
+}
 faults_of (ReturnCall info) = has_other_class (list_any (λ (p : CallArgPair). differ_in_class p.vreg p.preg) info.uses)
 faults_of (ReturnCallInd info) = has_other_class (not (is_fifth info.dest) || list_any (λ (p : CallArgPair). differ_in_class p.vreg p.preg) info.uses)
 faults_of inst = described_faults (description_of inst refl)
@@ -336,7 +375,23 @@ exceeds_arguments frame (Some tail) = nat_lt frame.tail_args_size tail.stack_arg
 -- ---- the rules in their order
 
 unfoldable pub every_rule : List Rule
-every_rule = Virtual ∷ Class ∷ Reserved ∷ Zero ∷ Clash ∷ BadType ∷ Range ∷ Rounding ∷ Width ∷ ConstantRule ∷ EmptyTable ∷ NoTarget ∷ Label ∷ TailArgs ∷ DataSize ∷ []
+every_rule =
+    Virtual ∷
+    Class ∷
+    Reserved ∷
+    Zero ∷
+    Clash ∷
+    BadType ∷
+    Range ∷
+    Rounding ∷
+    Width ∷
+    ConstantRule ∷
+    EmptyTable ∷
+    NoTarget ∷
+    Label ∷
+    TailArgs ∷
+    DataSize ∷
+    []
 
 -- whether an instruction breaks a rule, in its context
 abbrev pub breaks : Context → Inst → Rule → Bool

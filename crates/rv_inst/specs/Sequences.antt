@@ -41,5 +41,11 @@ left_of ty value = if is_splittable (cast_signed w64 value) then value else cons
 -- From the address of the first of them on they jump so many bytes, to an even address. The temporary, which isn't x0, has the
 -- upper part of that sum; the link the address after the last of them.
 pub record JumpsBy (link : Option (Writable Reg)) (tmp : Writable Reg) (offset : ℤ) (insts : List Inst) : Type 0 where
-  pub goes : (at : ℕ → Environment) (v : Values) → length v.regs ≡ 31 → 0 < number_of tmp.reg → insts_exit at insts v ≡ Leave (wrap ((at 0).start + low64 offset) / 2 * 2)
-  pub leaves : (at : ℕ → Environment) (v : Values) → insts_effect at insts v ≡ set_reg (set_reg v (number_of tmp.reg) (wrap ((at 0).start + low64 (upper_of offset) * 2 ^ 12))) (number_of (link_or_zero link).reg) (at 1).after
+  pub goes :
+      (at : ℕ → Environment) (v : Values) →
+      length v.regs ≡ 31 →
+      0 < number_of tmp.reg →
+      insts_exit at insts v ≡ Leave (wrap ((at 0).start + low64 offset) / 2 * 2)
+  pub leaves :
+      (at : ℕ → Environment) (v : Values) →
+      insts_effect at insts v ≡ set_reg (set_reg v (number_of tmp.reg) (wrap ((at 0).start + low64 (upper_of offset) * 2 ^ 12))) (number_of (link_or_zero link).reg) (at 1).after

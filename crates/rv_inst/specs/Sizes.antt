@@ -147,22 +147,46 @@ inst_code context (RawData bytes) = words (Exactly (length bytes))
 inst_code context (Lui rd imm) = one_word (short_lui context.flags (number_of rd.reg) imm.value)
 inst_code context (AluRRR op rd rs1 rs2) = one_word (short_rrr context.flags op (number_of rd.reg) (number_of rs1) (number_of rs2))
 inst_code context (AluRRImm12 op rd rs imm) = one_word (short_rri context.flags op (number_of rd.reg) (number_of rs) imm.value)
-inst_code context (Mov rd rm type) = record (words (move_size (number_of rd.reg) (number_of rm))) { operation = move_operation context.flags (class_of rd.reg) type (number_of rd.reg) (number_of rm) }
-inst_code context (MovFromPReg rd rm) = record (words (move_size (number_of rd.reg) rm.number)) { operation = move_operation context.flags Int I64 (number_of rd.reg) rm.number }
+inst_code context (Mov rd rm type) = record (words (move_size (number_of rd.reg) (number_of rm))) {
+  operation = move_operation context.flags (class_of rd.reg) type (number_of rd.reg) (number_of rm);
+}
+inst_code context (MovFromPReg rd rm) =
+    record (words (move_size (number_of rd.reg) rm.number)) {
+      operation = move_operation context.flags Int I64 (number_of rd.reg) rm.number;
+    }
 inst_code context (Select info) = words (AtMost 24)
-inst_code context (Load rd op flags from) = record (words (AtMost (load_limit context.flags op))) { operation = load_line_operation context.flags op (number_of rd.reg) (location_of context.frame from); records = λ start end. access_records (end - load_line_own_size context.flags op (number_of rd.reg) (location_of context.frame from)) flags.trap }
-inst_code context (Store src op flags to) = record (words (AtMost (store_limit context.flags op))) { operation = store_line_operation context.flags op (number_of src) (location_of context.frame to); records = λ start end. access_records (end - store_line_own_size context.flags op (number_of src) (location_of context.frame to)) flags.trap; led = is_moved_first context.flags op }
-inst_code context (LoadAddr rd mem) = record (words (AtMost address_limit)) { operation = address_operation context.flags (number_of rd.reg) (location_of context.frame mem) }
+inst_code context (Load rd op flags from) = record (words (AtMost (load_limit context.flags op))) {
+  operation = load_line_operation context.flags op (number_of rd.reg) (location_of context.frame from);
+  records = λ start end. access_records (end - load_line_own_size context.flags op (number_of rd.reg) (location_of context.frame from)) flags.trap;
+}
+inst_code context (Store src op flags to) = record (words (AtMost (store_limit context.flags op))) {
+  operation = store_line_operation context.flags op (number_of src) (location_of context.frame to);
+  records = λ start end. access_records (end - store_line_own_size context.flags op (number_of src) (location_of context.frame to)) flags.trap;
+  led = is_moved_first context.flags op;
+}
+inst_code context (LoadAddr rd mem) =
+    record (words (AtMost address_limit)) { operation = address_operation context.flags (number_of rd.reg) (location_of context.frame mem) }
 inst_code context Ret = one_word (short_jalr context.flags 0 1 (pos 0))
 inst_code context (Jal label) = words (Exactly (jump_size context.flags))
 inst_code context (CondBr taken not_taken kind) = words (Exactly (branch_size context.flags taken not_taken))
 inst_code context (BrTable index tmp1 tmp2 targets) = after_island (table_space (length targets)) (λ rest. table_space (length targets)) (8 * length targets)
 inst_code context (Udf code) = record (words (Exactly (trap_size context.flags))) { records = λ start end. noted start (event.Trap code) }
 inst_code context (Jalr rd base offset) = one_word (short_jalr context.flags (number_of rd.reg) (number_of base) offset.value)
-inst_code context (Call info) = record (words (AtMost (call_limit 8 (loads_unless info.patchable info.defs)))) { records = λ start end. noted start (event.Reloc RiscvCallPlt (ToName info.dest) (pos 0)) ++ return_records context.frame (start + 8) info.stack_map info.try_call_info ++ patch_records info.patchable (call_end context.flags info.try_call_info end) (call_end context.flags info.try_call_info end - start); request = call_request 8 (loads_unless info.patchable info.defs) }
-inst_code context (CallInd info) = record (words (AtMost (call_limit 4 (result_loads info.defs)))) { records = λ start end. return_records context.frame (start + (short_jalr context.flags 1 (number_of info.dest) (pos 0)).len) info.stack_map info.try_call_info; request = call_request 4 (result_loads info.defs) }
-inst_code context (ReturnCall info) = record (after_island (return_limit context.frame + 8) (λ rest. rest) (32 * length context.frame.clobbered_callee_saves)) { records = λ start end. noted (end - 8) event.CallSite ++ noted (end - 8) (event.Reloc RiscvCallPlt (ToName info.dest) (pos 0)) }
-inst_code context (ReturnCallInd info) = after_island (return_limit context.frame + 4) (λ rest. rest + 4 - (short_jalr context.flags 0 5 (pos 0)).len) (32 * length context.frame.clobbered_callee_saves)
+inst_code context (Call info) = record (words (AtMost (call_limit 8 (loads_unless info.patchable info.defs)))) {
+  records =
+      λ start end. noted start (event.Reloc RiscvCallPlt (ToName info.dest) (pos 0)) ++ return_records context.frame (start + 8) info.stack_map info.try_call_info ++ patch_records info.patchable (call_end context.flags info.try_call_info end) (call_end context.flags info.try_call_info end - start);
+  request = call_request 8 (loads_unless info.patchable info.defs);
+}
+inst_code context (CallInd info) = record (words (AtMost (call_limit 4 (result_loads info.defs)))) {
+  records =
+      λ start end. return_records context.frame (start + (short_jalr context.flags 1 (number_of info.dest) (pos 0)).len) info.stack_map info.try_call_info;
+  request = call_request 4 (result_loads info.defs);
+}
+inst_code context (ReturnCall info) = record (after_island (return_limit context.frame + 8) (λ rest. rest) (32 * length context.frame.clobbered_callee_saves)) {
+  records = λ start end. noted (end - 8) event.CallSite ++ noted (end - 8) (event.Reloc RiscvCallPlt (ToName info.dest) (pos 0));
+}
+inst_code context (ReturnCallInd info) =
+    after_island (return_limit context.frame + 4) (λ rest. rest + 4 - (short_jalr context.flags 0 5 (pos 0)).len) (32 * length context.frame.clobbered_callee_saves)
 inst_code context inst = described_code context (description_of inst refl)
 
 abbrev pub inst_size : Context → Inst → Size

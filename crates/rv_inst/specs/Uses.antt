@@ -34,7 +34,8 @@ target_uses flags start Nowhere = []
 target_uses flags start (Jumps label) = use_at start label (jump_kind flags) ∷ []
 target_uses flags start (Branches taken not_taken) = branch_uses flags start taken not_taken
 target_uses flags start (Refers label) = use_at start label PCRelHi20 ∷ use_at (start + 4) label PCRelLo12I ∷ []
-target_uses flags start (RefersConstant constant read) = use_at start (constant_label constant) PCRelHi20 ∷ use_at (start + 4) (constant_label constant) PCRelLo12I ∷ []
+target_uses flags start (RefersConstant constant read) =
+    use_at start (constant_label constant) PCRelHi20 ∷ use_at (start + 4) (constant_label constant) PCRelLo12I ∷ []
 
 -- a call that ends its block goes on by a jump, which is its last instruction
 abbrev pub uses_by : IsaFlags → ℕ → ℕ → Option TryCallInfo → Targets → List (Use LabelUse)

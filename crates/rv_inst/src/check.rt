@@ -1,6 +1,7 @@
 //! Which rule a line breaks.
 
 ghost use Rattle.std.specs.Prelude.{◌≡◌, ◌++◌, map, option_copied};
+ghost use Rattle.rv_inst.specs.Context.{context_by};
 ghost use Rattle.rv_inst.specs.Faults.{is_misplaced, has_bad_type, is_out_of_range, lacks_target};
 ghost use Rattle.rv_inst.specs.Rules.{is_buffer_label, is_fallthrough, every_rule, breaks, inst_rule, broken_rule};
 ghost use Rattle.std.specs.List.{list_any, find};
@@ -18,7 +19,7 @@ use crate::tail_calls::exceeds_arguments;
 use crate::targets::{Targets, handler_label};
 use crate::units::{has_bad_rounding, has_bad_width};
 use mach_labels::FIRST_INNER;
-use rv_base::{MachLabel, TryCallHandler, TryCallInfo};
+use rv_base::{Constant, FrameLayout, IsaFlags, MachLabel, TryCallHandler, TryCallInfo};
 
 /// The rules, in the order in which a line is checked.
 const EVERY_RULE: [Rule; 15] = [
@@ -40,12 +41,28 @@ const EVERY_RULE: [Rule; 15] = [
 ];
 
 impl Line {
-    /// The first rule that the line breaks.
-    pub fn check(&self, context: &Context<'_>) -> Option<Rule>
+    /// The first rule that the line breaks, on a machine with these flags, in this frame and among these constants.
+    pub fn check(
+        &self,
+        flags: IsaFlags,
+        frame: &FrameLayout,
+        constants: &[Constant],
+    ) -> Option<Rule>
+        ensures { result ≡ broken_rule (context_by flags frame.now constants.now) self.now }
+    {
+        self.broken_rule(&Context {
+            flags,
+            frame,
+            constants,
+        })
+    }
+
+    /// The same, in a context.
+    pub fn broken_rule(&self, context: &Context<'_>) -> Option<Rule>
         ensures { result ≡ broken_rule context.now self.now }
     {
         match self {
-            Line::Inst(inst) => inst.check(context),
+            Line::Inst(inst) => inst.broken_rule(context),
             Line::Bind(label) => {
                 if is_buffer_label(*label) {
                     Some(Rule::Label)
@@ -58,9 +75,25 @@ impl Line {
 }
 
 impl Inst {
-    /// The first rule that the instruction breaks.
+    /// The first rule that the instruction breaks, on a machine with these flags, in this frame and among these constants.
+    pub fn check(
+        &self,
+        flags: IsaFlags,
+        frame: &FrameLayout,
+        constants: &[Constant],
+    ) -> Option<Rule>
+        ensures { result ≡ inst_rule (context_by flags frame.now constants.now) self.now }
+    {
+        self.broken_rule(&Context {
+            flags,
+            frame,
+            constants,
+        })
+    }
+
+    /// The same, in a context.
     #[tactic(auto, unfolding(crate::specs::Rules::every_rule))]
-    pub fn check(&self, context: &Context<'_>) -> Option<Rule>
+    pub fn broken_rule(&self, context: &Context<'_>) -> Option<Rule>
         ensures { result ≡ inst_rule context.now self.now }
     {
         self.first_broken(&EVERY_RULE, context)

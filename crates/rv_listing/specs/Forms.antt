@@ -98,7 +98,8 @@ form_of forms.AluRRImm12 = (codes "AluRRImm12", put (done inst.AluRRImm12 ⊛ al
 form_of forms.Mov = (codes "Mov", put (done inst.Mov ⊛ writable ⊛ register ⊛ type_named))
 form_of forms.MovFromPReg = (codes "MovFromPReg", put (done inst.MovFromPReg ⊛ writable ⊛ real_register))
 form_of forms.Extend = (codes "Extend", put (done inst.Extend ⊛ writable ⊛ register ⊛ signedness ⊛ natural_8 ⊛ natural_8))
-form_of forms.Select = (codes "Select", put (done selecting ⊛ value_regs writable ⊛ cond_code ⊛ register ⊛ register ⊛ value_regs register ⊛ value_regs register))
+form_of forms.Select =
+    (codes "Select", put (done selecting ⊛ value_regs writable ⊛ cond_code ⊛ register ⊛ register ⊛ value_regs register ⊛ value_regs register))
 -- those that read or write memory, or compute an address
 form_of forms.Load = (codes "Load", put (done inst.Load ⊛ writable ⊛ load_op ⊛ access_flags ⊛ amode))
 form_of forms.Store = (codes "Store", put (done storing ⊛ amode ⊛ store_op ⊛ access_flags ⊛ register))
@@ -130,7 +131,8 @@ form_of forms.ReturnCallInd = (codes "ReturnCallInd", put (done (tail_call inst.
 form_of (forms.Float floats.Fli) = (codes "Fli", put (done inst.Fli ⊛ fpu_width ⊛ fli_constant ⊛ writable))
 form_of (forms.Float floats.FpuRR) = (codes "FpuRR", put (done inst.FpuRR ⊛ fpu_rr ⊛ fpu_width ⊛ rounding_mode ⊛ writable ⊛ register))
 form_of (forms.Float floats.FpuRRR) = (codes "FpuRRR", put (done inst.FpuRRR ⊛ fpu_rrr ⊛ fpu_width ⊛ rounding_mode ⊛ writable ⊛ register ⊛ register))
-form_of (forms.Float floats.FpuRRRR) = (codes "FpuRRRR", put (done inst.FpuRRRR ⊛ fpu_rrrr ⊛ fpu_width ⊛ rounding_mode ⊛ writable ⊛ register ⊛ register ⊛ register))
+form_of (forms.Float floats.FpuRRRR) =
+    (codes "FpuRRRR", put (done inst.FpuRRRR ⊛ fpu_rrrr ⊛ fpu_width ⊛ rounding_mode ⊛ writable ⊛ register ⊛ register ⊛ register))
 form_of (forms.Float floats.CsrReg) = (codes "CsrReg", put (done inst.CsrReg ⊛ csr_reg ⊛ writable ⊛ register ⊛ csr))
 form_of (forms.Float floats.CsrImm) = (codes "CsrImm", put (done inst.CsrImm ⊛ csr_imm ⊛ writable ⊛ csr ⊛ uimm5))
 -- a label

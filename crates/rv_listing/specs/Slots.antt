@@ -4,7 +4,8 @@ use Rattle.std.specs.Str.{bytes_eq}
 
 -- the number of a word: its first three bytes, its last two, where a byte that it lacks is 0, and how many it has
 unfoldable pub key : List ℕ → ℕ
-key w = slice_index w 0 + slice_index w 1 * 2 ^ 8 + slice_index w 2 * 2 ^ 16 + slice_index w (length w - 2) * 2 ^ 24 + slice_index w (length w - 1) * 2 ^ 32 + length w % 2 ^ 8 * 2 ^ 40
+key w =
+    slice_index w 0 + slice_index w 1 * 2 ^ 8 + slice_index w 2 * 2 ^ 16 + slice_index w (length w - 2) * 2 ^ 24 + slice_index w (length w - 1) * 2 ^ 32 + length w % 2 ^ 8 * 2 ^ 40
 
 -- the upper eight bits of the number times the factor, in 64 bits
 unfoldable pub slot : ℕ → List ℕ → ℕ

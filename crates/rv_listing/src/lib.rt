@@ -31,7 +31,7 @@ mod unwind_steps;
 mod value_regs;
 
 pub use code_report::{report, report_with};
-pub use fields::LineError;
+pub use fields::{LineError, Token};
 pub use flags_header::with_flag;
 pub use hex_digits::hex_bytes;
 pub use operands::{real_register, symbol_named};

@@ -1,4 +1,5 @@
 pub mod Alu
+pub mod Atomic
 pub mod Compare
 pub mod Compressed
 pub mod Memory

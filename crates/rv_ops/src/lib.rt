@@ -2,6 +2,7 @@
 #![tactic(auto)]
 
 mod alu;
+mod atomic;
 mod compare;
 mod compressed;
 mod csr;
@@ -13,6 +14,7 @@ mod memory;
 mod vec_amode;
 
 pub use alu::{AluOPRRI, AluOPRRR};
+pub use atomic::{AMO, AtomicOP, AtomicRmwOp};
 pub use compare::{BranchFunct3, IntegerCompare};
 pub use compressed::{
     CFloatOp, COpcodeSpace, CaOp, CbOp, CiOp, CiwOp, CjOp, ClOp, CrOp, CsOp, CssOp, CsznOp,

@@ -6,7 +6,8 @@ ghost use Rattle.rv_fill.specs.Filled.{table_of, IsFilled};
 ghost use Rattle.rv_fill.specs.Refusal.{refusal, Finds};
 ghost use Rattle.rv_asm.specs.Reported.{Reported};
 ghost use Rattle.rv_asm.specs.Simulation.{RunsAsListed};
-ghost use Rattle.rv_place.specs.Images.{PlacesIn, RunsIn, IsOfPlace};
+ghost use Rattle.rv_asm.specs.FullSimulation.{FullRuns};
+ghost use Rattle.rv_place.specs.Images.{PlacesIn, RunsIn, RunsFullyIn, IsOfPlace};
 
 use rv_base::{ExternalName, List};
 use rv_fill::{PlaceError, fill};
@@ -34,6 +35,7 @@ pub fn place(
     ensures filled { IfOk result (λ image. IsFilled code.now.bytes code.now.relocs base (table_of syms.now) (table_of slots.now) image.bytes) }
     ensures placed { IfOk result (λ image. PlacesIn code.now base (table_of syms.now) (table_of slots.now) image.bytes) }
     ensures runs { (job : Job) → RunsAsListed job code.now → IfOk result (λ image. RunsIn job code.now base (table_of syms.now) (table_of slots.now) image.bytes) }
+    ensures full_runs { (job : Job) → FullRuns job code.now → IfOk result (λ image. RunsFullyIn job code.now base (table_of syms.now) (table_of slots.now) image.bytes) }
     ensures refused { Finds (refusal (length code.now.bytes) code.now.relocs base (table_of syms.now) (table_of slots.now)) result }
     ensures sound { (job : Job) → Reported job code.now → IfErr result IsOfPlace }
 {

@@ -1,12 +1,12 @@
 -- What instructions mean on the machine with all units, and that each runs as it means.
-use Rattle.{rv_code.{proofs.LineOperands.{full_load_kept, full_store_kept}, proofs.OperationActs.no_format}, rv_inst.{proofs.Meaning.{effect_agrees, load_address_agrees, store_address_agrees, writes_agree}, specs.Environments.AgreeOn, specs.Meaning.resumed_by, specs.Operands.named_labels}}
+use Rattle.{rv_code.{proofs.LineOperands.{full_load_kept, full_store_kept}, proofs.OperationActs.no_format}, rv_inst.{proofs.Meaning.{effect_agrees, load_address_agrees, store_address_agrees, writes_agree}, specs.Environments.AgreeOn, specs.Meaning.{address_of, resumed_by}, specs.Operands.named_labels}}
 use Rattle.{rv_inst.{specs.declared.inst.Family.Family, specs.declared.inst.Family.TheVariants.{Calls, Float, Integer, Memory}}, rv_runs.{proofs.FloatMemory.{line_load, line_store}, proofs.FullCallRuns.{call_starts, ends_at_once, full_leaves, full_resumes, left_integers}}}
 use Rattle.rv_runs.{proofs.FullChoices.full_select, proofs.InstRuns.inst_runs, proofs.OneOperations.{ComesAsMeant, OutAsMeant, move_runs, out_at_end, unit_runs}}
 use Rattle.rv_runs.proofs.Words.{AMode, Answer, AreOutside, AtStart, EmitVState, EndsAsMeant, Enters, Environment, Exit, FloatFormat, FullComesOut, FullEnds, FullMeaning, FullState, FullValues, Inst, IsFullState, IsaFlags, LoadOP, MemFlagsData}
 use Rattle.rv_runs.proofs.Words.{Next, PartsStand, Put, Reg, Resumes, Return, SameFull, Site, StoreOP, TailCall, Writable, addresses_from, and_parts, answers_of, code_limit, context_by, environment, family_of, fiter_after}
 use Rattle.rv_runs.proofs.Words.{format_bytes, inst_effect, inst_exit, inst_meaning, inst_rule, inst_temporaries, inst_writes, integer_run, is_bad_frame_for, is_float, is_integer, is_integer_family, is_integer_in, is_unit, keeps, load_format, location_of, meaning_by}
 use Rattle.rv_runs.{proofs.Words.{move_row, not_true, number_of, of_float_move, of_integers, operands_of, operation_of, operation_row, parts_of, put, restores_float, return_of, row_takes, store_format, tail_call_of, to, try_call_of, try_exit, values_of}, specs.Entries.{AtReturn, Entry}}
-use Rattle.rv_runs.{specs.FullInstRuns.{FullyOut, RunsFully}, specs.FullMeaning.{call_returned, call_started, float_loaded, float_stored, full_left, full_resumed, of_access, of_call, of_choice, of_float_load, of_float_store, of_integer, of_memory, of_unit, with_ints}}
+use Rattle.rv_runs.{specs.FullInstRuns.{FullyOut, RunsFully, WritesElsewhere}, specs.FullMeaning.{call_returned, call_started, float_loaded, float_stored, full_left, full_resumed, of_access, of_call, of_choice, of_float_load, of_float_store, of_integer, of_memory, of_unit, with_ints}}
 use Rattle.std.{proofs.Common.{Bool, List, None, Option, Some, [], ap, arith, false, if◌then◌else◌, inl, inr, is_some, length, not, refl, subst, sym, true, ℕ, ⊎_elim, ◌%◌, ◌&&◌, ◌+◌, ◌<◌, ◌∙◌, ◌≡◌, ◌≤◌}, proofs.lemmas.Bool.not-false}
 use Rattle.rv_inst.specs.declared.inst.Inst.TheVariants.{Call, CallInd, Load, Mov, Nop0, ReturnCall, ReturnCallInd, Select, Store}
 
@@ -141,7 +141,7 @@ module _ (site : Site) (start after : ℕ) (v : FullValues) (b : FullState) (set
     rule : inst_rule site.context inst ≡ None
     restores : is_bad_frame_for site.context.frame (tail_call_of inst) ≡ false
     enters : Enters site start after (parts_of site.context setting inst) b.state v.ints
-    clear : AreOutside site.base (length site.bytes) ((inst_meaning AtStart inst).writes env v ((inst_meaning AtStart inst).own_of b.answers))
+    clear : WritesElsewhere site.base (length site.bytes) (inst_meaning AtStart inst) env v b.answers
 
   abbrev Comes : Inst → Type 0
   Comes inst = ComesAsMeant site start after inst v b
@@ -156,7 +156,7 @@ module _ (site : Site) (start after : ℕ) (v : FullValues) (b : FullState) (set
         took = [];
         made = with_ints (inst_effect env inst v.ints) v;
         takes = means.takes;
-        ends = ends_at_once v same.units full ((inst_runs site setting inst core h.rule h.restores).run start after b.state v.ints h.enters (subst (AreOutside site.base (length site.bytes)) (means.writes b.answers) h.clear));
+        ends = ends_at_once v same.units full ((inst_runs site setting inst core h.rule h.restores).run start after b.state v.ints h.enters (subst (AreOutside site.base (length site.bytes)) (means.writes []) (h.clear [] b.answers (with_ints (inst_effect env inst v.ints) v) refl means.takes)));
       }
 
   -- no answer is taken, and it goes on
@@ -174,9 +174,11 @@ module _ (site : Site) (start after : ℕ) (v : FullValues) (b : FullState) (set
   store_out to op flags src format is h =
       let inst = Store src op flags to in
       let means : inst_meaning AtStart inst ≡ of_float_store format src to = ap (λ f. of_access f (λ format. of_float_store format src to) (of_integers AtStart (Put inst))) is in
+      let made = float_stored format (number_of src) (address_of env to v.ints) v in
       exact inst (of_float_store format src to) means
       (line_store op (number_of src) flags.trap (location_of site.context.frame to) format is (full_store_kept site.context.frame to op flags src (keeps site.context inst h.rule)) h.enters same.units full
-      (subst (λ (m : FullMeaning). AreOutside site.base (length site.bytes) (m.writes env v (m.own_of b.answers))) means h.clear)) refl refl
+      (subst (λ (m : FullMeaning). AreOutside site.base (length site.bytes) (m.writes env v (m.own_of []))) means
+      (h.clear [] b.answers made refl (subst (λ (m : FullMeaning). m.takes env v (m.own_of []) ≡ Some (made, [])) (sym means) refl)))) refl refl
 
   -- with values that the meaning gives
   left : (inst : Inst) → family_of inst ≡ Calls → (made : FullValues) → call_started env inst (tail_call_of inst) v ≡ made → FullEnds site start after (inst_exit env inst v.ints) (inst_temporaries inst) made [] b → Out inst
@@ -215,7 +217,7 @@ module _ (site : Site) (start after : ℕ) (v : FullValues) (b : FullState) (set
   begun inst h false false true other e f = floating inst h f (subst (λ c. (not c && is_integer inst) ≡ false) e other)
   begun inst h false false false other e f = unit_runs setting inst (is_unit inst f) h.rule h.enters same full
 
-pub inst_full_runs : {site : Site} {start after : ℕ} {v : FullValues} {b : FullState} (setting : EmitVState) (inst : Inst) → inst_rule site.context inst ≡ None → is_bad_frame_for site.context.frame (tail_call_of inst) ≡ false → Enters site start after (parts_of site.context setting inst) b.state v.ints → SameFull v (values_of b) → IsFullState b → AreOutside site.base (length site.bytes) ((inst_meaning AtStart inst).writes (environment site start after) v ((inst_meaning AtStart inst).own_of b.answers)) → ComesAsMeant site start after inst v b
+pub inst_full_runs : {site : Site} {start after : ℕ} {v : FullValues} {b : FullState} (setting : EmitVState) (inst : Inst) → inst_rule site.context inst ≡ None → is_bad_frame_for site.context.frame (tail_call_of inst) ≡ false → Enters site start after (parts_of site.context setting inst) b.state v.ints → SameFull v (values_of b) → IsFullState b → WritesElsewhere site.base (length site.bytes) (inst_meaning AtStart inst) (environment site start after) v b.answers → ComesAsMeant site start after inst v b
 inst_full_runs {site} {start} {after} {v} {b} setting inst rule restores e same full clear = begun site start after v b setting same full inst (record { rule = rule; restores = restores; enters = e; clear = clear }) _ _ _ refl refl refl
 
 -- ---- from where it returns

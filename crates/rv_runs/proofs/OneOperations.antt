@@ -132,7 +132,7 @@ out_at_end {site} {after} {made} {took} {b} start inst v g exit takes = record {
 
 -- an instruction that means what a row does
 abbrev of_row : (Environment → FullValues → Row) → FullMeaning
-of_row row = record { takes = λ env v answers. row_takes (row env v) answers; writes = λ env v answers. []; own_answers = λ env v. answers_of (row env v); own_of = λ took. took }
+of_row row = record { takes = λ env v answers. row_takes (row env v) answers; writes = λ env v answers. []; own_answers = λ env v. answers_of (row env v); own_of = λ took. took; asks_once = true }
 
 -- The operation is all of the instruction's code, none of integers, and its rows agree; the instruction means its row, and goes on.
 record IsRow (site : Site) (start after : ℕ) (inst : Inst) (d : Decoded) (v : FullValues) (b : FullState) : Type 0 where

@@ -6,7 +6,7 @@ use Rattle.rv_full.specs.Steps.{Asks, fiter, fnext}
 use Rattle.rv_full.specs.Units.{FullState, FullValues, IsFullState, values_of}
 use Rattle.rv_inst.specs.declared.inst.Inst.{Inst}
 use Rattle.rv_inst.specs.declared.inst.Line.TheVariants.{Inst as Put}
-use Rattle.rv_inst.specs.Meaning.{AreOutside, Exit}
+use Rattle.rv_inst.specs.Meaning.{AreOutside, Environment, Exit}
 use Rattle.rv_runs.specs.Entries.{Entry, exit_from, temporaries_from}
 use Rattle.rv_runs.specs.FullMeaning.{FullMeaning, inst_meaning}
 use Rattle.rv_code.specs.FullValues.{SameFull, SameFullBut}
@@ -54,7 +54,19 @@ pub record FullyAsks (site : Site) (start after : ℕ) (m : FullMeaning) (v : Fu
 abbrev pub ComesFully : Site → ℕ → ℕ → FullMeaning → Exit → List ℕ → FullValues → FullState → Type 0
 ComesFully site start after m exit free v b = FullyOut site start after m exit free v b ⊎ FullyAsks site start after m v b
 
+-- with those of these answers that it takes, a meaning writes on no byte of so many from an address on
+abbrev pub WritesElsewhere : ℕ → ℕ → FullMeaning → Environment → FullValues → List Answer → Type 0
+WritesElsewhere from size m env v answers =
+    (took left : List Answer) (made : FullValues) →
+    answers ≡ took ++ left →
+    m.takes env v (m.own_of took) ≡ Some (made, []) →
+    AreOutside from size (m.writes env v (m.own_of took))
+
 -- An instruction between two offsets, entered at an offset, does one of both, with all values and answers with which it writes on no byte
 -- of the code.
 abbrev pub RunsFully : Site → ℕ → ℕ → Inst → Entry → ℕ → Type 0
-RunsFully site start after inst entry at = (v : FullValues) (b : FullState) → FullAt site at v b → AreOutside site.base (length site.bytes) ((inst_meaning entry inst).writes (environment site start after) v ((inst_meaning entry inst).own_of b.answers)) → ComesFully site start after (inst_meaning entry inst) (exit_from entry (environment site start after) (Put inst) v.ints) (temporaries_from entry (Put inst)) v b
+RunsFully site start after inst entry at =
+    (v : FullValues) (b : FullState) →
+    FullAt site at v b →
+    WritesElsewhere site.base (length site.bytes) (inst_meaning entry inst) (environment site start after) v b.answers →
+    ComesFully site start after (inst_meaning entry inst) (exit_from entry (environment site start after) (Put inst) v.ints) (temporaries_from entry (Put inst)) v b

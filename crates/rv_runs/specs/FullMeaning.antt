@@ -2,7 +2,7 @@
 -- instructions is a case: those of integers take no answer, and leave the units as they were; a float operation does what its row does. A
 -- load or a store of a floating-point register takes no answer either, nor does a call, whose results and restored registers are of both
 -- files. A move of a floating-point register does what its operation's row does, and a choice copies its registers exactly, of any class.
-use Rattle.std.specs.Prelude.{ℕ, if◌then◌else◌, List, [], Option, Some, None}
+use Rattle.std.specs.Prelude.{ℕ, Bool, true, if◌then◌else◌, List, [], Option, Some, None}
 use Rattle.rv_base.specs.declared.amode.AMode.{AMode}
 use Rattle.rv_base.specs.declared.regs.Reg.{Reg}
 use Rattle.rv_base.specs.Regs.{number_of}
@@ -32,13 +32,15 @@ pub use Rattle.rv_runs.specs.FullReturns.{full_left, full_resumed, with_ints}
 use Rattle.rv_runs.specs.Entries.{Entry, AtStart, AtReturn, effect_from}
 
 -- What a line, or an instruction, means from where it is entered: the values that come of values and answers, with the answers that are
--- left; the addresses of the bytes that it writes with these answers; how many answers its own operations take; and which of those that
--- the machine took in it are theirs.
+-- left; the addresses of the bytes that it writes with these answers; how many answers its own operations take; which of those that the
+-- machine took in it are theirs; and whether only they ask, each once, so that where the machine asks, they lack an answer: not so where a
+-- setting is put first, or where the line tries again.
 pub record FullMeaning : Type 0 where
   pub takes : Environment → FullValues → List Answer → Option (FullValues × List Answer)
   pub writes : Environment → FullValues → List Answer → List ℕ
   pub own_answers : Environment → FullValues → ℕ
   pub own_of : List Answer → List Answer
+  pub asks_once : Bool
 
 -- where a call returns, nothing is written
 abbrev pub writes_from : Entry → Environment → Line → FullValues → List ℕ
@@ -52,6 +54,7 @@ of_integers entry line = record {
   writes = λ env v answers. writes_from entry env line v;
   own_answers = λ env v. 0;
   own_of = λ took. took;
+  asks_once = true;
 }
 
 -- how many answers a row takes
@@ -76,6 +79,7 @@ of_unit entry inst = record {
   writes = λ env v answers. [];
   own_answers = λ env v. answers_of (row_from entry env inst v);
   own_of = λ took. took;
+  asks_once = true;
 }
 
 -- a load of a floating-point register: the number at the address goes into it, boxed
@@ -85,6 +89,7 @@ of_float_load format rd from = record {
   writes = λ env v answers. [];
   own_answers = λ env v. 0;
   own_of = λ took. took;
+  asks_once = true;
 }
 
 -- a store of one: its low bytes go to the address
@@ -94,6 +99,7 @@ of_float_store format src to = record {
   writes = λ env v answers. addresses_from (address_of env to v.ints) (format_bytes format);
   own_answers = λ env v. 0;
   own_of = λ took. took;
+  asks_once = true;
 }
 
 -- a move of a floating-point register does nothing where it is one to itself, and else the row of its operation
@@ -107,6 +113,7 @@ of_float_move inst = record {
   writes = λ env v answers. [];
   own_answers = λ env v. answers_of (move_row (operation_of (context_by env.flags env.frame []) inst) v);
   own_of = λ took. took;
+  asks_once = true;
 }
 
 -- a choice of values of any class is exact
@@ -116,6 +123,7 @@ of_choice info = record {
   writes = λ env v answers. [];
   own_answers = λ env v. 0;
   own_of = λ took. took;
+  asks_once = true;
 }
 
 -- by the format of the register, where it is a floating-point one; else as of integers
@@ -124,7 +132,8 @@ of_access None of_float integers = integers
 of_access (Some format) of_float integers = of_float format
 
 abbrev pub of_memory : Entry → Inst → FullMeaning
-of_memory entry (Load rd op flags from) = of_access (load_format op) (λ format. of_float_load format rd.reg from) (of_integers entry (Put (Load rd op flags from)))
+of_memory entry (Load rd op flags from) =
+    of_access (load_format op) (λ format. of_float_load format rd.reg from) (of_integers entry (Put (Load rd op flags from)))
 of_memory entry (Store src op flags to) = of_access (store_format op) (λ format. of_float_store format src to) (of_integers entry (Put (Store src op flags to)))
 of_memory entry inst = of_integers entry (Put inst)
 
@@ -155,6 +164,7 @@ of_call entry inst = record {
   writes = λ env v answers. [];
   own_answers = λ env v. 0;
   own_of = λ took. took;
+  asks_once = true;
 }
 
 abbrev pub meaning_by : Family → Entry → Inst → FullMeaning

@@ -118,7 +118,8 @@ pub record AppendsIsland (old new : Buffer) : Type 0 where
   pub registered : registered_of new ≡ registered_of old
   pub named : named_of new ≡ named_of old
   pub settled : pending new ≡ []
-  pub end : length (bytes_of new) ≡ island_end (end_after (shape_of old)) (aligned (length (bytes_of old) + 4)) (length (pending old)) (length (bytes_of old) + forward_of Jal20)
+  pub end :
+      length (bytes_of new) ≡ island_end (end_after (shape_of old)) (aligned (length (bytes_of old) + 4)) (length (pending old)) (length (bytes_of old) + forward_of Jal20)
   pub taken : length (constants_of new) ≡ length (named_of new)
   pub whole : length (bytes_of new) % 4 ≡ 0
   pub short : length (bytes_of new) + reserve_of (shape_of new) ≤ length (bytes_of old) + 17 + 8 * length (pending old) + reserve_of (shape_of old)

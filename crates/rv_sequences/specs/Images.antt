@@ -85,6 +85,16 @@ pub record IsLinkedWith (site : Site) (final : List ℕ) (at : ℕ) (name : Exte
 -- What relocations ask is filled: where two relocations of one distance follow each other, the distance to the symbol; an address;
 -- and the distance of a call.
 pub record IsFilled (site : Site) (final : List ℕ) : Type 0 where
-  pub distances : (j k at : ℕ) (symbol : Symbol) → slice_get site.records j ≡ Some (record { offset = at; event = upper_event symbol }) → slice_get site.records k ≡ Some (record { offset = at + 4; event = lower_event at }) → IsFilledWith site final at symbol
-  pub addresses : (k at : ℕ) (name : ExternalName) (addend : ℤ) → slice_get site.records k ≡ Some (record { offset = at; event = address_event name addend }) → window site.bytes at 8 ≡ to_le_bytes w64 (symbol_address site (AddressOf name addend))
-  pub calls : (k at : ℕ) (name : ExternalName) → slice_get site.records k ≡ Some (record { offset = at; event = call_event name }) → IsLinkedWith site final at name
+  pub distances :
+      (j k at : ℕ) (symbol : Symbol) →
+      slice_get site.records j ≡ Some (record { offset = at; event = upper_event symbol }) →
+      slice_get site.records k ≡ Some (record { offset = at + 4; event = lower_event at }) →
+      IsFilledWith site final at symbol
+  pub addresses :
+      (k at : ℕ) (name : ExternalName) (addend : ℤ) →
+      slice_get site.records k ≡ Some (record { offset = at; event = address_event name addend }) →
+      window site.bytes at 8 ≡ to_le_bytes w64 (symbol_address site (AddressOf name addend))
+  pub calls :
+      (k at : ℕ) (name : ExternalName) →
+      slice_get site.records k ≡ Some (record { offset = at; event = call_event name }) →
+      IsLinkedWith site final at name

@@ -6,8 +6,18 @@ use Rattle.mach_buffer.specs.Shape.{Shape}
 
 -- each constant ends before the next one begins, and within the bytes
 pub record StandInTurn {L : Type 0} (s : Shape L) : Type 0 where
-  pub ascend : (i j : ℕ) (c d : ConstPlace) (k : Constant) → i < j → slice_get s.constants i ≡ Some c → slice_get s.constants j ≡ Some d → slice_get s.registered c.constant.number ≡ Some k → c.offset + length k.bytes ≤ d.offset
-  pub within : (j : ℕ) (c : ConstPlace) (k : Constant) → slice_get s.constants j ≡ Some c → slice_get s.registered c.constant.number ≡ Some k → c.offset + length k.bytes ≤ length s.bytes
+  pub ascend :
+      (i j : ℕ) (c d : ConstPlace) (k : Constant) →
+      i < j →
+      slice_get s.constants i ≡ Some c →
+      slice_get s.constants j ≡ Some d →
+      slice_get s.registered c.constant.number ≡ Some k →
+      c.offset + length k.bytes ≤ d.offset
+  pub within :
+      (j : ℕ) (c : ConstPlace) (k : Constant) →
+      slice_get s.constants j ≡ Some c →
+      slice_get s.registered c.constant.number ≡ Some k →
+      c.offset + length k.bytes ≤ length s.bytes
 
 -- bytes were put, and perhaps constants: each constant stood before, or begins after all bytes that stood; constants stay in
 -- turn; and the same ones are registered

@@ -28,7 +28,13 @@ Encodes flags bytes ops = (mem : Memory) (a : ℕ) → BytesAt mem a bytes → H
 pub record IsPatchable (flags : IsaFlags) (kind : LabelUse) (window : List ℕ) (ops : ℤ → List Decoded) : Type 0 where
   pub long : length window ≡ length (marks_of kind)
   pub fresh : IsFresh (marks_of kind) window
-  pub patched : (new : List ℕ) (d : ℤ) → length new ≡ length (marks_of kind) → AllBytes new → SameOutside (marks_of kind) window new → Aims kind new d → Encodes flags new (ops d)
+  pub patched :
+      (new : List ℕ) (d : ℤ) →
+      length new ≡ length (marks_of kind) →
+      AllBytes new →
+      SameOutside (marks_of kind) window new →
+      Aims kind new d →
+      Encodes flags new (ops d)
 
 -- an event that asks nothing of the bytes at its offset
 abbrev pub AsksNothing : Event → Type 0
@@ -46,14 +52,23 @@ eight_zeros = 0 ∷ 0 ∷ 0 ∷ 0 ∷ 0 ∷ 0 ∷ 0 ∷ 0 ∷ []
 
 -- a slot was put
 abbrev pub PutsSlot : IsaFlags → ℕ → Slot → Shape LabelUse → Shape LabelUse → Type 0
-PutsSlot flags allocated (Op d) s t = (bytes : List ℕ) × (length bytes ≡ d.len) × Encodes flags bytes (d ∷ []) × (t ≡ with_bytes bytes s) × IsOwnForm d (half_at bytes)
-PutsSlot flags allocated (Fixup kind target ops) s t = (window : List ℕ) × IsPatchable flags kind window ops × (t ≡ with_bytes window (with_use (use_at (length s.bytes) (label_of allocated target) kind) s))
+PutsSlot flags allocated (Op d) s t =
+    (bytes : List ℕ) × (length bytes ≡ d.len) × Encodes flags bytes (d ∷ []) × (t ≡ with_bytes bytes s) × IsOwnForm d (half_at bytes)
+PutsSlot flags allocated (Fixup kind target ops) s t =
+    (window : List ℕ) ×
+    IsPatchable flags kind window ops ×
+    (t ≡ with_bytes window (with_use (use_at (length s.bytes) (label_of allocated target) kind) s))
 PutsSlot flags allocated (Data bytes) s t = t ≡ with_bytes bytes s
 PutsSlot flags allocated (Records e) s t = AsksNothing e × (t ≡ with_record e s)
 PutsSlot flags allocated (Names k) s t = t ≡ with_named k s
 PutsSlot flags allocated Allocate s t = t ≡ with_allocated s
 PutsSlot flags allocated (Here k) s t = (s.place (own_label allocated k).number ≡ None) × (t ≡ with_label (own_label allocated k) s)
-PutsSlot flags allocated (RelocPair symbol upper lower) s t = (first : List ℕ) × (second : List ℕ) × IsPatchable flags PCRelHi20 first upper × IsPatchable flags PCRelLo12I second lower × (t ≡ with_bytes second (with_record (lower_event (length s.bytes)) (with_bytes first (with_record (upper_event symbol) s))))
+PutsSlot flags allocated (RelocPair symbol upper lower) s t =
+    (first : List ℕ) ×
+    (second : List ℕ) ×
+    IsPatchable flags PCRelHi20 first upper ×
+    IsPatchable flags PCRelLo12I second lower ×
+    (t ≡ with_bytes second (with_record (lower_event (length s.bytes)) (with_bytes first (with_record (upper_event symbol) s))))
 PutsSlot flags allocated (Address name addend) s t = t ≡ with_bytes eight_zeros (with_record (address_event name addend) s)
 PutsSlot flags allocated (CallTo name ops) s t = (code : List ℕ) × IsPatchable flags PCRel32 code ops × (t ≡ with_bytes code (with_record (call_event name) s))
 

@@ -1,7 +1,7 @@
 //! Reading all that a source has, and writing a whole text to a sink.
 
 ghost use Rattle.std.specs.Prelude.{◌≡◌, ℕ, ◌<◌, ◌≤◌, List, [], length, IfOk, IfSome, OnOk, IsErrOf};
-ghost use Rattle.std.specs.Io.KnownBytes.{Appends};
+ghost use Rattle.std.specs.Io.KnownBytes.{Appends, IsAtEnd};
 ghost use Rattle.rv_stream.specs.Ends.{Rose, TookFront, Gave};
 
 use crate::ends::{Sink, Source, WriteError};
@@ -42,6 +42,7 @@ fn read_on<S: Source>(
     requires room { 0 < length chunk.old }
     requires fresh { text.old.items ≡ [] }
     ensures all { OnOk result (IfSome (S.left source.old) (λ xs. text.new.items ≡ xs)) }
+    ensures end { OnOk result (IsAtEnd (S.left source.new)) }
     ensures short { OnOk result (length text.new.items ≤ 16777216) }
     ensures long { IsErrOf result ReadAllError.TooLong → Gave (λ n. 16777216 < n) (S.left source.old) (S.left source.new) }
     ensures failed { IsErrOf result ReadAllError.Failed → Rose (S.faults source.old) (S.faults source.new) }
@@ -63,9 +64,10 @@ fn read_on<S: Source>(
     Err(ReadAllError::TooLong)
 }
 
-/// All that the source has, up to 16777216 bytes. It is too long once it gave more of them, whatever comes after; a failure comes before.
+/// All that the source has, to its end, up to 16777216 bytes. It is too long once it gave more of them, whatever comes after; a failure comes before.
 pub fn read_all<S: Source>(alloc: Global, source: &mut S) -> Result<Vec<u8>, ReadAllError>
     ensures all { IfOk result (λ text. IfSome (S.left source.old) (λ xs. text.items ≡ xs)) }
+    ensures end { OnOk result (IsAtEnd (S.left source.new)) }
     ensures short { IfOk result (λ text. length text.items ≤ 16777216) }
     ensures long { IsErrOf result ReadAllError.TooLong → Gave (λ n. 16777216 < n) (S.left source.old) (S.left source.new) }
     ensures failed { IsErrOf result ReadAllError.Failed → Rose (S.faults source.old) (S.faults source.new) }

@@ -106,11 +106,13 @@ abbrev pub shift_of : ℕ → ℕ
 shift_of from_bits = (320 - from_bits) % 256
 
 abbrev pub shifts_text : List ℕ → Reg → Reg → ℕ → List ℕ
-shifts_text name rd rn shift = three (codes "slli") (name_of rd) (name_of rn) (decimal shift) ++ codes "; " ++ three name (name_of rd) (name_of rd) (decimal shift)
+shifts_text name rd rn shift =
+    three (codes "slli") (name_of rd) (name_of rn) (decimal shift) ++ codes "; " ++ three name (name_of rd) (name_of rd) (decimal shift)
 
 abbrev pub extend_text : Reg → Reg → Bool → ℕ → List ℕ
 extend_text rd rn true from_bits = shifts_text (codes "srai") rd rn (shift_of from_bits)
-extend_text rd rn false from_bits = if from_bits == 8 then two (codes "andi") (name_of rd) (name_of rn) else shifts_text (codes "srli") rd rn (shift_of from_bits)
+extend_text rd rn false from_bits =
+    if from_bits == 8 then two (codes "andi") (name_of rd) (name_of rn) else shifts_text (codes "srli") rd rn (shift_of from_bits)
 
 abbrev pub select_text : SelectInfo → List ℕ
 select_text s = three (codes "select") (value_text (written s.dst)) (value_text s.x) (value_text s.y) ++ codes "##condition=" ++ compare_text s.condition
@@ -180,7 +182,10 @@ csr_reg_text op rd rs csr = three (csr_reg_name op) (name_of rd) (csr_name csr) 
 
 -- and so is fsrmi, where what it held is kept
 abbrev pub csr_imm_text : CsrImmOP → Reg → CSR → UImm5 → List ℕ
-csr_imm_text CsrRWI rd Frm imm = if is_zero rd then three (csr_imm_name CsrRWI) (name_of rd) (csr_name Frm) (decimal imm.value) else two (codes "fsrmi") (name_of rd) (decimal imm.value)
+csr_imm_text CsrRWI rd Frm imm =
+    if is_zero rd
+    then three (csr_imm_name CsrRWI) (name_of rd) (csr_name Frm) (decimal imm.value)
+    else two (codes "fsrmi") (name_of rd) (decimal imm.value)
 csr_imm_text op rd csr imm = three (csr_imm_name op) (name_of rd) (csr_name csr) (decimal imm.value)
 
 abbrev pub text_of : Inst → List ℕ

@@ -15,4 +15,4 @@ mod symbols;
 mod text;
 
 pub use lines::texts;
-pub use text::{put_text, to_text};
+pub use text::{ToText, put_text};

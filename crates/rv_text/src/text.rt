@@ -1,6 +1,6 @@
 //! The text of an instruction.
 
-ghost use Rattle.std.specs.Prelude.{◌≡◌, ◌++◌, IfOk, OnOk, string_bytes};
+ghost use Rattle.std.specs.Prelude.{◌≡◌, ◌++◌, ℕ, List, IfOk, OnOk, string_bytes};
 ghost use Rattle.rv_text.specs.Texts.{text_of};
 
 use crate::calls::put_call;
@@ -31,11 +31,22 @@ pub fn put_text(out: &mut String, inst: &Inst) -> Result<(), OutOfMemory>
     }
 }
 
-/// The text of an instruction.
-pub fn to_text(alloc: Global, inst: &Inst) -> Result<String, OutOfMemory>
-    ensures { IfOk result (λ text. string_bytes text ≡ text_of inst.now) }
-{
-    let mut out = String::new(alloc);
-    put_text(&mut out, inst)?;
-    Ok(out)
+/// What has a text.
+pub trait ToText {
+    /// The bytes of the text.
+    ghost text: { Self → List ℕ };
+
+    /// The text, as `inst.to_text(alloc)` gives that of an instruction.
+    fn to_text(&self, alloc: Global) -> Result<String, OutOfMemory>
+        ensures { IfOk result (λ bytes. string_bytes bytes ≡ text self.now) };
+}
+
+impl ToText for Inst {
+    ghost text = { text_of };
+
+    fn to_text(&self, alloc: Global) -> Result<String, OutOfMemory> {
+        let mut out = String::new(alloc);
+        put_text(&mut out, self)?;
+        Ok(out)
+    }
 }

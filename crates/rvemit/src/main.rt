@@ -1,11 +1,8 @@
-//! `rvemit`: reads a listing from standard input, and writes the report of its code to standard output.
+//! `rvemit`: reads a listing from standard input, and writes the report of its code to standard output. Where there is none it writes why
+//! there, and to standard error what to mend.
 #![tactic(auto)]
 
-ghost use Rattle.std.specs.Prelude.{◌≡◌};
-ghost use Rattle.std.specs.Process.{exit_status};
-ghost use Rattle.rv_command.specs.Outcomes.{status_of};
-
-use rv_command::{Outcome, run};
+use rv_command::run_explained;
 use rv_stream::{StdSink, StdSource};
 use std::env;
 use std::io::{self, ErrorKind};
@@ -28,18 +25,15 @@ fn words(rt: &HostRuntime) -> io::Result<Vec<String>> {
     Ok(words)
 }
 
-fn exit(outcome: &Outcome) -> ExitCode
-    ensures { exit_status result ≡ status_of outcome.now }
-{
-    ExitCode::from(outcome.status())
-}
-
 fn main(rt: HostRuntime) -> ExitCode {
     let Ok(words) = words(&rt) else {
         return ExitCode::from(8);
     };
     let mut source = StdSource::new(rt.stdin());
     let mut sink = StdSink::new(rt.stdout());
-    let outcome = run(rt.alloc(), &words, &mut source, &mut sink);
-    exit(&outcome)
+    let ending = run_explained(rt.alloc(), &words, &mut source, &mut sink);
+    if let Some(note) = &ending.note {
+        let _ = eprintln!(rt; "{note}");
+    }
+    ending.outcome.exit_code()
 }

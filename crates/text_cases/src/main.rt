@@ -9,7 +9,7 @@ use rv_base::OutOfMemory;
 use rv_gen::gen_job;
 use rv_inst::{Job, Line};
 use rv_listing::{ReadError, read_job};
-use rv_text::{texts, to_text};
+use rv_text::{ToText, texts};
 use std::alloc::{AllocError, Global};
 use std::process::ExitCode;
 
@@ -39,7 +39,7 @@ fn question_of(ending: &str) -> Option<Question> {
 /// The text of the first line of a job.
 fn text_of_first(alloc: Global, job: &Job) -> Result<String, OutOfMemory> {
     match job.lines.as_slice().first() {
-        Some(Line::Inst(inst)) => to_text(alloc, inst),
+        Some(Line::Inst(inst)) => inst.to_text(alloc),
         Some(Line::Bind(_)) | None => Ok(String::from_str(alloc, "no instruction")?),
     }
 }
