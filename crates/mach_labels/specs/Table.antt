@@ -17,7 +17,8 @@ first_constant = 2 ^ 31
 
 -- what the vectors have: one a listing's labels, one those that a buffer gives out, one the constants'
 abbrev pub dense_of : {T : Type 0} → LabelTable T → ℕ → Option T
-dense_of table label = if nat_lt label first_inner then slot_of table.own.items label else if nat_lt label first_constant then slot_of table.inner.items (label - first_inner) else slot_of table.constants.items (label - first_constant)
+dense_of table label =
+    if nat_lt label first_inner then slot_of table.own.items label else if nat_lt label first_constant then slot_of table.inner.items (label - first_inner) else slot_of table.constants.items (label - first_constant)
 
 -- what the table has for a label
 unfoldable pub entry_of : {T : Type 0} → LabelTable T → ℕ → Option T

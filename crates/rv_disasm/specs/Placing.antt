@@ -123,7 +123,8 @@ abbrev pub lh_place : ℕ → ℕ
 lh_place n = n / 2 % 2 * 2 ^ 5
 
 abbrev pub cj_place : ℕ → ℕ
-cj_place n = n / 2 ^ 5 % 2 * 2 ^ 2 + n / 2 % 2 ^ 3 * 2 ^ 3 + n / 2 ^ 7 % 2 * 2 ^ 6 + n / 2 ^ 6 % 2 * 2 ^ 7 + n / 2 ^ 10 % 2 * 2 ^ 8 + n / 2 ^ 8 % 2 ^ 2 * 2 ^ 9 + n / 2 ^ 4 % 2 * 2 ^ 11 + n / 2 ^ 11 % 2 * 2 ^ 12
+cj_place n =
+    n / 2 ^ 5 % 2 * 2 ^ 2 + n / 2 % 2 ^ 3 * 2 ^ 3 + n / 2 ^ 7 % 2 * 2 ^ 6 + n / 2 ^ 6 % 2 * 2 ^ 7 + n / 2 ^ 10 % 2 * 2 ^ 8 + n / 2 ^ 8 % 2 ^ 2 * 2 ^ 9 + n / 2 ^ 4 % 2 * 2 ^ 11 + n / 2 ^ 11 % 2 * 2 ^ 12
 
 -- ---- each operation of 16 bits; a field that its row lacks has no place of its own
 

@@ -103,7 +103,8 @@ put_number target.Float d x v = put_f d x v
 
 -- one number is taken, noted with the values that were read, and put
 abbrev pub number_row : Target → List ℕ → Decoded → FullValues → Row
-number_row to inputs d v = Takes OneNumber (λ answer. put_number to d (unwrap_or (bits_of answer) 0) (put_units (noted (entry_of d v.units inputs [] answer) v.units) v))
+number_row to inputs d v =
+    Takes OneNumber (λ answer. put_number to d (unwrap_or (bits_of answer) 0) (put_units (noted (entry_of d v.units inputs [] answer) v.units) v))
 
 -- fsgnj.d of equal sources is a move of all bits
 abbrev pub is_move : FloatFormat → Decoded → Bool

@@ -140,7 +140,8 @@ put_memory mem v = record { ints = record { regs = v.ints.regs; mem = mem }; uni
 -- a step that took an answer: its operation, the registers that are read, the setting and frm, the bytes that a vector load reads,
 -- and the answer
 abbrev pub entry_of : Decoded → Units → List ℕ → List ℕ → Answer → Entry
-entry_of d u inputs span answer = record { decoded = d; inputs = inputs; avl = u.setting.avl; vtype = u.setting.vtype; frm = u.frm; span = span; answer = answer }
+entry_of d u inputs span answer =
+    record { decoded = d; inputs = inputs; avl = u.setting.avl; vtype = u.setting.vtype; frm = u.frm; span = span; answer = answer }
 
 abbrev pub noted : Entry → Units → Units
 noted e u = with_trace u (u.trace ++ e ∷ [])

@@ -34,10 +34,12 @@ machine_code reservation setting entry answer =
 
 -- the answers from some place on are left
 abbrev pub machine_of : IntegerMachine → Units → List Answer → ℕ → Machine
-machine_of integers units answers taken = record { flags = integers.flags; full = record { state = integers.state; units = units; answers = drop taken answers } }
+machine_of integers units answers taken =
+    record { flags = integers.flags; full = record { state = integers.state; units = units; answers = drop taken answers } }
 
 abbrev pub units_of : List ℕ → List ℕ → ℕ → Option Reservation → Setting → List Entry → Units
-units_of floats vectors frm reserved setting trace = record { floats = floats; vectors = vectors; frm = frm; reserved = reserved; setting = setting; trace = trace }
+units_of floats vectors frm reserved setting trace =
+    record { floats = floats; vectors = vectors; frm = frm; reserved = reserved; setting = setting; trace = trace }
 
 -- all registers 0, frm and the setting 0, no reservation and no entry
 abbrev pub zero_units : Units

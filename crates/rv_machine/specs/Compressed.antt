@@ -106,7 +106,8 @@ lh_imm half = bits half 5 5 * 2
 --  15    13 12                         2 1  0
 --  | funct3 | imm[11|4|9:8|10|6|7|3:1|5] | op |   CJ
 abbrev pub cj_bits : ℕ → ℕ
-cj_bits half = bits half 12 12 * 2 ^ 11 + bits half 8 8 * 2 ^ 10 + bits half 10 9 * 2 ^ 8 + bits half 6 6 * 2 ^ 7 + bits half 7 7 * 2 ^ 6 + bits half 2 2 * 2 ^ 5 + bits half 11 11 * 2 ^ 4 + bits half 5 3 * 2
+cj_bits half =
+    bits half 12 12 * 2 ^ 11 + bits half 8 8 * 2 ^ 10 + bits half 10 9 * 2 ^ 8 + bits half 6 6 * 2 ^ 7 + bits half 7 7 * 2 ^ 6 + bits half 2 2 * 2 ^ 5 + bits half 11 11 * 2 ^ 4 + bits half 5 3 * 2
 
 abbrev pub cj_imm : ℕ → ℤ
 cj_imm half = signed (2 ^ 11) (cj_bits half)
