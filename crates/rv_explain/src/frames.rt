@@ -32,7 +32,7 @@ fn unsaved(word: &str) -> Option<&'static str> {
         Some(2) => Some("it is the stack pointer"),
         Some(8) => Some("SETUP has the frame pointer"),
         Some(30) | Some(31) => Some(
-            "x30 and x31 are kept for veneers and the instructions of a line",
+            "x30 and x31 are kept for veneers and lines of several instructions",
         ),
         _ => None,
     }

@@ -13,6 +13,7 @@ mod labels;
 mod nearest;
 mod numbers;
 mod parts;
+mod passed_on;
 mod refusals;
 mod rules;
 mod syntax;
@@ -20,5 +21,6 @@ mod targets;
 mod text;
 mod words;
 
+pub use passed_on::refusal_of;
 pub use refusals::explain_refusal;
 pub use syntax::explain_syntax;

@@ -54,7 +54,7 @@ fn reserved_reason(alloc: Global, parts: &Parts<'_>) -> Result<String, OutOfMemo
     let word = first_register(parts, Test::Reserved).unwrap_or("x31");
     let shown = numbered(alloc, word)?;
     let kept = if integer_number(word) == Some(30) {
-        "the instructions of a line"
+        "lines of several instructions"
     } else {
         "veneers"
     };

@@ -13,7 +13,11 @@ use std::alloc::Global;
 
 /// Returns whether a byte stands in no line; a comment has any of ASCII but CR.
 fn is_foreign(is_comment: bool, byte: u8) -> bool {
-    byte >= 127 || byte == b'\r' || (!is_comment && byte < 32)
+    if is_comment {
+        byte >= 128 || byte == b'\r'
+    } else {
+        byte >= 127 || byte < 32
+    }
 }
 
 /// What is wrong with a byte at a column.
@@ -62,6 +66,11 @@ fn name_reason(alloc: Global, name: &str) -> Result<String, OutOfMemory> {
     let word = quoted(alloc, name)?;
     if let Some(form) = form_of_operation(name) {
         return Ok(format!(in alloc; "{word} is no form of a line; {form} {name} is")?);
+    }
+    if let Some(label) = name.strip_suffix(':') {
+        if takes(Kind::Label, label) {
+            return Ok(format!(in alloc; "{word} is no form of a line; Bind {label} is")?);
+        }
     }
     Ok(match nearest(alloc, Meant::Name, name)? {
         Some(near) => format!(in alloc; "{word} is no form of a line; {near} is")?,
@@ -136,6 +145,12 @@ fn words_reason(
     number: usize,
     line: &str,
 ) -> Result<String, OutOfMemory> {
+    if line.contains(" #") {
+        return Ok(String::from_str(
+            alloc,
+            "a comment stands after words; it takes a line of its own",
+        )?);
+    }
     let name = name_of(line);
     if is_header(name) {
         if let Some(reason) = place_reason(alloc, text, number, name)? {

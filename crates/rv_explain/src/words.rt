@@ -80,6 +80,9 @@ fn register_reason(alloc: Global, kind: Kind, word: &str) -> Result<String, OutO
     if word.starts_with('%') {
         return Ok(format!(in alloc; "{shown} is no register; virtual ones are %192 to %2097151")?);
     }
+    if word.ends_with(',') {
+        return Ok(format!(in alloc; "{shown} has a comma; spaces alone separate words")?);
+    }
     let small: String = word.chars().map(|c| c.to_ascii_lowercase()).collect(alloc)?;
     if takes(kind, &small) {
         return Ok(format!(in alloc; "{shown} is no register; {small} is")?);

@@ -9,6 +9,7 @@ status_of (failures.Words text) = 2
 status_of (failures.Flags word) = 2
 status_of (failures.Base word) = 2
 status_of (failures.NotReport line) = 3
+status_of (failures.Refused line) = 3
 status_of failures.NotHex = 3
 status_of (failures.NotLine line) = 3
 status_of failures.NotReadBack = 4

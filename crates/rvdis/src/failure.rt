@@ -21,6 +21,9 @@ pub(crate) enum Failure {
     /// The first line of the input, counted from 1, that no report has there.
     #[error("no report at line {line}")]
     NotReport { line: usize },
+    /// The input is the line with which `rvemit` refuses.
+    #[error("no code: {line}")]
+    Refused { line: String },
     #[error("no hexadecimal digits in pairs")]
     NotHex,
     /// The first line of the input, counted from 1, that is none of this code.
@@ -51,7 +54,8 @@ impl Failure {
             Failure::Asked { text: _ } => 0,
             Failure::Words { text: _ } | Failure::Flags { word: _ } | Failure::Base { word: _ } =>
                 2,
-            Failure::NotReport { line: _ } | Failure::NotHex | Failure::NotLine { line: _ } => 3,
+            Failure::NotReport { line: _ } | Failure::Refused { line: _ } => 3,
+            Failure::NotHex | Failure::NotLine { line: _ } => 3,
             Failure::NotReadBack => 4,
             Failure::Read => 5,
             Failure::Write => 6,

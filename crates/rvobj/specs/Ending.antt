@@ -11,6 +11,7 @@ status_of (failures.Abi word) = 2
 status_of (failures.Export word) = 2
 status_of (failures.Name word) = 2
 status_of (failures.NotReport line) = 3
+status_of (failures.Refused line) = 3
 status_of (failures.NoLabel label) = 4
 status_of failures.Read = 5
 status_of failures.Write = 6

@@ -25,6 +25,9 @@ pub(crate) enum Failure {
     /// The first line of the input, counted from 1, that no report has there.
     #[error("no report at line {line}")]
     NotReport { line: usize },
+    /// The input is the line with which `rvemit` refuses.
+    #[error("no code: {line}")]
+    Refused { line: String },
     /// The report has no place of a label.
     #[error("no label L{label} in the report")]
     NoLabel { label: u32 },
@@ -53,7 +56,7 @@ impl Failure {
             | Failure::Abi { word: _ }
             | Failure::Export { word: _ }
             | Failure::Name { word: _ } => 2,
-            Failure::NotReport { line: _ } => 3,
+            Failure::NotReport { line: _ } | Failure::Refused { line: _ } => 3,
             Failure::NoLabel { label: _ } => 4,
             Failure::Read => 5,
             Failure::Write => 6,

@@ -10,7 +10,9 @@ mod making;
 mod words;
 
 use failure::Failure;
-use making::object_bytes;
+use making::{MakeError, object_bytes};
+use rv_base::OutOfMemory;
+use rv_explain::refusal_of;
 use rv_stream::{ReadAllError, StdSink, StdSource, WriteError, read_all, write_all};
 use std::process::ExitCode;
 use words::{command_words, given_by};
@@ -32,12 +34,24 @@ fn write(rt: &HostRuntime, bytes: &[u8]) -> Result<(), Failure> {
     }
 }
 
+// The failure of an input, which may be the line with which `rvemit` refuses.
+fn passed_on(rt: &HostRuntime, input: &[u8], error: MakeError) -> Result<Failure, OutOfMemory> {
+    match (error, refusal_of(input)) {
+        (MakeError::OutOfMemory, _) | (_, None) => Ok(Failure::from(error)),
+        (_, Some(line)) => Ok(Failure::Refused {
+            line: String::from_str(rt.alloc(), line)?,
+        }),
+    }
+}
+
 fn run(rt: &HostRuntime) -> Result<(), Failure> {
     let words = command_words(rt)?;
     let given = given_by(rt.alloc(), &words)?;
     let input = input_of(rt)?;
-    let bytes = object_bytes(rt.alloc(), &given, &input)?;
-    write(rt, bytes.as_slice())
+    match object_bytes(rt.alloc(), &given, &input) {
+        Ok(bytes) => write(rt, bytes.as_slice()),
+        Err(error) => Err(passed_on(rt, &input, error)?),
+    }
 }
 
 fn exit(failure: &Failure) -> ExitCode

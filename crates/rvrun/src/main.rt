@@ -6,6 +6,10 @@ ghost use Rattle.std.specs.Prelude.{◌≡◌};
 ghost use Rattle.std.specs.Process.{exit_status};
 ghost use Rattle.rv_run.specs.Outcomes.{status_of};
 
+mod opening;
+
+use opening::Opening;
+use rv_explain::refusal_of;
 use rv_run::{Outcome, run};
 use rv_steps::Progress;
 use rv_stream::{StdSink, StdSource};
@@ -67,6 +71,13 @@ fn words(rt: &HostRuntime) -> io::Result<Vec<String>> {
     Ok(words)
 }
 
+// Says whose refusal the input is, where it is one in place of a report.
+fn pass_on(rt: &HostRuntime, outcome: &Outcome, input: &[u8]) {
+    if let (Outcome::NotReport { line: _ }, Some(refusal)) = (outcome, refusal_of(input)) {
+        let _ = eprintln!(rt; "rvrun: no code: {refusal}");
+    }
+}
+
 fn exit(outcome: &Outcome) -> ExitCode
     ensures { exit_status result ≡ status_of outcome.now }
 {
@@ -77,7 +88,7 @@ fn main(rt: HostRuntime) -> ExitCode {
     let Ok(words) = words(&rt) else {
         return ExitCode::from(8);
     };
-    let mut source = StdSource::new(rt.stdin());
+    let mut source = Opening::new(rt.alloc(), StdSource::new(rt.stdin()));
     let mut sink = StdSink::new(rt.stdout());
     let mut shown = Shown {
         rt: &rt,
@@ -85,5 +96,6 @@ fn main(rt: HostRuntime) -> ExitCode {
         last: None,
     };
     let outcome = run(rt.alloc(), &words, &mut source, &mut sink, &mut shown);
+    pass_on(&rt, &outcome, source.kept());
     exit(&outcome)
 }
