@@ -7,7 +7,7 @@ use Rattle.rv_asm.proofs.Words.{IsExit, IsOn, IsPlaced, IsPlacedAt, IsRecorded, 
 use Rattle.rv_asm.proofs.Words.{MeansSame, Memory, named_labels, nat_lt, Next, next_point, None, offset_in, OneFullLine, Option, Out, Overwrites, parts_of, PartsStand, Placing, Point, Put, put, Reached, refl, resumed_by, Resumes, Return, return_at, return_exit, return_of, Returned, returns_from}
 use Rattle.rv_asm.proofs.Words.{RunsAsListed, RunsOn, Same, same_but, same_Some, SameBut, Site, slice_get, slice_get_within, Some, StandsAt, start_of, State, Stop, Stops, subst, suc, sym, temporaries_from, temporaries_of, To, Trap, TrapCode, Trapped, true, try_call_of, try_exit, unwrap_or, Values}
 use Rattle.{rv_asm.proofs.Words.{wrap, writes_of, WritesOutside, zero, ℕ, ⊎_elim, ◌%◌, ◌*◌, ◌++◌, ◌+◌, ◌<◌, ◌∙◌, ◌∷◌, ◌≡◌, ◌≤◌, ◌⊎◌}, rv_full.specs.Vectors.is_legal, rv_inst.proofs.Meaning.{effect_agrees, exit_agrees, writes_agree}, rv_inst.specs.Core.{is_integer, is_integer_in, is_integer_line}}
-use Rattle.{rv_inst.specs.Environments.{AgreeOn, SameLabels}, rv_runs.specs.FullInstRuns.WritesElsewhere, std.proofs.lemmas.List.{length-append, take_at}, std.proofs.Common.{drop, take, take-append-drop, ⊥, ◌×◌}}
+use Rattle.{rv_inst.specs.Environments.{AgreeOn, SameLabels}, rv_runs.specs.FullInstRuns.WritesElsewhere, std.proofs.lemmas.List.{length-append, take_at}, std.proofs.Common.{drop, take, take-append-drop}}
 use Rattle.mach_records.specs.declared.records.Event.TheVariants as event
 use Rattle.rv_inst.specs.declared.inst.Inst.TheVariants.{Call, CallInd}
 

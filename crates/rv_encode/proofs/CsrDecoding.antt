@@ -18,7 +18,7 @@ use Rattle.rv_machine.specs.UnitTables.{csr_entry}
 use Rattle.rv_machine.specs.UnitDecode.{only, decode_csr}
 use Rattle.rv_machine.specs.Decode.{decode_system, decode}
 use Rattle.rv_encode.specs.Layouts.{IsIType}
-use Rattle.rv_encode.specs.Operations.{decoded, decoded_csr_reg, decoded_csr_imm}
+use Rattle.rv_encode.specs.Operations.{decoded, decoded_csr_reg, decoded_csr_imm, IsRowOfCsrImm, IsRowOfCsrReg}
 use Rattle.rv_encode.proofs.FloatDecoding.{unit_decodes}
 
 -- what a word of SYSTEM decodes to, by its fields: ebreak, or an operation on frm
@@ -46,3 +46,13 @@ pub csr_imm_decodes : (flags : IsaFlags) (op : CsrImmOP) (csr : CSR) (w rd imm :
 csr_imm_decodes flags CsrRWI Frm w rd imm h = csr_decodes flags w rd _ imm _ h refl refl
 csr_imm_decodes flags CsrRSI Frm w rd imm h = csr_decodes flags w rd _ imm _ h refl refl
 csr_imm_decodes flags CsrRCI Frm w rd imm h = csr_decodes flags w rd _ imm _ h refl refl
+
+-- words whose fields are an operation's
+
+pub csr_reg_by_row : (flags : IsaFlags) (op : CsrRegOP) (csr : CSR) (w opcode rd funct3 rs1 bits : ℕ) → IsRowOfCsrReg op csr opcode funct3 bits → IsIType w opcode rd funct3 rs1 bits → decode flags w ≡ Some (decoded_csr_reg op rd rs1)
+csr_reg_by_row flags op csr w opcode rd funct3 rs1 bits row h =
+    csr_reg_decodes flags op csr w rd rs1 (record { opcode_is = h.opcode_is ∙ row.opcode_is; rd_is = h.rd_is; funct3_is = h.funct3_is ∙ row.funct3_is; rs1_is = h.rs1_is; imm_is = h.imm_is ∙ row.bits_are })
+
+pub csr_imm_by_row : (flags : IsaFlags) (op : CsrImmOP) (csr : CSR) (w opcode rd funct3 rs1 bits : ℕ) → IsRowOfCsrImm op csr opcode funct3 bits → IsIType w opcode rd funct3 rs1 bits → decode flags w ≡ Some (decoded_csr_imm op rd rs1)
+csr_imm_by_row flags op csr w opcode rd funct3 rs1 bits row h =
+    csr_imm_decodes flags op csr w rd rs1 (record { opcode_is = h.opcode_is ∙ row.opcode_is; rd_is = h.rd_is; funct3_is = h.funct3_is ∙ row.funct3_is; rs1_is = h.rs1_is; imm_is = h.imm_is ∙ row.bits_are })

@@ -27,7 +27,7 @@ use Rattle.rv_machine.specs.UnitDecode.{only, is_rounding, decode_op_fp, decode_
 use Rattle.rv_machine.specs.Decode.{or_else, int_by_opcode, decode}
 use Rattle.rv_machine.proofs.DecodeLaws.{decode_wide}
 use Rattle.rv_encode.specs.Layouts.{IsRType}
-use Rattle.rv_encode.specs.Operations.{decoded, decoded_fpu_rr, decoded_fpu_rrr, decoded_fpu_rrrr, decoded_fli}
+use Rattle.rv_encode.specs.Operations.{decoded, decoded_fpu_rr, decoded_fpu_rrr, decoded_fpu_rrrr, decoded_fli, IsRowOfFli, IsRowOfFpuRR, IsRowOfFpuRRR, IsRowOfFpuRRRR}
 
 -- ---- an opcode that only a unit has this operation of
 
@@ -224,3 +224,25 @@ of_fused flags rrrr.Fnmadd w is some = unit_decodes flags w _ is refl refl some
 pub fpu_rrrr_decodes : (flags : IsaFlags) (op : FpuOPRRRR) (width : FpuOPWidth) (m : FRM) (w rd rs1 rs2 rs3 : ℕ) → is_width width ≡ true → IsRType w (fpu_rrrr_opcode op) rd (frm_bits m) rs1 rs2 (with_width rs3 width) → decode flags w ≡ Some (decoded_fpu_rrrr op width m rd rs1 rs2 rs3)
 fpu_rrrr_decodes flags op width m w rd rs1 rs2 rs3 has h =
     of_fused flags op w h.opcode_is (fused_at w (fpu_rrrr_opcode op) rd (frm_bits m) rs1 rs2 rs3 width has h ∙ fused_of_mode op m rd rs1 rs2 rs3 (format_of width))
+
+-- ---- words whose fields are an operation's
+
+pub fpu_rrr_by_row : (flags : IsaFlags) (op : FpuOPRRR) (width : FpuOPWidth) (m : FRM) (w opcode rd funct3 rs1 rs2 funct7 : ℕ) → IsRowOfFpuRRR op width m opcode funct3 funct7 → IsRType w opcode rd funct3 rs1 rs2 funct7 → decode flags w ≡ Some (decoded_fpu_rrr op width m rd rs1 rs2)
+fpu_rrr_by_row flags op width m w opcode rd funct3 rs1 rs2 funct7 row h =
+    fpu_rrr_decodes flags op width m w rd rs1 rs2 row.has_width row.takes_mode
+    (record { opcode_is = h.opcode_is ∙ row.opcode_is; rd_is = h.rd_is; funct3_is = h.funct3_is ∙ row.funct3_is; rs1_is = h.rs1_is; rs2_is = h.rs2_is; funct7_is = h.funct7_is ∙ row.funct7_is })
+
+pub fpu_rr_by_row : (flags : IsaFlags) (op : FpuOPRR) (width : FpuOPWidth) (m : FRM) (w opcode rd funct3 rs1 rs2 funct7 : ℕ) → IsRowOfFpuRR op width m opcode funct3 rs2 funct7 → IsRType w opcode rd funct3 rs1 rs2 funct7 → decode flags w ≡ Some (decoded_fpu_rr op width m rd rs1)
+fpu_rr_by_row flags op width m w opcode rd funct3 rs1 rs2 funct7 row h =
+    fpu_rr_decodes flags op width m w rd rs1 row.has_width row.takes_mode
+    (record { opcode_is = h.opcode_is ∙ row.opcode_is; rd_is = h.rd_is; funct3_is = h.funct3_is ∙ row.funct3_is; rs1_is = h.rs1_is; rs2_is = h.rs2_is ∙ row.rs2_is; funct7_is = h.funct7_is ∙ row.funct7_is })
+
+pub fpu_rrrr_by_row : (flags : IsaFlags) (op : FpuOPRRRR) (width : FpuOPWidth) (m : FRM) (rs3 w opcode rd funct3 rs1 rs2 funct7 : ℕ) → IsRowOfFpuRRRR op width m rs3 opcode funct3 funct7 → IsRType w opcode rd funct3 rs1 rs2 funct7 → decode flags w ≡ Some (decoded_fpu_rrrr op width m rd rs1 rs2 rs3)
+fpu_rrrr_by_row flags op width m rs3 w opcode rd funct3 rs1 rs2 funct7 row h =
+    fpu_rrrr_decodes flags op width m w rd rs1 rs2 rs3 row.has_width
+    (record { opcode_is = h.opcode_is ∙ row.opcode_is; rd_is = h.rd_is; funct3_is = h.funct3_is ∙ row.funct3_is; rs1_is = h.rs1_is; rs2_is = h.rs2_is; funct7_is = h.funct7_is ∙ row.funct7_is })
+
+pub fli_by_row : (flags : IsaFlags) (width : FpuOPWidth) (w opcode rd funct3 rs1 rs2 funct7 : ℕ) → IsRowOfFli width opcode funct3 rs2 funct7 → IsRType w opcode rd funct3 rs1 rs2 funct7 → decode flags w ≡ Some (decoded_fli width rd rs1)
+fli_by_row flags width w opcode rd funct3 rs1 rs2 funct7 row h =
+    fli_decodes flags width w rd rs1 row.has_width
+    (record { opcode_is = h.opcode_is ∙ row.opcode_is; rd_is = h.rd_is; funct3_is = h.funct3_is ∙ row.funct3_is; rs1_is = h.rs1_is; rs2_is = h.rs2_is ∙ row.rs2_is; funct7_is = h.funct7_is ∙ row.funct7_is })

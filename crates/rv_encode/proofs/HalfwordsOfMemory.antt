@@ -1,5 +1,5 @@
 -- Halfwords with the fields of a compressed load or store are decoded as it, under the flags that it needs.
-use Rattle.std.proofs.Common.{◌≡◌, ◌≢◌, ℕ, ◌+◌, ◌*◌, ◌/◌, ◌%◌, ◌<◌, true, false, Option, Some, None, refl, sym, ap, ◌∙◌, ◌⊎◌, inl, inr, arith}
+use Rattle.std.proofs.Common.{◌≡◌, ◌≢◌, ℕ, ◌+◌, ◌*◌, ◌/◌, ◌%◌, ◌<◌, true, false, Option, Some, None, refl, sym, ap, subst, ◌∙◌, ◌⊎◌, inl, inr, arith}
 use Rattle.std.specs.Option.{unwrap_or}
 use Rattle.rv_base.specs.declared.flags.IsaFlags.{IsaFlags}
 use Rattle.rv_machine.specs.declared.decoding.Decoded.{Decoded}
@@ -19,8 +19,8 @@ use Rattle.rv_ops.specs.declared.memory.LoadOP.{LoadOP}
 use Rattle.rv_ops.specs.declared.memory.LoadOP.TheVariants as loads
 use Rattle.rv_ops.specs.Compressed.{space_bits, ci_space, ci_funct3, css_space, css_funct3, cs_space, cs_funct3, cl_space, cl_funct3, zcb_space, zcb_funct6}
 use Rattle.rv_encode.specs.Layouts.{IsCiType, IsCssType, IsClType, IsClbType, IsClhType}
-use Rattle.rv_ops.specs.Memory.{load_size}
-use Rattle.rv_encode.specs.Compressed.{read_of, sp_load, decoded_sp_load, decoded_css, decoded_cs, decoded_cl, decoded_zcb, zcb_needs}
+use Rattle.rv_ops.specs.Memory.{load_size, store_size}
+use Rattle.rv_encode.specs.Compressed.{read_of, sp_load, decoded_sp_load, css_read, css_store, decoded_css, cs_read, cs_store, decoded_cs, cl_read, cl_load, decoded_cl, decoded_zcb, zcb_needs, IsZcbType}
 use Rattle.rv_encode.proofs.Halfwords.{quadrant_decodes, quadrant_is, two_guards, nonzero, both}
 
 -- ---- past the stack pointer
@@ -55,7 +55,23 @@ pub sdsp_decodes : (flags : IsaFlags) (op : CssOp) (half rs2 n : ℕ) → op ≡
 sdsp_decodes flags css.CSwsp half rs2 n is zca h = absurd (cc)
 sdsp_decodes flags css.CSdsp half rs2 n is zca h = quadrant_decodes flags half _ zca h.op_is (rw (h.funct3_is, h.rs2_is, h.imm_is))
 
+pub swsp_layout : (op : CssOp) (half rs2 n : ℕ) → op ≡ css.CSwsp → IsCssType swsp_imm half (space_bits (css_space op)) rs2 (4 * n) (css_funct3 op) → IsCssType (css_read op) half (space_bits (css_space op)) rs2 (store_size (css_store op) * n) (css_funct3 op)
+swsp_layout css.CSwsp half rs2 n is h = h
+swsp_layout css.CSdsp half rs2 n is h = absurd (cc)
+
+pub sdsp_layout : (op : CssOp) (half rs2 n : ℕ) → op ≡ css.CSdsp → IsCssType sdsp_imm half (space_bits (css_space op)) rs2 (8 * n) (css_funct3 op) → IsCssType (css_read op) half (space_bits (css_space op)) rs2 (store_size (css_store op) * n) (css_funct3 op)
+sdsp_layout css.CSwsp half rs2 n is h = absurd (cc)
+sdsp_layout css.CSdsp half rs2 n is h = h
+
 -- ---- CL
+
+pub lw_layout : (op : ClOp) (half rd rs1 n : ℕ) → op ≡ cl.CLw → IsClType lw_imm half (space_bits (cl_space op)) rd (4 * n) rs1 (cl_funct3 op) → IsClType (cl_read op) half (space_bits (cl_space op)) rd (load_size (cl_load op) * n) rs1 (cl_funct3 op)
+lw_layout cl.CLw half rd rs1 n is h = h
+lw_layout cl.CLd half rd rs1 n is h = absurd (cc)
+
+pub ld_layout : (op : ClOp) (half rd rs1 n : ℕ) → op ≡ cl.CLd → IsClType ld_imm half (space_bits (cl_space op)) rd (8 * n) rs1 (cl_funct3 op) → IsClType (cl_read op) half (space_bits (cl_space op)) rd (load_size (cl_load op) * n) rs1 (cl_funct3 op)
+ld_layout cl.CLw half rd rs1 n is h = absurd (cc)
+ld_layout cl.CLd half rd rs1 n is h = h
 
 pub lw_decodes : (flags : IsaFlags) (op : ClOp) (half rd rs1 n : ℕ) → op ≡ cl.CLw → flags.has_zca ≡ true → IsClType lw_imm half (space_bits (cl_space op)) rd (4 * n) rs1 (cl_funct3 op) → decode_half flags half ≡ Some (decoded_cl op (8 + rd) (8 + rs1) n)
 lw_decodes flags cl.CLw half rd rs1 n is zca h = quadrant_decodes flags half _ zca h.op_is (rw (h.funct3_is, h.r_is, h.rs1_is, h.imm_is))
@@ -66,6 +82,14 @@ ld_decodes flags cl.CLw half rd rs1 n is zca h = absurd (cc)
 ld_decodes flags cl.CLd half rd rs1 n is zca h = quadrant_decodes flags half _ zca h.op_is (rw (h.funct3_is, h.r_is, h.rs1_is, h.imm_is))
 
 -- ---- CS
+
+pub sw_layout : (op : CsOp) (half rs2 rs1 n : ℕ) → op ≡ cs.CSw → IsClType lw_imm half (space_bits (cs_space op)) rs2 (4 * n) rs1 (cs_funct3 op) → IsClType (cs_read op) half (space_bits (cs_space op)) rs2 (store_size (cs_store op) * n) rs1 (cs_funct3 op)
+sw_layout cs.CSw half rs2 rs1 n is h = h
+sw_layout cs.CSd half rs2 rs1 n is h = absurd (cc)
+
+pub sd_layout : (op : CsOp) (half rs2 rs1 n : ℕ) → op ≡ cs.CSd → IsClType ld_imm half (space_bits (cs_space op)) rs2 (8 * n) rs1 (cs_funct3 op) → IsClType (cs_read op) half (space_bits (cs_space op)) rs2 (store_size (cs_store op) * n) rs1 (cs_funct3 op)
+sd_layout cs.CSw half rs2 rs1 n is h = absurd (cc)
+sd_layout cs.CSd half rs2 rs1 n is h = h
 
 pub sw_decodes : (flags : IsaFlags) (op : CsOp) (half rs2 rs1 n : ℕ) → op ≡ cs.CSw → flags.has_zca ≡ true → IsClType lw_imm half (space_bits (cs_space op)) rs2 (4 * n) rs1 (cs_funct3 op) → decode_half flags half ≡ Some (decoded_cs op (8 + rs2) (8 + rs1) n)
 sw_decodes flags cs.CSw half rs2 rs1 n is zca h = quadrant_decodes flags half _ zca h.op_is (rw (h.funct3_is, h.r_is, h.rs1_is, h.imm_is))
@@ -102,6 +126,17 @@ of_bytes op (inr is) = ap funct1_of is
 pub without_sign : (op : ZcbMemOp) → (op ≡ zcb.CLhu) ⊎ (op ≡ zcb.CSh) → funct1_of op ≡ Some 0
 without_sign op (inl is) = ap funct1_of is
 without_sign op (inr is) = ap funct1_of is
+
+pub bytes_layout : (op : ZcbMemOp) (half r rs1 n : ℕ) → funct1_of op ≡ None → IsClbType half (space_bits (zcb_space op)) r n rs1 (zcb_funct6 op) → IsZcbType op half r n rs1
+bytes_layout zcb.CLbu half r rs1 n is h = h
+bytes_layout zcb.CSb half r rs1 n is h = h
+bytes_layout _ half r rs1 n is h = absurd (cc)
+
+pub halfwords_layout : (op : ZcbMemOp) (half r funct1 rs1 n : ℕ) → funct1_of op ≡ Some funct1 → IsClhType half (space_bits (zcb_space op)) r (2 * n) funct1 rs1 (zcb_funct6 op) → IsZcbType op half r n rs1
+halfwords_layout zcb.CLhu half r funct1 rs1 n is h = let bit : funct1 ≡ 0 = cc in subst (λ f. IsClhType half 0 r (2 * n) f rs1 33) bit h
+halfwords_layout zcb.CLh half r funct1 rs1 n is h = let bit : funct1 ≡ 1 = cc in subst (λ f. IsClhType half 0 r (2 * n) f rs1 33) bit h
+halfwords_layout zcb.CSh half r funct1 rs1 n is h = let bit : funct1 ≡ 0 = cc in subst (λ f. IsClhType half 0 r (2 * n) f rs1 35) bit h
+halfwords_layout _ half r funct1 rs1 n is h = absurd (cc)
 
 pub bytes_decode : (flags : IsaFlags) (op : ZcbMemOp) (half r rs1 n : ℕ) → funct1_of op ≡ None → zcb_needs flags ≡ true → IsClbType half (space_bits (zcb_space op)) r n rs1 (zcb_funct6 op) → decode_half flags half ≡ Some (decoded_zcb op (8 + r) (8 + rs1) n)
 bytes_decode flags zcb.CLbu half r rs1 n is needs h = zcb_decodes flags half _ needs h.op_is h.funct6_is refl (rw (bits12 half _ h.funct6_is, h.r_is, h.rs1_is, h.imm_is))

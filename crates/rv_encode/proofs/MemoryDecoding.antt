@@ -1,5 +1,5 @@
 -- Words with the fields of a load or a store, of an integer register or of a floating-point one, are decoded as it, where the machine has it.
-use Rattle.std.proofs.Common.{◌≡◌, ℕ, ◌^◌, Bool, true, ℤ, pos, Option, Some, None, refl, ap, ◌∙◌, arith}
+use Rattle.std.proofs.Common.{◌≡◌, ℕ, ◌^◌, true, ℤ, Option, Some, refl, ap, ◌∙◌, arith}
 use Rattle.std.specs.Option.{option_map, option_and_then}
 use Rattle.std.proofs.lemmas.Int.{ints}
 use Rattle.rv_base.specs.declared.flags.IsaFlags.{IsaFlags}

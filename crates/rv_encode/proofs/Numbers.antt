@@ -59,3 +59,7 @@ signed_sixteens imm = sixteens imm.value (omega (arith, ints)) (omega (arith, in
     sixteens : (z : ℤ) → z <ℤ pos (2 ^ 5) → neg_ℤ (pos (2 ^ 5)) ≤ℤ z → signed (2 ^ 9) (16 * low_bits (2 ^ 6) z) ≡ pos 16 *ℤ z
     sixteens (pos n) up low = let h : n < 2 ^ 5 = omega (arith, ints) in grind (arith, ints)
     sixteens (negsuc n) up low = let h : n < 2 ^ 5 = omega (arith, ints) in grind (arith, ints)
+
+-- a register's number, as three bits of a halfword hold it
+pub less_8 : (r n : ℕ) → 8 + r ≡ n → r ≡ n - 8
+less_8 r n is = omega arith

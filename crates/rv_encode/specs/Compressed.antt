@@ -36,7 +36,9 @@ use Rattle.rv_machine.specs.declared.ops.IntOp.TheVariants as int
 use Rattle.rv_machine.specs.declared.ops.MulOp.TheVariants as mul
 use Rattle.rv_machine.specs.declared.ops.BitOp.TheVariants as bit
 use Rattle.rv_machine.specs.Layout.{compressed}
-use Rattle.rv_machine.specs.Compressed.{ci_bits, addi16sp_bits, lwsp_imm, ldsp_imm}
+use Rattle.rv_machine.specs.Compressed.{ci_bits, addi16sp_bits, lwsp_imm, ldsp_imm, swsp_imm, sdsp_imm, lw_imm, ld_imm}
+use Rattle.rv_ops.specs.Compressed.{space_bits, zcb_funct6, zcb_space}
+use Rattle.rv_encode.specs.Layouts.{IsClbType, IsClhType}
 use Rattle.rv_encode.specs.Operations.{load_op, store_op}
 
 -- ---- CR
@@ -129,6 +131,11 @@ abbrev pub css_store : CssOp → StoreOP
 css_store CSwsp = stores.Sw
 css_store CSdsp = stores.Sd
 
+-- how the halfword's immediate is read
+abbrev pub css_read : CssOp → ℕ → ℕ
+css_read CSwsp = swsp_imm
+css_read CSdsp = sdsp_imm
+
 abbrev pub decoded_css : CssOp → ℕ → ℕ → Decoded
 decoded_css op src imm = compressed (Store (store_op (css_store op))) 0 2 src (pos (store_size (css_store op) * imm))
 
@@ -136,12 +143,20 @@ abbrev pub cs_store : CsOp → StoreOP
 cs_store CSw = stores.Sw
 cs_store CSd = stores.Sd
 
+abbrev pub cs_read : CsOp → ℕ → ℕ
+cs_read CSw = lw_imm
+cs_read CSd = ld_imm
+
 abbrev pub decoded_cs : CsOp → ℕ → ℕ → ℕ → Decoded
 decoded_cs op src base imm = compressed (Store (store_op (cs_store op))) 0 base src (pos (store_size (cs_store op) * imm))
 
 abbrev pub cl_load : ClOp → LoadOP
 cl_load CLw = loads.Lw
 cl_load CLd = loads.Ld
+
+abbrev pub cl_read : ClOp → ℕ → ℕ
+cl_read CLw = lw_imm
+cl_read CLd = ld_imm
 
 abbrev pub decoded_cl : ClOp → ℕ → ℕ → ℕ → Decoded
 decoded_cl op dest base imm = compressed (Load (load_op (cl_load op))) dest base 0 (pos (load_size (cl_load op) * imm))
@@ -185,6 +200,14 @@ decoded_zcb CLhu r base imm = compressed (Load (load_op loads.Lhu)) r base 0 (po
 decoded_zcb CLh r base imm = compressed (Load (load_op loads.Lh)) r base 0 (pos (2 * imm))
 decoded_zcb CSb r base imm = compressed (Store (store_op stores.Sb)) 0 base r (pos imm)
 decoded_zcb CSh r base imm = compressed (Store (store_op stores.Sh)) 0 base r (pos (2 * imm))
+
+-- the fields of a load or a store of a byte, or of a halfword, with the operation's bit 6
+abbrev pub IsZcbType : ZcbMemOp → ℕ → ℕ → ℕ → ℕ → Type 0
+IsZcbType CLbu half r imm rs1 = IsClbType half (space_bits (zcb_space CLbu)) r imm rs1 (zcb_funct6 CLbu)
+IsZcbType CLhu half r imm rs1 = IsClhType half (space_bits (zcb_space CLhu)) r (2 * imm) 0 rs1 (zcb_funct6 CLhu)
+IsZcbType CLh half r imm rs1 = IsClhType half (space_bits (zcb_space CLh)) r (2 * imm) 1 rs1 (zcb_funct6 CLh)
+IsZcbType CSb half r imm rs1 = IsClbType half (space_bits (zcb_space CSb)) r imm rs1 (zcb_funct6 CSb)
+IsZcbType CSh half r imm rs1 = IsClhType half (space_bits (zcb_space CSh)) r (2 * imm) 0 rs1 (zcb_funct6 CSh)
 
 abbrev pub zcb_needs : IsaFlags → Bool
 zcb_needs flags = flags.has_zca && flags.has_zcb

@@ -24,9 +24,11 @@ use Rattle.rv_ops.specs.declared.atomic.AtomicOP.{AtomicOP}
 use Rattle.rv_ops.specs.Atomic.{amo_bits, atomic_op, atomic_width}
 use Rattle.rv_ops.specs.declared.csr.CsrRegOP.{CsrRegOP}
 use Rattle.rv_ops.specs.declared.csr.CsrImmOP.{CsrImmOP}
-use Rattle.rv_ops.specs.FloatFields.{format_of, frm_bits, mode_of}
-use Rattle.rv_ops.specs.Fpu.{fpu_rr_numbers, fpu_rr_op, fpu_rrr_numbers, fpu_rrr_op, fpu_rrrr_op}
-use Rattle.rv_ops.specs.Csr.{csr_reg_op, csr_imm_op}
+use Rattle.rv_ops.specs.declared.csr.CSR.{CSR}
+use Rattle.rv_ops.specs.FloatFields.{format_of, frm_bits, is_width, mode_of, takes_frm}
+use Rattle.rv_ops.specs.Fpu.{fli_funct5, takes_width, with_width}
+use Rattle.rv_ops.specs.Fpu.{fpu_rr_numbers, fpu_rr_op, fpu_rr_widths, fpu_rrr_numbers, fpu_rrr_op, fpu_rrrr_op, fpu_rrrr_opcode}
+use Rattle.rv_ops.specs.Csr.{csr_imm_funct3, csr_imm_op, csr_number, csr_reg_funct3, csr_reg_op}
 use Rattle.rv_ops.specs.Compare.{branch_of, rs1_of, rs2_of}
 use Rattle.rv_ops.specs.Operations.{is_exchanged, rrr_op, rri_op, immediate_of, kept_bits}
 use Rattle.rv_machine.specs.declared.decoding.Decoded.{Decoded}
@@ -39,7 +41,7 @@ use Rattle.rv_machine.specs.declared.ops.FloatOp.TheVariants as float
 use Rattle.rv_machine.specs.declared.ops.LoadOp.{LoadOp}
 use Rattle.rv_machine.specs.declared.ops.LoadOp.TheVariants as load
 use Rattle.rv_machine.specs.declared.ops.StoreOp.{StoreOp}
-use Rattle.rv_machine.specs.Opcodes.{JALR, LOAD, STORE, OP_IMM, OP_IMM_32, OP, OP_32}
+use Rattle.rv_machine.specs.Opcodes.{JALR, LOAD, STORE, OP_IMM, OP_IMM_32, OP, OP_32, OP_FP, SYSTEM}
 use Rattle.rv_machine.specs.UnitDecode.{has_format}
 use Rattle.rv_machine.specs.Tables.{load_entry, store_entry, imm_entry, imm_32_entry, op_entry, op_32_entry}
 pub use Rattle.rv_machine.specs.Layout.{decoded, rounded}
@@ -75,6 +77,50 @@ pub record IsRowOfRRI (op : AluOPRRI) (imm : Imm12) (opcode funct3 bits : ℕ) :
   pub opcode_is : opcode ≡ (rri_numbers op).opcode
   pub funct3_is : funct3 ≡ (rri_numbers op).funct3
   pub bits_are : bits ≡ imm12_of (rri_numbers op).upper (low_bits (2 ^ 12) imm.value)
+
+-- These fields of layout R are a floating-point operation's of two sources, of a width that the machine has and a rounding mode that the
+-- operation takes.
+pub record IsRowOfFpuRRR (op : FpuOPRRR) (width : FpuOPWidth) (frm : FRM) (opcode funct3 funct7 : ℕ) : Type 0 where
+  pub opcode_is : opcode ≡ OP_FP
+  pub funct3_is : funct3 ≡ frm_bits frm
+  pub funct7_is : funct7 ≡ with_width (fpu_rrr_numbers op).funct5 width
+  pub has_width : is_width width ≡ true
+  pub takes_mode : takes_frm (fpu_rrr_numbers op).rounding frm ≡ true
+
+-- one's of one source, whose selector stands in the place of rs2
+pub record IsRowOfFpuRR (op : FpuOPRR) (width : FpuOPWidth) (frm : FRM) (opcode funct3 rs2 funct7 : ℕ) : Type 0 where
+  pub opcode_is : opcode ≡ OP_FP
+  pub funct3_is : funct3 ≡ frm_bits frm
+  pub rs2_is : rs2 ≡ (fpu_rr_numbers op).selector
+  pub funct7_is : funct7 ≡ with_width (fpu_rr_numbers op).funct5 width
+  pub has_width : takes_width (fpu_rr_widths op) width ≡ true
+  pub takes_mode : takes_frm (fpu_rr_numbers op).rounding frm ≡ true
+
+-- a fused multiplication's, whose third source stands over the width
+pub record IsRowOfFpuRRRR (op : FpuOPRRRR) (width : FpuOPWidth) (frm : FRM) (rs3 opcode funct3 funct7 : ℕ) : Type 0 where
+  pub opcode_is : opcode ≡ fpu_rrrr_opcode op
+  pub funct3_is : funct3 ≡ frm_bits frm
+  pub funct7_is : funct7 ≡ with_width rs3 width
+  pub has_width : is_width width ≡ true
+
+-- those of fli, whose constant stands in the place of rs1
+pub record IsRowOfFli (width : FpuOPWidth) (opcode funct3 rs2 funct7 : ℕ) : Type 0 where
+  pub opcode_is : opcode ≡ OP_FP
+  pub funct3_is : funct3 ≡ 0
+  pub rs2_is : rs2 ≡ 1
+  pub funct7_is : funct7 ≡ with_width fli_funct5 width
+  pub has_width : is_width width ≡ true
+
+-- these fields of layout I are those of an operation on a CSR: of a register, or of an immediate in the place of rs1
+pub record IsRowOfCsrReg (op : CsrRegOP) (csr : CSR) (opcode funct3 bits : ℕ) : Type 0 where
+  pub opcode_is : opcode ≡ SYSTEM
+  pub funct3_is : funct3 ≡ csr_reg_funct3 op
+  pub bits_are : bits ≡ csr_number csr
+
+pub record IsRowOfCsrImm (op : CsrImmOP) (csr : CSR) (opcode funct3 bits : ℕ) : Type 0 where
+  pub opcode_is : opcode ≡ SYSTEM
+  pub funct3_is : funct3 ≡ csr_imm_funct3 op
+  pub bits_are : bits ≡ csr_number csr
 
 -- ---- by an instruction's name
 

@@ -11,7 +11,7 @@ ghost use Rattle.rv_machine.specs.declared.ops.IntOp.TheVariants.{Addi};
 ghost use Rattle.rv_machine.specs.Layout.{compressed};
 ghost use Rattle.rv_machine.specs.Compressed.{ci_bits, addi16sp_bits, decode_half};
 ghost use Rattle.rv_ops.specs.declared.compressed.CiOp.TheVariants.{CAddi16sp};
-ghost use Rattle.rv_ops.specs.Compressed.{space_bits, cr_space, cr_funct4, ci_space, ci_funct3, ciw_space, ciw_funct3, cj_space, cj_funct3};
+ghost use Rattle.rv_ops.specs.Compressed.{space_bits, cr_space, cr_funct4, ca_space, ca_funct2, ca_funct6, ci_space, ci_funct3, ciw_space, ciw_funct3, cb_space, cb_funct2, cb_funct3, cj_space, cj_funct3, cszn_space, cszn_funct5, cszn_funct6};
 ghost use Rattle.rv_encode.specs.Registers.{IsRealRegister, IsShortRegister};
 ghost use Rattle.rv_encode.specs.Layouts.{IsEven, IsCrType, IsCaType, IsCiType, IsCiwType, IsCbType, IsCuType, IsCjType, IsCjParts, cj_low_of, cj_high_of};
 ghost use Rattle.rv_encode.specs.Compressed.{DecodesCr, DecodesCr2, ca_op, ca_needs, DecodesCi, decoded_cb, decoded_cszn, cszn_needs};
@@ -77,6 +77,7 @@ pub fn encode_cr2_type(op: CrOp, rs1: Reg) -> u16
 pub fn encode_ca_type(op: CaOp, rd: WritableReg, rs2: Reg) -> u16
     requires rd { IsShortRegister rd.reg }
     requires rs2 { IsShortRegister rs2 }
+    ensures layout { IsCaType result (space_bits (ca_space op)) (number_of rs2 - 8) (ca_funct2 op) (number_of rd.reg - 8) (ca_funct6 op) }
     ensures decodes { (flags : IsaFlags) → ca_needs flags op ≡ true → decode_half flags result ≡ Some (compressed (Alu (ca_op op)) (number_of rd.reg) (number_of rd.reg) (number_of rs2) (pos 0)) }
     ensures without { (flags : IsaFlags) → ca_needs flags op ≡ false → decode_half flags result ≡ None }
     ensures narrow { nat_eq (result % 4) 3 ≡ false }
@@ -177,6 +178,7 @@ pub fn encode_ciw_type(op: CiwOp, rd: WritableReg, imm: u8) -> u16
 /// ```
 pub fn encode_cb_type(op: CbOp, rd: WritableReg, imm: Imm6) -> u16
     requires { IsShortRegister rd.reg }
+    ensures layout { IsCbType result (space_bits (cb_space op)) (low_bits (2 ^ 6) imm.value) (number_of rd.reg - 8) (cb_funct2 op) (cb_funct3 op) }
     ensures decodes { (flags : IsaFlags) → flags.has_zca ≡ true → decode_half flags result ≡ Some (decoded_cb op (number_of rd.reg) imm.value) }
     ensures without { (flags : IsaFlags) → flags.has_zca ≡ false → decode_half flags result ≡ None }
     ensures narrow { nat_eq (result % 4) 3 ≡ false }
@@ -198,6 +200,7 @@ pub fn encode_cb_type(op: CbOp, rd: WritableReg, imm: Imm6) -> u16
 /// ```
 pub fn encode_cszn_type(op: CsznOp, rd: WritableReg) -> u16
     requires { IsShortRegister rd.reg }
+    ensures layout { IsCuType result (space_bits (cszn_space op)) (cszn_funct5 op) (number_of rd.reg - 8) (cszn_funct6 op) }
     ensures decodes { (flags : IsaFlags) → cszn_needs flags op ≡ true → decode_half flags result ≡ Some (decoded_cszn op (number_of rd.reg)) }
     ensures without { (flags : IsaFlags) → cszn_needs flags op ≡ false → decode_half flags result ≡ None }
     ensures narrow { nat_eq (result % 4) 3 ≡ false }

@@ -1,11 +1,14 @@
 //! The halfwords of compressed loads and stores of doublewords of the floating-point registers: "RVC Instruction Set Listings".
 //! They are the decoder's under `has_zca` and `has_zcd`; each immediate counts doublewords of 8 bytes.
 
-ghost use Rattle.std.specs.Prelude.{◌≡◌, ◌%◌, ◌&&◌, nat_eq, true, false, Some, None};
+ghost use Rattle.std.specs.Prelude.{◌≡◌, ◌-◌, ◌*◌, ◌%◌, ◌&&◌, nat_eq, true, false, Some, None};
 ghost use Rattle.rv_base.specs.declared.flags.IsaFlags.{IsaFlags};
 ghost use Rattle.rv_base.specs.Regs.{number_of};
-ghost use Rattle.rv_machine.specs.Compressed.{decode_half};
+ghost use Rattle.rv_machine.specs.Compressed.{ld_imm, ldsp_imm, sdsp_imm, decode_half};
+ghost use Rattle.rv_ops.specs.declared.compressed.CFloatOp.TheVariants.{CFld, CFsd, CFldsp, CFsdsp};
+ghost use Rattle.rv_ops.specs.Compressed.{space_bits, c_float_space, c_float_funct3};
 ghost use Rattle.rv_encode.specs.Registers.{IsRealRegister, IsShortRegister};
+ghost use Rattle.rv_encode.specs.Layouts.{IsCiType, IsClType, IsCssType};
 ghost use Rattle.rv_encode.specs.Compressed.{decoded_fld, decoded_fsd, decoded_fldsp, decoded_fsdsp};
 
 use crate::compressed::reg_to_compressed_gpr_num;
@@ -24,6 +27,7 @@ use rv_ops::CFloatOp;
 pub fn encode_c_fld(dest: WritableReg, base: Reg, imm: Uimm5) -> u16
     requires dest { IsShortRegister dest.reg }
     requires base { IsShortRegister base }
+    ensures layout { IsClType ld_imm result (space_bits (c_float_space CFld)) (number_of dest.reg - 8) (8 * imm.value) (number_of base - 8) (c_float_funct3 CFld) }
     ensures decodes { (flags : IsaFlags) → flags.has_zca ≡ true → flags.has_zcd ≡ true → decode_half flags result ≡ Some (decoded_fld (number_of dest.reg) (number_of base) imm.value) }
     ensures without { (flags : IsaFlags) → (flags.has_zca && flags.has_zcd) ≡ false → decode_half flags result ≡ None }
     ensures narrow { nat_eq (result % 4) 3 ≡ false }
@@ -47,6 +51,7 @@ pub fn encode_c_fld(dest: WritableReg, base: Reg, imm: Uimm5) -> u16
 pub fn encode_c_fsd(src: Reg, base: Reg, imm: Uimm5) -> u16
     requires src { IsShortRegister src }
     requires base { IsShortRegister base }
+    ensures layout { IsClType ld_imm result (space_bits (c_float_space CFsd)) (number_of src - 8) (8 * imm.value) (number_of base - 8) (c_float_funct3 CFsd) }
     ensures decodes { (flags : IsaFlags) → flags.has_zca ≡ true → flags.has_zcd ≡ true → decode_half flags result ≡ Some (decoded_fsd (number_of src) (number_of base) imm.value) }
     ensures without { (flags : IsaFlags) → (flags.has_zca && flags.has_zcd) ≡ false → decode_half flags result ≡ None }
     ensures narrow { nat_eq (result % 4) 3 ≡ false }
@@ -69,6 +74,7 @@ pub fn encode_c_fsd(src: Reg, base: Reg, imm: Uimm5) -> u16
 /// ```
 pub fn encode_c_fldsp(rd: WritableReg, imm: Uimm6) -> u16
     requires { IsRealRegister rd.reg }
+    ensures layout { IsCiType ldsp_imm result (space_bits (c_float_space CFldsp)) (8 * imm.value) (number_of rd.reg) (c_float_funct3 CFldsp) }
     ensures decodes { (flags : IsaFlags) → flags.has_zca ≡ true → flags.has_zcd ≡ true → decode_half flags result ≡ Some (decoded_fldsp (number_of rd.reg) imm.value) }
     ensures without { (flags : IsaFlags) → (flags.has_zca && flags.has_zcd) ≡ false → decode_half flags result ≡ None }
     ensures narrow { nat_eq (result % 4) 3 ≡ false }
@@ -90,6 +96,7 @@ pub fn encode_c_fldsp(rd: WritableReg, imm: Uimm6) -> u16
 /// ```
 pub fn encode_c_fsdsp(src: Reg, imm: Uimm6) -> u16
     requires { IsRealRegister src }
+    ensures layout { IsCssType sdsp_imm result (space_bits (c_float_space CFsdsp)) (number_of src) (8 * imm.value) (c_float_funct3 CFsdsp) }
     ensures decodes { (flags : IsaFlags) → flags.has_zca ≡ true → flags.has_zcd ≡ true → decode_half flags result ≡ Some (decoded_fsdsp (number_of src) imm.value) }
     ensures without { (flags : IsaFlags) → (flags.has_zca && flags.has_zcd) ≡ false → decode_half flags result ≡ None }
     ensures narrow { nat_eq (result % 4) 3 ≡ false }

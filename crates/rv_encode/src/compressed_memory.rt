@@ -1,16 +1,16 @@
 //! The halfwords of compressed loads and stores: "RVC Instruction Set Listings" and "Zcb". Each immediate counts what the
 //! access reads or writes: words of 4 bytes, doublewords of 8, halfwords of 2, or bytes.
 
-ghost use Rattle.std.specs.Prelude.{◌≡◌, ◌<◌, ◌*◌, ◌%◌, ◌^◌, nat_eq, true, false, Some, None, IsSome};
+ghost use Rattle.std.specs.Prelude.{◌≡◌, ◌<◌, ◌-◌, ◌*◌, ◌%◌, ◌^◌, nat_eq, true, false, Some, None, IsSome};
 ghost use Rattle.rv_base.specs.declared.flags.IsaFlags.{IsaFlags};
 ghost use Rattle.rv_base.specs.Regs.{number_of};
 ghost use Rattle.rv_machine.specs.Compressed.{lwsp_imm, ldsp_imm, swsp_imm, sdsp_imm, lw_imm, ld_imm, decode_half};
 ghost use Rattle.rv_ops.specs.declared.memory.LoadOP.{LoadOP};
-ghost use Rattle.rv_ops.specs.Compressed.{space_bits, ci_space, ci_funct3, zcb_imm_bits};
-ghost use Rattle.rv_ops.specs.Memory.{load_size};
+ghost use Rattle.rv_ops.specs.Compressed.{space_bits, ci_space, ci_funct3, css_space, css_funct3, cs_space, cs_funct3, cl_space, cl_funct3, zcb_imm_bits};
+ghost use Rattle.rv_ops.specs.Memory.{load_size, store_size};
 ghost use Rattle.rv_encode.specs.Registers.{IsRealRegister, IsShortRegister};
 ghost use Rattle.rv_encode.specs.Layouts.{IsCiType, IsCssType, IsClType, IsClbType, IsClhType};
-ghost use Rattle.rv_encode.specs.Compressed.{read_of, sp_load, decoded_sp_load, decoded_css, decoded_cs, decoded_cl, decoded_zcb, zcb_needs};
+ghost use Rattle.rv_encode.specs.Compressed.{read_of, sp_load, decoded_sp_load, css_read, css_store, decoded_css, cs_read, cs_store, decoded_cs, cl_read, cl_load, decoded_cl, decoded_zcb, zcb_needs, IsZcbType};
 
 use crate::compressed::reg_to_compressed_gpr_num;
 use crate::layouts::reg_to_gpr_num;
@@ -51,6 +51,7 @@ pub fn encode_ci_sp_load(op: CiOp, rd: WritableReg, imm: Uimm6) -> u16
 /// ```
 pub fn encode_css_type(op: CssOp, src: Reg, imm: Uimm6) -> u16
     requires { IsRealRegister src }
+    ensures layout { IsCssType (css_read op) result (space_bits (css_space op)) (number_of src) (store_size (css_store op) * imm.value) (css_funct3 op) }
     ensures decodes { (flags : IsaFlags) → flags.has_zca ≡ true → decode_half flags result ≡ Some (decoded_css op (number_of src) imm.value) }
     ensures without { (flags : IsaFlags) → flags.has_zca ≡ false → decode_half flags result ≡ None }
     ensures narrow { nat_eq (result % 4) 3 ≡ false }
@@ -74,6 +75,7 @@ pub fn encode_css_type(op: CssOp, src: Reg, imm: Uimm6) -> u16
 pub fn encode_cs_type(op: CsOp, src: Reg, base: Reg, imm: Uimm5) -> u16
     requires src { IsShortRegister src }
     requires base { IsShortRegister base }
+    ensures layout { IsClType (cs_read op) result (space_bits (cs_space op)) (number_of src - 8) (store_size (cs_store op) * imm.value) (number_of base - 8) (cs_funct3 op) }
     ensures decodes { (flags : IsaFlags) → flags.has_zca ≡ true → decode_half flags result ≡ Some (decoded_cs op (number_of src) (number_of base) imm.value) }
     ensures without { (flags : IsaFlags) → flags.has_zca ≡ false → decode_half flags result ≡ None }
     ensures narrow { nat_eq (result % 4) 3 ≡ false }
@@ -98,6 +100,7 @@ pub fn encode_cs_type(op: CsOp, src: Reg, base: Reg, imm: Uimm5) -> u16
 pub fn encode_cl_type(op: ClOp, dest: WritableReg, base: Reg, imm: Uimm5) -> u16
     requires dest { IsShortRegister dest.reg }
     requires base { IsShortRegister base }
+    ensures layout { IsClType (cl_read op) result (space_bits (cl_space op)) (number_of dest.reg - 8) (load_size (cl_load op) * imm.value) (number_of base - 8) (cl_funct3 op) }
     ensures decodes { (flags : IsaFlags) → flags.has_zca ≡ true → decode_half flags result ≡ Some (decoded_cl op (number_of dest.reg) (number_of base) imm.value) }
     ensures without { (flags : IsaFlags) → flags.has_zca ≡ false → decode_half flags result ≡ None }
     ensures narrow { nat_eq (result % 4) 3 ≡ false }
@@ -124,6 +127,7 @@ pub fn encode_zcbmem_load(op: ZcbMemOp, rd: WritableReg, base: Reg, imm: Uimm2) 
     requires rd { IsShortRegister rd.reg }
     requires base { IsShortRegister base }
     requires imm { imm.value < 2 ^ zcb_imm_bits op }
+    ensures layout { IsZcbType op result (number_of rd.reg - 8) imm.value (number_of base - 8) }
     ensures decodes { (flags : IsaFlags) → zcb_needs flags ≡ true → decode_half flags result ≡ Some (decoded_zcb op (number_of rd.reg) (number_of base) imm.value) }
     ensures without { (flags : IsaFlags) → zcb_needs flags ≡ false → decode_half flags result ≡ None }
     ensures narrow { nat_eq (result % 4) 3 ≡ false }
@@ -142,6 +146,7 @@ pub fn encode_zcbmem_store(op: ZcbMemOp, src: Reg, base: Reg, imm: Uimm2) -> u16
     requires src { IsShortRegister src }
     requires base { IsShortRegister base }
     requires imm { imm.value < 2 ^ zcb_imm_bits op }
+    ensures layout { IsZcbType op result (number_of src - 8) imm.value (number_of base - 8) }
     ensures decodes { (flags : IsaFlags) → zcb_needs flags ≡ true → decode_half flags result ≡ Some (decoded_zcb op (number_of src) (number_of base) imm.value) }
     ensures without { (flags : IsaFlags) → zcb_needs flags ≡ false → decode_half flags result ≡ None }
     ensures narrow { nat_eq (result % 4) 3 ≡ false }
@@ -154,6 +159,7 @@ fn zcbmem_half(op: ZcbMemOp, dest_src: Reg, base: Reg, imm: Uimm2) -> u16
     requires dest_src { IsShortRegister dest_src }
     requires base { IsShortRegister base }
     requires imm { imm.value < 2 ^ zcb_imm_bits op }
+    ensures layout { IsZcbType op result (number_of dest_src - 8) imm.value (number_of base - 8) }
     ensures decodes { (flags : IsaFlags) → zcb_needs flags ≡ true → decode_half flags result ≡ Some (decoded_zcb op (number_of dest_src) (number_of base) imm.value) }
     ensures without { (flags : IsaFlags) → zcb_needs flags ≡ false → decode_half flags result ≡ None }
     ensures narrow { nat_eq (result % 4) 3 ≡ false }

@@ -9,10 +9,20 @@ ghost use Rattle.rv_imms.specs.Bits.{low_bits};
 ghost use Rattle.rv_encode.specs.Registers.{IsRealRegister};
 ghost use Rattle.rv_imms.specs.declared.imm12.Imm12.{Imm12};
 ghost use Rattle.rv_ops.specs.declared.alu.AluOPRRI.{AluOPRRI};
+ghost use Rattle.rv_ops.specs.declared.csr.CSR.{CSR};
+ghost use Rattle.rv_ops.specs.declared.csr.CsrImmOP.{CsrImmOP};
+ghost use Rattle.rv_ops.specs.declared.csr.CsrRegOP.{CsrRegOP};
+ghost use Rattle.rv_ops.specs.declared.float_fields.FRM.{FRM};
+ghost use Rattle.rv_ops.specs.declared.float_fields.FpuOPWidth.{FpuOPWidth};
+ghost use Rattle.rv_ops.specs.declared.fpu.FpuOPRRR.{FpuOPRRR};
+ghost use Rattle.rv_ops.specs.declared.fpu.FpuOPRRRR.{FpuOPRRRR};
+ghost use Rattle.rv_ops.specs.declared.fpu_rr.FpuOPRR.{FpuOPRR};
 ghost use Rattle.rv_ops.specs.declared.memory.LoadOP.{LoadOP};
 ghost use Rattle.rv_ops.specs.declared.memory.StoreOP.{StoreOP};
 ghost use Rattle.rv_ops.specs.Memory.{load_opcode, load_funct3, store_opcode, store_funct3};
 ghost use Rattle.rv_encode.specs.Operations.{decoded, r_op, i_op, s_op, IsRowOfRRI, decoded_rri, has_load, has_store, decoded_load, decoded_store};
+ghost use Rattle.rv_encode.specs.Operations.{IsRowOfFpuRRR, IsRowOfFpuRR, IsRowOfFpuRRRR, IsRowOfFli, IsRowOfCsrReg, IsRowOfCsrImm};
+ghost use Rattle.rv_encode.specs.Operations.{decoded_fpu_rrr, decoded_fpu_rr, decoded_fpu_rrrr, decoded_fli, decoded_csr_reg, decoded_csr_imm};
 ghost use Rattle.rv_encode.specs.Layouts.{IsRType, IsIType, IsSType, IsBType, IsUType, IsJType};
 
 use rv_base::{Reg, WritableReg};
@@ -59,6 +69,10 @@ pub fn encode_r_type(
     requires funct7 { funct7 < 2 ^ 7 }
     ensures layout { IsRType result opcode (number_of rd.reg) funct3 (number_of rs1) (number_of rs2) funct7 }
     ensures decodes { (flags : IsaFlags) (op : MOp) → r_op opcode funct3 funct7 ≡ Some op → decode flags result ≡ Some (decoded op (number_of rd.reg) (number_of rs1) (number_of rs2) (pos 0)) }
+    ensures floats { (flags : IsaFlags) (op : FpuOPRRR) (width : FpuOPWidth) (frm : FRM) → IsRowOfFpuRRR op width frm opcode funct3 funct7 → decode flags result ≡ Some (decoded_fpu_rrr op width frm (number_of rd.reg) (number_of rs1) (number_of rs2)) }
+    ensures floats_of_one { (flags : IsaFlags) (op : FpuOPRR) (width : FpuOPWidth) (frm : FRM) → IsRowOfFpuRR op width frm opcode funct3 (number_of rs2) funct7 → decode flags result ≡ Some (decoded_fpu_rr op width frm (number_of rd.reg) (number_of rs1)) }
+    ensures fused { (flags : IsaFlags) (op : FpuOPRRRR) (width : FpuOPWidth) (frm : FRM) (rs3 : ℕ) → IsRowOfFpuRRRR op width frm rs3 opcode funct3 funct7 → decode flags result ≡ Some (decoded_fpu_rrrr op width frm (number_of rd.reg) (number_of rs1) (number_of rs2) rs3) }
+    ensures constants { (flags : IsaFlags) (width : FpuOPWidth) → IsRowOfFli width opcode funct3 (number_of rs2) funct7 → decode flags result ≡ Some (decoded_fli width (number_of rd.reg) (number_of rs1)) }
     ensures alike { (flags : IsaFlags) (word : ℕ) → word < 2 ^ 32 → IsRType word opcode (number_of rd.reg) funct3 (number_of rs1) (number_of rs2) funct7 → decode flags result ≡ decode flags word }
 {
     r_word(
@@ -86,6 +100,8 @@ pub fn encode_i_type(opcode: u32, rd: WritableReg, width: u32, rs1: Reg, offset:
     ensures decodes { (flags : IsaFlags) (op : MOp) → i_op opcode width ≡ Some op → decode flags result ≡ Some (decoded op (number_of rd.reg) (number_of rs1) 0 offset.value) }
     ensures rows { (flags : IsaFlags) (op : AluOPRRI) (imm : Imm12) → IsRowOfRRI op imm opcode width (low_bits (2 ^ 12) offset.value) → decode flags result ≡ Some (decoded_rri op (number_of rd.reg) (number_of rs1) imm.value) }
     ensures loads { (flags : IsaFlags) (op : LoadOP) → has_load flags op ≡ true → opcode ≡ load_opcode op → width ≡ load_funct3 op → decode flags result ≡ Some (decoded_load op (number_of rd.reg) (number_of rs1) offset.value) }
+    ensures csr_registers { (flags : IsaFlags) (op : CsrRegOP) (csr : CSR) → IsRowOfCsrReg op csr opcode width (low_bits (2 ^ 12) offset.value) → decode flags result ≡ Some (decoded_csr_reg op (number_of rd.reg) (number_of rs1)) }
+    ensures csr_immediates { (flags : IsaFlags) (op : CsrImmOP) (csr : CSR) → IsRowOfCsrImm op csr opcode width (low_bits (2 ^ 12) offset.value) → decode flags result ≡ Some (decoded_csr_imm op (number_of rd.reg) (number_of rs1)) }
     ensures alike { (flags : IsaFlags) (word : ℕ) → word < 2 ^ 32 → IsIType word opcode (number_of rd.reg) width (number_of rs1) (low_bits (2 ^ 12) offset.value) → decode flags result ≡ decode flags word }
 {
     i_word(

@@ -1,5 +1,5 @@
 -- What registers that are chosen as they are asked for do for each kind of instruction.
-use Rattle.std.specs.Prelude.{◌++◌, ◌&&◌, ◌||◌, not, ℕ, Bool, false, List, [], ◌∷◌, map, Option, None, Some}
+use Rattle.std.specs.Prelude.{◌++◌, ◌&&◌, ◌||◌, not, Bool, false, List, [], ◌∷◌, map, Option, None, Some}
 use Rattle.std.specs.List.{list_any}
 use Rattle.std.proofs.Common.{◌≡◌, refl, ap, ◌∙◌, subst}
 use Rattle.rv_base.specs.declared.amode.AMode.{AMode}
@@ -30,16 +30,16 @@ use Rattle.rv_inst.specs.Descriptions.{Description, Word, Computes, Gives, all_i
 use Rattle.rv_inst.specs.declared.sequence.Sequence.{Sequence}
 use Rattle.rv_inst.specs.declared.units.PlacedReg.{PlacedReg}
 use Rattle.rv_operands.specs.Operand.{Operand, reads, reads_at, scratches, writes, writes_at, writes_early, constraint_of}
-use Rattle.rv_operands.specs.Operands.{row_of, operands_of, described_operands, own_operands, result_operand, scratch_operand, unit_operands, use_operand, def_operand, select_operands}
-use Rattle.rv_operands.specs.Meeting.{chosen, definitions, AreDistinct, AreMet, AreFree, ArePlaced, AreOfClasses, AreChosen, KeepsRules}
+use Rattle.rv_operands.specs.Operands.{row_of, operands_of, constraints_of, described_operands, own_operands, result_operand, scratch_operand, unit_operands, use_operand, def_operand, select_operands}
+use Rattle.rv_operands.specs.Meeting.{chosen, definitions, AreDistinct, AreMet, AreFree, ArePlaced, AreOfClasses, HasClasses, HasFree, KeepsRules}
 use Rattle.rv_operands.proofs.ClearRegisters.{quiet, virtual_clear, reserved_clear}
 use Rattle.rv_operands.proofs.Keeping.{either, and_none, or_none, apart, absent, no_clash, same_stack, same_frame, not_other, alike, pairs_alike, args_alike, rets_alike, uses_alike, defs_alike, both_classes, into, call_written, results_placed, no_results_clash}
 
 -- the rules on classes, on x0 and on clashes
 record KeepsThree (inst : Inst) : Type 0 where
-  pub class : is_misplaced inst ≡ (row_of inst).misnamed
-  pub zero : has_zero inst ≡ false
-  pub clash : has_clash inst ≡ (row_of inst).uneven
+  pub class : HasClasses inst → is_misplaced inst ≡ (row_of inst).misnamed
+  pub zero : HasFree inst → has_zero inst ≡ false
+  pub clash : HasFree inst → has_clash inst ≡ (row_of inst).uneven
 
 -- ---- choices
 
@@ -53,41 +53,41 @@ select_apart (Two v w) c (One a) (Two b b2) m = no_clash (v.reg ∷ w.reg ∷ []
 select_apart (Two v w) c (Two a a2) (One b) m = no_clash (v.reg ∷ w.reg ∷ []) (c.rs1 ∷ c.rs2 ∷ a ∷ a2 ∷ b ∷ []) m.distinct m.early
 select_apart (Two v w) c (Two a a2) (Two b b2) m = no_clash (v.reg ∷ w.reg ∷ []) (c.rs1 ∷ c.rs2 ∷ a ∷ a2 ∷ b ∷ b2 ∷ []) m.distinct m.early
 
-select_keeps : (info : SelectInfo) → AreChosen (Select info) → KeepsThree (Select info)
-select_keeps info c = record {
-  class = (let first = not_other info.condition.rs1 c.classes.0 in let second = not_other info.condition.rs2 c.classes.1.0 in λ i. (first i || (second i || false)) || values_differ (written_in info.dst) (all_of info.x) (all_of info.y));
-  zero = refl;
-  clash = ap (λ b. is_uneven info.dst info.x info.y || b) (select_apart info.dst info.condition info.x info.y c.met) ∙ or_none (is_uneven info.dst info.x info.y);
+select_keeps : (info : SelectInfo) → AreMet (constraints_of (Select info)) → KeepsThree (Select info)
+select_keeps info met = record {
+  class = λ c. (let first = not_other info.condition.rs1 c.operands.0 in let second = not_other info.condition.rs2 c.operands.1.0 in λ i. (first i || (second i || false)) || values_differ (written_in info.dst) (all_of info.x) (all_of info.y));
+  zero = λ f. refl;
+  clash = λ f. ap (λ b. is_uneven info.dst info.x info.y || b) (select_apart info.dst info.condition info.x info.y met) ∙ or_none (is_uneven info.dst info.x info.y);
 }
 
 -- ---- addresses
 
-load_keeps : (rd : Writable Reg) (op : LoadOP) (flags : MemFlagsData) (from : AMode) → AreChosen (Load rd op flags from) → KeepsThree (Load rd op flags from)
-load_keeps rd op flags (RegOffset r o) c = record { class = either (alike (class_of rd.reg) (load_class op) c.classes.1.0) (either (not_other r c.classes.0) refl); zero = refl; clash = refl }
-load_keeps rd op flags (SPOffset o) c = record { class = either (alike (class_of rd.reg) (load_class op) c.classes.0) refl; zero = refl; clash = refl }
-load_keeps rd op flags (FPOffset o) c = record { class = either (alike (class_of rd.reg) (load_class op) c.classes.0) refl; zero = refl; clash = refl }
-load_keeps rd op flags (SlotOffset o) c = record { class = either (alike (class_of rd.reg) (load_class op) c.classes.0) refl; zero = refl; clash = refl }
-load_keeps rd op flags (IncomingArg o) c = record { class = either (alike (class_of rd.reg) (load_class op) c.classes.0) refl; zero = refl; clash = refl }
-load_keeps rd op flags (Const k) c = record { class = either (alike (class_of rd.reg) (load_class op) c.classes.0) refl; zero = c.free.0.not_zero; clash = refl }
-load_keeps rd op flags (Label l) c = record { class = either (alike (class_of rd.reg) (load_class op) c.classes.0) refl; zero = c.free.0.not_zero; clash = refl }
+load_keeps : (rd : Writable Reg) (op : LoadOP) (flags : MemFlagsData) (from : AMode) → AreMet (constraints_of (Load rd op flags from)) → KeepsThree (Load rd op flags from)
+load_keeps rd op flags (RegOffset r o) met = record { class = λ c. either (alike (class_of rd.reg) (load_class op) c.operands.1.0) (either (not_other r c.operands.0) refl); zero = λ f. refl; clash = λ f. refl }
+load_keeps rd op flags (SPOffset o) met = record { class = λ c. either (alike (class_of rd.reg) (load_class op) c.operands.0) refl; zero = λ f. refl; clash = λ f. refl }
+load_keeps rd op flags (FPOffset o) met = record { class = λ c. either (alike (class_of rd.reg) (load_class op) c.operands.0) refl; zero = λ f. refl; clash = λ f. refl }
+load_keeps rd op flags (SlotOffset o) met = record { class = λ c. either (alike (class_of rd.reg) (load_class op) c.operands.0) refl; zero = λ f. refl; clash = λ f. refl }
+load_keeps rd op flags (IncomingArg o) met = record { class = λ c. either (alike (class_of rd.reg) (load_class op) c.operands.0) refl; zero = λ f. refl; clash = λ f. refl }
+load_keeps rd op flags (Const k) met = record { class = λ c. either (alike (class_of rd.reg) (load_class op) c.operands.0) refl; zero = λ f. f.written.0.not_zero; clash = λ f. refl }
+load_keeps rd op flags (Label l) met = record { class = λ c. either (alike (class_of rd.reg) (load_class op) c.operands.0) refl; zero = λ f. f.written.0.not_zero; clash = λ f. refl }
 
-store_keeps : (src : Reg) (op : StoreOP) (flags : MemFlagsData) (to : AMode) → AreChosen (Store src op flags to) → KeepsThree (Store src op flags to)
-store_keeps src op flags (RegOffset r o) c = record { class = either (alike (class_of src) (store_class op) c.classes.1.0) (either (not_other r c.classes.0) refl); zero = refl; clash = refl }
-store_keeps src op flags (SPOffset o) c = record { class = either (alike (class_of src) (store_class op) c.classes.0) refl; zero = refl; clash = refl }
-store_keeps src op flags (FPOffset o) c = record { class = either (alike (class_of src) (store_class op) c.classes.0) refl; zero = refl; clash = refl }
-store_keeps src op flags (SlotOffset o) c = record { class = either (alike (class_of src) (store_class op) c.classes.0) refl; zero = refl; clash = refl }
-store_keeps src op flags (IncomingArg o) c = record { class = either (alike (class_of src) (store_class op) c.classes.0) refl; zero = refl; clash = refl }
-store_keeps src op flags (Const k) c = record { class = either (alike (class_of src) (store_class op) c.classes.0) refl; zero = refl; clash = refl }
-store_keeps src op flags (Label l) c = record { class = either (alike (class_of src) (store_class op) c.classes.0) refl; zero = refl; clash = refl }
+store_keeps : (src : Reg) (op : StoreOP) (flags : MemFlagsData) (to : AMode) → AreMet (constraints_of (Store src op flags to)) → KeepsThree (Store src op flags to)
+store_keeps src op flags (RegOffset r o) met = record { class = λ c. either (alike (class_of src) (store_class op) c.operands.1.0) (either (not_other r c.operands.0) refl); zero = λ f. refl; clash = λ f. refl }
+store_keeps src op flags (SPOffset o) met = record { class = λ c. either (alike (class_of src) (store_class op) c.operands.0) refl; zero = λ f. refl; clash = λ f. refl }
+store_keeps src op flags (FPOffset o) met = record { class = λ c. either (alike (class_of src) (store_class op) c.operands.0) refl; zero = λ f. refl; clash = λ f. refl }
+store_keeps src op flags (SlotOffset o) met = record { class = λ c. either (alike (class_of src) (store_class op) c.operands.0) refl; zero = λ f. refl; clash = λ f. refl }
+store_keeps src op flags (IncomingArg o) met = record { class = λ c. either (alike (class_of src) (store_class op) c.operands.0) refl; zero = λ f. refl; clash = λ f. refl }
+store_keeps src op flags (Const k) met = record { class = λ c. either (alike (class_of src) (store_class op) c.operands.0) refl; zero = λ f. refl; clash = λ f. refl }
+store_keeps src op flags (Label l) met = record { class = λ c. either (alike (class_of src) (store_class op) c.operands.0) refl; zero = λ f. refl; clash = λ f. refl }
 
-load_addr_keeps : (rd : Writable Reg) (mem : AMode) → AreChosen (LoadAddr rd mem) → KeepsThree (LoadAddr rd mem)
-load_addr_keeps rd (RegOffset r o) c = record { class = either (not_other rd.reg c.classes.1.0) (either (not_other r c.classes.0) refl); zero = c.free.0.not_zero; clash = apart rd.reg r c.met.early.0.0 }
-load_addr_keeps rd (SPOffset o) c = record { class = either (not_other rd.reg c.classes.0) refl; zero = c.free.0.not_zero; clash = same_stack rd.reg ∙ c.free.0.not_stack }
-load_addr_keeps rd (FPOffset o) c = record { class = either (not_other rd.reg c.classes.0) refl; zero = c.free.0.not_zero; clash = same_frame rd.reg ∙ c.free.0.not_frame }
-load_addr_keeps rd (SlotOffset o) c = record { class = either (not_other rd.reg c.classes.0) refl; zero = c.free.0.not_zero; clash = same_stack rd.reg ∙ c.free.0.not_stack }
-load_addr_keeps rd (IncomingArg o) c = record { class = either (not_other rd.reg c.classes.0) refl; zero = c.free.0.not_zero; clash = same_stack rd.reg ∙ c.free.0.not_stack }
-load_addr_keeps rd (Const k) c = record { class = either (not_other rd.reg c.classes.0) refl; zero = c.free.0.not_zero; clash = refl }
-load_addr_keeps rd (Label l) c = record { class = either (not_other rd.reg c.classes.0) refl; zero = c.free.0.not_zero; clash = refl }
+load_addr_keeps : (rd : Writable Reg) (mem : AMode) → AreMet (constraints_of (LoadAddr rd mem)) → KeepsThree (LoadAddr rd mem)
+load_addr_keeps rd (RegOffset r o) met = record { class = λ c. either (not_other rd.reg c.operands.1.0) (either (not_other r c.operands.0) refl); zero = λ f. f.written.0.not_zero; clash = λ f. apart rd.reg r met.early.0.0 }
+load_addr_keeps rd (SPOffset o) met = record { class = λ c. either (not_other rd.reg c.operands.0) refl; zero = λ f. f.written.0.not_zero; clash = λ f. same_stack rd.reg ∙ f.written.0.not_stack }
+load_addr_keeps rd (FPOffset o) met = record { class = λ c. either (not_other rd.reg c.operands.0) refl; zero = λ f. f.written.0.not_zero; clash = λ f. same_frame rd.reg ∙ f.written.0.not_frame }
+load_addr_keeps rd (SlotOffset o) met = record { class = λ c. either (not_other rd.reg c.operands.0) refl; zero = λ f. f.written.0.not_zero; clash = λ f. same_stack rd.reg ∙ f.written.0.not_stack }
+load_addr_keeps rd (IncomingArg o) met = record { class = λ c. either (not_other rd.reg c.operands.0) refl; zero = λ f. f.written.0.not_zero; clash = λ f. same_stack rd.reg ∙ f.written.0.not_stack }
+load_addr_keeps rd (Const k) met = record { class = λ c. either (not_other rd.reg c.operands.0) refl; zero = λ f. f.written.0.not_zero; clash = λ f. refl }
+load_addr_keeps rd (Label l) met = record { class = λ c. either (not_other rd.reg c.operands.0) refl; zero = λ f. f.written.0.not_zero; clash = λ f. refl }
 
 -- ---- calls
 
@@ -97,29 +97,27 @@ call_apart before uses defs after none all same met placed free =
     let written : definitions all ≡ map into defs = same ∙ call_written uses defs after none in
     no_results_clash all defs (subst AreDistinct written met.distinct) (subst AreFree written free) (results_placed all uses defs after placed)
 
-call_keeps : (info : CallInfo _) → AreChosen (Call info) → KeepsThree (Call info)
-call_keeps info c =
-    let classes = both_classes (map use_operand info.uses) (map def_operand info.defs) c.classes in
+call_keeps : (info : CallInfo _) → AreMet (constraints_of (Call info)) → KeepsThree (Call info)
+call_keeps info met =
     record {
-      class = either (uses_alike info.uses classes.0) (defs_alike info.defs classes.1);
-      zero = refl;
-      clash = call_apart [] info.uses info.defs (RegClobbers info.clobbers ∷ []) refl _ refl c.met c.met.placed c.free;
+      class = λ c. (let classes = both_classes (map use_operand info.uses) (map def_operand info.defs) c.operands in either (uses_alike info.uses classes.0) (defs_alike info.defs classes.1));
+      zero = λ f. refl;
+      clash = λ f. call_apart [] info.uses info.defs (RegClobbers info.clobbers ∷ []) refl _ refl met met.placed f.written;
     }
 
-call_through_keeps : (info : CallInfo Reg) → AreChosen (CallInd info) → KeepsThree (CallInd info)
-call_through_keeps info c =
-    let classes = both_classes (map use_operand info.uses) (map def_operand info.defs) c.classes.1 in
+call_through_keeps : (info : CallInfo Reg) → AreMet (constraints_of (CallInd info)) → KeepsThree (CallInd info)
+call_through_keeps info met =
     record {
-      class = either (not_other info.dest c.classes.0) (either (uses_alike info.uses classes.0) (defs_alike info.defs classes.1));
-      zero = refl;
-      clash = call_apart [] info.uses info.defs (RegClobbers info.clobbers ∷ []) refl _ refl c.met c.met.placed.1 c.free;
+      class = λ c. (let classes = both_classes (map use_operand info.uses) (map def_operand info.defs) c.operands.1 in either (not_other info.dest c.operands.0) (either (uses_alike info.uses classes.0) (defs_alike info.defs classes.1)));
+      zero = λ f. refl;
+      clash = λ f. call_apart [] info.uses info.defs (RegClobbers info.clobbers ∷ []) refl _ refl met met.placed.1 f.written;
     }
 
-tail_call_through_keeps : (info : ReturnCallInfo Reg) → AreChosen (ReturnCallInd info) → KeepsThree (ReturnCallInd info)
-tail_call_through_keeps info c = record {
-  class = either (ap (λ r. not (is_fifth r)) c.met.placed.0) (uses_alike info.uses c.classes.1);
-  zero = refl;
-  clash = refl;
+tail_call_through_keeps : (info : ReturnCallInfo Reg) → AreMet (constraints_of (ReturnCallInd info)) → KeepsThree (ReturnCallInd info)
+tail_call_through_keeps info met = record {
+  class = λ c. either (ap (λ r. not (is_fifth r)) met.placed.0) (uses_alike info.uses c.operands.1);
+  zero = λ f. refl;
+  clash = λ f. refl;
 }
 
 -- ---- words of units, whose result is asked for last
@@ -190,45 +188,45 @@ described_apart (Gives g) met own = (scratch_free g.facts.scratch own).1
 
 -- ---- every kind
 
-three : (inst : Inst) → AreChosen inst → KeepsThree inst
-three Nop0 c = record { class = refl; zero = refl; clash = refl }
-three Nop4 c = record { class = refl; zero = refl; clash = refl }
-three EBreak c = record { class = refl; zero = refl; clash = refl }
-three SequencePoint c = record { class = refl; zero = refl; clash = refl }
-three (Args args) c = record { class = args_alike args c.classes; zero = refl; clash = refl }
-three (Rets rets) c = record { class = rets_alike rets c.classes; zero = refl; clash = refl }
-three (DummyUse reg) c = record { class = refl; zero = refl; clash = refl }
-three (Unwind inst) c = record { class = refl; zero = refl; clash = refl }
-three (EmitIsland needed_space) c = record { class = refl; zero = refl; clash = refl }
-three (RawData bytes) c = record { class = refl; zero = refl; clash = refl }
-three (Lui rd imm) c = record { class = either (not_other rd.reg c.classes.0) refl; zero = refl; clash = refl }
-three (AluRRR op rd rs1 rs2) c = record { class = either (not_other rd.reg c.classes.1.1.0) (either (not_other rs1 c.classes.0) (either (not_other rs2 c.classes.1.0) refl)); zero = refl; clash = refl }
-three (AluRRImm12 op rd rs imm) c = record { class = either (not_other rd.reg c.classes.1.0) (either (not_other rs c.classes.0) refl); zero = refl; clash = refl }
-three (Mov rd rm type) c = record { class = alike (class_of rd.reg) (class_of rm) c.classes.1.0; zero = refl; clash = refl }
-three (MovFromPReg rd rm) c = record { class = ap (λ b. b || not (is_stack_or_frame rm)) (not_other rd.reg c.classes.0); zero = refl; clash = refl }
-three (Select info) c = select_keeps info c
-three (Load rd op flags from) c = load_keeps rd op flags from c
-three (Store src op flags to) c = store_keeps src op flags to c
-three (LoadAddr rd mem) c = load_addr_keeps rd mem c
-three Ret c = record { class = refl; zero = refl; clash = refl }
-three (Jal label) c = record { class = refl; zero = refl; clash = refl }
-three (CondBr taken not_taken kind) c = record { class = either (not_other kind.rs1 c.classes.0) (either (not_other kind.rs2 c.classes.1.0) refl); zero = refl; clash = refl }
-three (BrTable index tmp1 tmp2 targets) c = record { class = either (not_other index c.classes.0) (either (not_other tmp1.reg c.classes.1.0) (either (not_other tmp2.reg c.classes.1.1.0) refl)); zero = either c.free.0.not_zero (either c.free.1.0.not_zero refl); clash = no_clash (tmp1.reg ∷ tmp2.reg ∷ []) (index ∷ []) c.met.distinct c.met.early }
-three (Udf code) c = record { class = refl; zero = refl; clash = refl }
-three (Jalr rd base offset) c = record { class = either (not_other rd.reg c.classes.1.0) (either (not_other base c.classes.0) refl); zero = refl; clash = refl }
-three (Call info) c = call_keeps info c
-three (CallInd info) c = call_through_keeps info c
-three (ReturnCall info) c = record { class = uses_alike info.uses c.classes; zero = refl; clash = refl }
-three (ReturnCallInd info) c = tail_call_through_keeps info c
-three inst c = let d = description_of inst refl in record { class = described_class d c.classes c.own_classes; zero = described_not_zero d c.free c.own_free; clash = described_apart d c.met c.own_free }
+three : (inst : Inst) → AreMet (constraints_of inst) → KeepsThree inst
+three Nop0 met = record { class = λ c. refl; zero = λ f. refl; clash = λ f. refl }
+three Nop4 met = record { class = λ c. refl; zero = λ f. refl; clash = λ f. refl }
+three EBreak met = record { class = λ c. refl; zero = λ f. refl; clash = λ f. refl }
+three SequencePoint met = record { class = λ c. refl; zero = λ f. refl; clash = λ f. refl }
+three (Args args) met = record { class = λ c. args_alike args c.operands; zero = λ f. refl; clash = λ f. refl }
+three (Rets rets) met = record { class = λ c. rets_alike rets c.operands; zero = λ f. refl; clash = λ f. refl }
+three (DummyUse reg) met = record { class = λ c. refl; zero = λ f. refl; clash = λ f. refl }
+three (Unwind inst) met = record { class = λ c. refl; zero = λ f. refl; clash = λ f. refl }
+three (EmitIsland needed_space) met = record { class = λ c. refl; zero = λ f. refl; clash = λ f. refl }
+three (RawData bytes) met = record { class = λ c. refl; zero = λ f. refl; clash = λ f. refl }
+three (Lui rd imm) met = record { class = λ c. either (not_other rd.reg c.operands.0) refl; zero = λ f. refl; clash = λ f. refl }
+three (AluRRR op rd rs1 rs2) met = record { class = λ c. either (not_other rd.reg c.operands.1.1.0) (either (not_other rs1 c.operands.0) (either (not_other rs2 c.operands.1.0) refl)); zero = λ f. refl; clash = λ f. refl }
+three (AluRRImm12 op rd rs imm) met = record { class = λ c. either (not_other rd.reg c.operands.1.0) (either (not_other rs c.operands.0) refl); zero = λ f. refl; clash = λ f. refl }
+three (Mov rd rm type) met = record { class = λ c. alike (class_of rd.reg) (class_of rm) c.operands.1.0; zero = λ f. refl; clash = λ f. refl }
+three (MovFromPReg rd rm) met = record { class = λ c. ap (λ b. b || not (is_stack_or_frame rm)) (not_other rd.reg c.operands.0); zero = λ f. refl; clash = λ f. refl }
+three (Select info) met = select_keeps info met
+three (Load rd op flags from) met = load_keeps rd op flags from met
+three (Store src op flags to) met = store_keeps src op flags to met
+three (LoadAddr rd mem) met = load_addr_keeps rd mem met
+three Ret met = record { class = λ c. refl; zero = λ f. refl; clash = λ f. refl }
+three (Jal label) met = record { class = λ c. refl; zero = λ f. refl; clash = λ f. refl }
+three (CondBr taken not_taken kind) met = record { class = λ c. either (not_other kind.rs1 c.operands.0) (either (not_other kind.rs2 c.operands.1.0) refl); zero = λ f. refl; clash = λ f. refl }
+three (BrTable index tmp1 tmp2 targets) met = record { class = λ c. either (not_other index c.operands.0) (either (not_other tmp1.reg c.operands.1.0) (either (not_other tmp2.reg c.operands.1.1.0) refl)); zero = λ f. either f.written.0.not_zero (either f.written.1.0.not_zero refl); clash = λ f. no_clash (tmp1.reg ∷ tmp2.reg ∷ []) (index ∷ []) met.distinct met.early }
+three (Udf code) met = record { class = λ c. refl; zero = λ f. refl; clash = λ f. refl }
+three (Jalr rd base offset) met = record { class = λ c. either (not_other rd.reg c.operands.1.0) (either (not_other base c.operands.0) refl); zero = λ f. refl; clash = λ f. refl }
+three (Call info) met = call_keeps info met
+three (CallInd info) met = call_through_keeps info met
+three (ReturnCall info) met = record { class = λ c. uses_alike info.uses c.operands; zero = λ f. refl; clash = λ f. refl }
+three (ReturnCallInd info) met = tail_call_through_keeps info met
+three inst met = let d = description_of inst refl in record { class = λ c. described_class d c.operands c.own; zero = λ f. described_not_zero d f.written f.own; clash = λ f. described_apart d met f.own }
 
-pub keeps : (inst : Inst) → AreChosen inst → KeepsRules inst
-keeps inst c =
-    let t = three inst c in
+pub keeps : (inst : Inst) → AreMet (constraints_of inst) → KeepsRules inst
+keeps inst met =
+    let t = three inst met in
     record {
-      virtual = quiet is_virtual inst c.met.placed (virtual_clear (chosen (operands_of inst)) c.usable) (virtual_clear (chosen (row_of inst).own) c.own_usable);
+      virtual = λ u. quiet is_virtual inst met.placed (virtual_clear (chosen (operands_of inst)) u.operands) (virtual_clear (chosen (row_of inst).own) u.own);
       class = t.class;
-      reserved = quiet is_reserved inst c.met.placed (reserved_clear (chosen (operands_of inst)) c.usable) (reserved_clear (chosen (row_of inst).own) c.own_usable);
+      reserved = λ u. quiet is_reserved inst met.placed (reserved_clear (chosen (operands_of inst)) u.operands) (reserved_clear (chosen (row_of inst).own) u.own);
       zero = t.zero;
       clash = t.clash;
     }

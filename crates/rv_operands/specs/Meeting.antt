@@ -155,26 +155,31 @@ AreOfClasses (o ∷ operands) = IsOfClass o.class o.register × AreOfClasses ope
 abbrev pub chosen : List Operand → List Reg
 chosen operands = map (λ (o : Operand). o.register) operands
 
--- The registers of an instruction as an allocator chooses them: they meet what it asks, are usable, and each has the class that its place
--- asks; and what is written is free. So are temporaries of the instruction's own.
-pub record AreChosen (inst : Inst) : Type 0 where
-  pub met : AreMet (constraints_of inst)
-  pub usable : AreUsable (chosen (operands_of inst))
-  pub classes : AreOfClasses (operands_of inst)
-  pub free : AreFree (definitions (constraints_of inst))
-  pub own_usable : AreUsable (chosen (row_of inst).own)
-  pub own_classes : AreOfClasses (row_of inst).own
-  pub own_free : AreFree (chosen (row_of inst).own)
+-- the registers of an instruction that are chosen, and those of its own
+pub record HasUsable (inst : Inst) : Type 0 where
+  pub operands : AreUsable (chosen (operands_of inst))
+  pub own : AreUsable (chosen (row_of inst).own)
+
+pub record HasClasses (inst : Inst) : Type 0 where
+  pub operands : AreOfClasses (operands_of inst)
+  pub own : AreOfClasses (row_of inst).own
+
+-- what is written, and temporaries of its own
+pub record HasFree (inst : Inst) : Type 0 where
+  pub written : AreFree (definitions (constraints_of inst))
+  pub own : AreFree (chosen (row_of inst).own)
 
 -- ---- the rules that they keep
 
--- of the five rules on registers, an instruction breaks only what no choice of registers mends
+-- Of the five rules on registers, an instruction whose registers meet what it asks breaks only what no choice of registers mends: those on
+-- virtual and on reserved registers where they are usable, that on classes where each has its place's, and those on x0 and on clashes where
+-- what it writes is free.
 pub record KeepsRules (inst : Inst) : Type 0 where
-  pub virtual : list_any is_virtual (inst_registers inst) ≡ list_any is_virtual (row_of inst).named
-  pub class : is_misplaced inst ≡ (row_of inst).misnamed
-  pub reserved : list_any is_reserved (inst_registers inst) ≡ list_any is_reserved (row_of inst).named
-  pub zero : has_zero inst ≡ false
-  pub clash : has_clash inst ≡ (row_of inst).uneven
+  pub virtual : HasUsable inst → list_any is_virtual (inst_registers inst) ≡ list_any is_virtual (row_of inst).named
+  pub class : HasClasses inst → is_misplaced inst ≡ (row_of inst).misnamed
+  pub reserved : HasUsable inst → list_any is_reserved (inst_registers inst) ≡ list_any is_reserved (row_of inst).named
+  pub zero : HasFree inst → has_zero inst ≡ false
+  pub clash : HasFree inst → has_clash inst ≡ (row_of inst).uneven
 
 -- ---- temporaries
 

@@ -1,5 +1,10 @@
 use Rattle.rv_encode.proofs.Halfwords.{cszn_decodes, cszn_without}
+use Rattle.rv_encode.proofs.Numbers.{less_8}
 use Rattle.rv_encode.proofs.compressed.encode_cszn_type.Goals as goal
+
+pub returns-clause-layout : goal.returns-clause-layout
+returns-clause-layout c =
+    rw (c.bits.ensures.value, c.op.ensures, c.funct5.ensures.value, c.funct6.ensures.value, less_8 _ _ c.reg_to_compressed_gpr_num.ensures.value) at c.cu_half.ensures
 
 pub returns-clause-decodes : goal.returns-clause-decodes
 returns-clause-decodes c =
