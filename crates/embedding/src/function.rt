@@ -1,13 +1,14 @@
 //! The lines of one function, made from values.
 
 use rv_base::{
-    AMode, CallArgPair, CallInfo, CallRetPair, ExternalName, IntCC, IrType, List, MachLabel,
-    MemFlagsData, OutOfMemory, PRegSet, RetLocation, a0, a1, link_reg, px_reg, stack_reg,
-    writable_a0, writable_link_reg, writable_stack_reg,
+    AMode, CallArgPair, CallInfo, CallRetPair, ConstAlign, Constant, ExternalName, IntCC, IrType,
+    List, MachLabel, MemFlagsData, OutOfMemory, PRegSet, RetLocation, TrapCode, VCodeConstant,
+    Writable, a0, a1, link_reg, px_reg, stack_reg, writable_a0, writable_link_reg,
+    writable_stack_reg, zero_reg,
 };
 use rv_imms::Imm12;
 use rv_inst::{Boxed, CondBrTarget, Inst, Line};
-use rv_ops::{AluOPRRI, IntegerCompare, LoadOP, StoreOP};
+use rv_ops::{AluOPRRI, AluOPRRR, IntegerCompare, LoadOP, StoreOP};
 use std::alloc::Global;
 
 /// Goes to the label where a0 is at least a1, signed, and else to the next line.
@@ -96,7 +97,44 @@ fn call(alloc: Global, dest: ExternalName) -> Result<Inst, OutOfMemory> {
     })
 }
 
-/// Hands the greater of a0 and a1, signed, to a function of the host, and returns what that returns.
+/// The constant that the function names: a number of eight bytes.
+pub fn constants(alloc: Global) -> Result<Vec<Constant>, OutOfMemory> {
+    let mut bytes = List::new(alloc);
+    for byte in 1000u64.to_le_bytes() {
+        bytes.push(byte)?;
+    }
+    let mut constants = Vec::new(alloc);
+    constants.push(Constant {
+        bytes,
+        align: ConstAlign::A8,
+    })?;
+    Ok(constants)
+}
+
+/// Traps where a0 is negative.
+fn trap_if_negative() -> Inst {
+    Inst::TrapIf {
+        cmp: IntegerCompare {
+            kind: IntCC::SignedLessThan,
+            rs1: a0(),
+            rs2: zero_reg(),
+        },
+        trap_code: TrapCode::IntegerOverflow,
+    }
+}
+
+/// Loads the first of the constants into a1.
+fn load_constant() -> Inst {
+    Inst::Load {
+        rd: Writable::from_reg(a1()),
+        op: LoadOP::Ld,
+        flags: MemFlagsData::trusted(),
+        from: AMode::Const(VCodeConstant::from_u32(0)),
+    }
+}
+
+/// Hands the greater of a0 and a1, signed, to a function of the host. Traps where that returns a negative number, and else returns it
+/// times the constant.
 pub fn lines(alloc: Global, host: ExternalName) -> Result<Vec<Line>, OutOfMemory> {
     let done = MachLabel::from_u32(0);
     let mut lines = Vec::new(alloc);
@@ -114,6 +152,14 @@ pub fn lines(alloc: Global, host: ExternalName) -> Result<Vec<Line>, OutOfMemory
     lines.push(Line::Inst(call(alloc, host)?))?;
     lines.push(Line::Inst(restore_return_address()))?;
     lines.push(Line::Inst(move_stack_pointer(Imm12::from_i16(16))))?;
+    lines.push(Line::Inst(trap_if_negative()))?;
+    lines.push(Line::Inst(load_constant()))?;
+    lines.push(Line::Inst(Inst::AluRRR {
+        alu_op: AluOPRRR::Mul,
+        rd: writable_a0(),
+        rs1: a0(),
+        rs2: a1(),
+    }))?;
     lines.push(Line::Inst(Inst::Ret))?;
     Ok(lines)
 }

@@ -2,8 +2,7 @@
 //! assembled, and reads the code's bytes, what is to be filled in them, and where calls return.
 #![tactic(auto)]
 
-ghost use Rattle.std.specs.Prelude.{IfOk, []};
-ghost use Rattle.rv_base.specs.Flags.{no_flags};
+ghost use Rattle.std.specs.Prelude.{IfOk};
 ghost use Rattle.rv_base.specs.Frame.{no_frame};
 ghost use Rattle.rv_asm.specs.Job.{job_of};
 ghost use Rattle.rv_asm.specs.Simulation.{RunsAsListed};
@@ -11,21 +10,26 @@ ghost use Rattle.rv_asm.specs.Simulation.{RunsAsListed};
 mod function;
 mod timing;
 
-use function::lines;
+use function::{constants, lines};
 use mach_records::FinalizedRelocTarget;
 use rv_asm::assemble;
-use rv_base::{ExternalName, FrameLayout, IsaFlags, Reloc};
+use rv_base::{Constant, ExternalName, FrameLayout, IsaFlags, Reloc};
 use rv_inst::{Code, EmitError, Line, MachReloc};
 use std::alloc::Global;
 use std::{env, io};
 use timing::assemble_again;
 
-/// The code of lines for a machine without extensions, with no frame and no constants. It runs as they say.
-fn code_of(alloc: Global, lines: &[Line]) -> Result<Code, EmitError>
-    ensures runs { IfOk result (λ code. RunsAsListed (job_of lines.now no_flags no_frame []) code) }
+/// The code of lines, for a machine with these flags, with no frame and with these constants. It runs as they say.
+fn code_of(
+    alloc: Global,
+    lines: &[Line],
+    flags: IsaFlags,
+    constants: &[Constant],
+) -> Result<Code, EmitError>
+    ensures runs { IfOk result (λ code. RunsAsListed (job_of lines.now flags no_frame constants.now) code) }
 {
     let frame = FrameLayout::none(alloc);
-    assemble(alloc, lines, IsaFlags::none(), &frame, &[])
+    assemble(alloc, lines, flags, &frame, constants)
 }
 
 fn kind_name(kind: Reloc) -> &'static str {
@@ -68,6 +72,14 @@ fn print_code(rt: &impl Print, code: &Code) -> io::Result<()> {
         let offset = call.offset;
         println!(rt; "line {index} returns to {offset}")?;
     }
+    for trap in code.traps.as_slice() {
+        let (cause, offset) = (trap.code, trap.offset);
+        println!(rt; "trap {cause} at {offset}")?;
+    }
+    for place in code.constants.as_slice() {
+        let (number, offset) = (place.constant.number, place.offset);
+        println!(rt; "constant {number} at {offset}")?;
+    }
     Ok(())
 }
 
@@ -82,7 +94,10 @@ fn main(rt: HostRuntime) -> anyhow::Result<()> {
     }
     let host = ExternalName::from_u32(0);
     let lines = lines(rt.alloc(), host)?;
-    let code = code_of(rt.alloc(), &lines)?;
+    let constants = constants(rt.alloc())?;
+    let mut flags = IsaFlags::none();
+    flags.has_m = true;
+    let code = code_of(rt.alloc(), &lines, flags, &constants)?;
     print_code(&rt, &code)?;
     Ok(())
 }

@@ -2,8 +2,8 @@
 
 use crate::code_of;
 use rv_base::{
-    AMode, IntCC, IrType, MachLabel, MemFlagsData, OutOfMemory, a0, a1, a2, stack_reg, writable_a0,
-    writable_a2,
+    AMode, IntCC, IrType, IsaFlags, MachLabel, MemFlagsData, OutOfMemory, a0, a1, a2, stack_reg,
+    writable_a0, writable_a2,
 };
 use rv_imms::Imm12;
 use rv_inst::{CondBrTarget, EmitError, Inst, Line};
@@ -66,7 +66,7 @@ pub fn assemble_again(alloc: Global, times: u32, blocks: u32) -> Result<usize, E
     };
     let mut size = 0;
     for _ in 0..times {
-        size = code_of(alloc, &lines)?.bytes.len();
+        size = code_of(alloc, &lines, IsaFlags::none(), &[])?.bytes.len();
     }
     Ok(size)
 }
