@@ -6,14 +6,16 @@ ghost use Rattle.std.specs.Process.{exit_status};
 ghost use Rattle.rvobj.specs.Ending.{status_of};
 
 mod failure;
+mod floats;
 mod making;
 mod words;
 
 use failure::Failure;
 use making::object_bytes;
 use rv_stream::{ReadAllError, StdSink, StdSource, WriteError, read_all, write_all};
+use rv_words::command_words;
 use std::process::ExitCode;
-use words::{command_words, given_by};
+use words::given_by;
 
 fn input_of(rt: &HostRuntime) -> Result<Vec<u8>, Failure> {
     match read_all(rt.alloc(), &mut StdSource::new(rt.stdin())) {
@@ -32,12 +34,22 @@ fn write(rt: &HostRuntime, bytes: &[u8]) -> Result<(), Failure> {
     }
 }
 
+// A linker takes no object of another convention, and functions pass no floats as the code expects them.
+fn warn(rt: &HostRuntime) {
+    let _ = eprintln!(rt;
+        "rvobj: warning: the code uses floating-point registers, and --abi lp64d is missing"
+    );
+}
+
 fn run(rt: &HostRuntime) -> Result<(), Failure> {
     let words = command_words(rt)?;
     let given = given_by(rt.alloc(), &words)?;
     let input = input_of(rt)?;
-    let bytes = object_bytes(rt.alloc(), &given, &input)?;
-    write(rt, bytes.as_slice())
+    let made = object_bytes(rt.alloc(), &given, &input)?;
+    if made.lacks_abi {
+        warn(rt);
+    }
+    write(rt, made.bytes.as_slice())
 }
 
 fn exit(failure: &Failure) -> ExitCode
