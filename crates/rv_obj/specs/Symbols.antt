@@ -1,7 +1,8 @@
 -- The symbols and the relocations of an object, by those of a code.
-use Rattle.std.specs.Prelude.{ℕ, true, false, ◌+◌, ◌%◌, ◌^◌, ◌==◌, List, [], ◌∷◌, ◌++◌, length, map, codes, if◌then◌else◌, Some, None}
+use Rattle.std.specs.Prelude.{ℕ, true, false, ◌+◌, ◌%◌, ◌^◌, ◌==◌, List, [], ◌∷◌, ◌++◌, length, find, map, codes, if◌then◌else◌, Some, None}
 use Rattle.std.specs.Fmt.{decimal}
 use Rattle.std.specs.List.{list_any, position_or_len}
+use Rattle.std.specs.Option.{option_map_or}
 use Rattle.mach_records.specs.declared.records.FinalizedRelocTarget.{FinalizedRelocTarget}
 use Rattle.mach_records.specs.declared.records.FinalizedRelocTarget.TheVariants.{ExternalName as Named, Func}
 use Rattle.mach_records.specs.declared.records.MachReloc.{MachReloc}
@@ -10,6 +11,7 @@ use Rattle.rv_base.specs.declared.reloc.Reloc.TheVariants.{RiscvCallPlt, RiscvGo
 use Rattle.rv_obj.specs.declared.elf.Symbol.{Symbol}
 use Rattle.rv_obj.specs.declared.elf.Rela.{Rela}
 use Rattle.rv_obj.specs.declared.elf.Object.{Object}
+use Rattle.rv_obj.specs.declared.symbols.Import.{Import}
 
 -- R_RISCV_CALL_PLT, R_RISCV_GOT_HI20, R_RISCV_PCREL_HI20, R_RISCV_PCREL_LO12_I and R_RISCV_64
 abbrev pub kind_number : Reloc → ℕ
@@ -40,9 +42,12 @@ abbrev pub names_after : List ℕ → List MachReloc → List ℕ
 names_after names [] = names
 names_after names (r ∷ rs) = names_after (with_name r.target names) rs
 
--- a symbol that is elsewhere
-abbrev pub undefined : ℕ → Symbol
-undefined number = record { name = codes "userextname" ++ decimal number; place = None; is_global = true }
+-- the name that is given for a symbol that is elsewhere, or else the one that the report has
+abbrev pub name_in : List Import → ℕ → List ℕ
+name_in imports number = option_map_or (λ i. i.name) (find (λ i. i.number == number) imports) (codes "userextname" ++ decimal number)
+
+abbrev pub undefined : List Import → ℕ → Symbol
+undefined imports number = record { name = name_in imports number; place = None; is_global = true }
 
 -- the number of a relocation's symbol: of a place, that of its label, after the empty entry; of a name, after those that are defined
 abbrev pub symbol_number : ℕ → List ℕ → ℕ → FinalizedRelocTarget → ℕ
@@ -57,12 +62,12 @@ abbrev pub relas_from : ℕ → List ℕ → ℕ → List MachReloc → List Rel
 relas_from defined names k [] = []
 relas_from defined names k (r ∷ rs) = rela_of defined names k r ∷ relas_from defined names (k + length (local_of k r.target)) rs
 
--- the object of a code with its relocations, that defines these global symbols besides
-abbrev pub object_of : List ℕ → List MachReloc → List Symbol → ℕ → Object
-object_of text relocs exports flags = record {
+-- the object of a code with its relocations, under these names of symbols that are elsewhere, that defines these global symbols besides
+abbrev pub object_of : List ℕ → List MachReloc → List Import → List Symbol → ℕ → Object
+object_of text relocs imports exports flags = record {
   text = text;
   relas = relas_from (1 + length (locals_from 0 relocs) + length exports) (names_after [] relocs) 0 relocs;
-  symbols = locals_from 0 relocs ++ exports ++ map undefined (names_after [] relocs);
+  symbols = locals_from 0 relocs ++ exports ++ map (undefined imports) (names_after [] relocs);
   locals = (1 + length (locals_from 0 relocs)) % 2 ^ 32;
   flags = flags;
 }

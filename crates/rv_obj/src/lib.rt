@@ -7,4 +7,4 @@ mod symbols;
 mod tables;
 
 pub use elf::{Object, Rela, Symbol, object_file};
-pub use symbols::object_of;
+pub use symbols::{Import, object_of};

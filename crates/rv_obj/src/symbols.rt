@@ -1,15 +1,23 @@
 //! The symbols and the relocations of an object, by those of a code.
 
-ghost use Rattle.std.specs.Prelude.{◌≡◌, ◌+◌, ◌%◌, ◌^◌, ◌≤◌, ◌==◌, ◌++◌, ◌∷◌, [], length, map, codes, IfOk, OnOk};
+ghost use Rattle.std.specs.Prelude.{◌≡◌, ◌+◌, ◌%◌, ◌^◌, ◌≤◌, ◌==◌, ◌++◌, ◌∷◌, [], length, find, map, option_map, codes, IfOk, OnOk};
 ghost use Rattle.std.specs.Fmt.{decimal};
 ghost use Rattle.std.specs.List.{list_any, position_or_len};
-ghost use Rattle.rv_obj.specs.Symbols.{kind_number, local_of, locals_from, with_number, with_name, names_after, undefined, symbol_number, rela_of, relas_from, object_of};
+ghost use Rattle.rv_obj.specs.Symbols.{kind_number, local_of, locals_from, with_number, with_name, names_after, name_in, undefined, symbol_number, rela_of, relas_from, object_of};
 
 use crate::elf::{Object, Rela, Symbol};
 use crate::tables::low;
 use mach_records::{FinalizedRelocTarget, MachReloc};
 use rv_base::{List, OutOfMemory, Reloc};
 use std::alloc::Global;
+
+/// A symbol that is elsewhere, and the name that it has there.
+#[derive(Drop)]
+pub struct Import {
+    /// The number of its name in the report, `userextname` and this number.
+    pub number: u32,
+    pub name: List<u8>,
+}
 
 // The psABI's number of a kind.
 fn kind_number(kind: Reloc) -> u32
@@ -70,11 +78,26 @@ fn local_name(alloc: Global, number: usize) -> Result<List<u8>, OutOfMemory>
     Ok(List::from_vec(text.into_bytes()))
 }
 
-fn undefined_name(alloc: Global, number: u32) -> Result<List<u8>, OutOfMemory>
+fn own_name(alloc: Global, number: u32) -> Result<List<u8>, OutOfMemory>
     ensures { IfOk result (λ name. name ≡ codes "userextname" ++ decimal number) }
 {
     let text = format!(in alloc; "userextname{number}")?;
     Ok(List::from_vec(text.into_bytes()))
+}
+
+fn import_of(imports: &[Import], number: u32) -> Option<&Import>
+    ensures { option_map (λ i. i.now) result ≡ find (λ i. i.number == number) imports.now }
+{
+    imports.iter().find(|import| import.number == number)
+}
+
+fn undefined_name(alloc: Global, imports: &[Import], number: u32) -> Result<List<u8>, OutOfMemory>
+    ensures { IfOk result (λ name. name ≡ name_in imports.now number) }
+{
+    match import_of(imports, number) {
+        Some(import) => List::from_slice(alloc, import.name.as_slice()),
+        None => own_name(alloc, number),
+    }
 }
 
 fn put_local(
@@ -108,11 +131,16 @@ fn locals_of(alloc: Global, relocs: &[MachReloc]) -> Result<List<Symbol>, OutOfM
     Ok(symbols)
 }
 
-fn put_undefined(alloc: Global, symbols: &mut Vec<Symbol>, names: &[u32]) -> Result<(), OutOfMemory>
-    ensures { OnOk result (symbols.new.items ≡ symbols.old.items ++ map undefined names.now) }
+fn put_undefined(
+    alloc: Global,
+    symbols: &mut Vec<Symbol>,
+    imports: &[Import],
+    names: &[u32],
+) -> Result<(), OutOfMemory>
+    ensures { OnOk result (symbols.new.items ≡ symbols.old.items ++ map (undefined imports.now) names.now) }
 {
     for number in names {
-        let name = undefined_name(alloc, *number)?;
+        let name = undefined_name(alloc, imports, *number)?;
         symbols.push(Symbol {
             name,
             place: None,
@@ -185,15 +213,17 @@ fn relas_of(
 }
 
 /// The object of a code: its bytes and its relocations; a local symbol at each place that a relocation names, the symbols given, which
-/// are to be global and defined, and an undefined global symbol for each name of a relocation.
+/// are to be global and defined, and an undefined global symbol for each name of a relocation, under the name of its import where there is
+/// one.
 pub fn object_of(
     alloc: Global,
     text: List<u8>,
     relocs: &[MachReloc],
+    imports: &[Import],
     exports: List<Symbol>,
     flags: u32,
 ) -> Result<Object, OutOfMemory>
-    ensures { IfOk result (λ object. object ≡ object_of text relocs.now exports flags) }
+    ensures { IfOk result (λ object. object ≡ object_of text relocs.now imports.now exports flags) }
 {
     let names = names_of(alloc, relocs)?;
     let locals = locals_of(alloc, relocs)?;
@@ -202,7 +232,7 @@ pub fn object_of(
     let relas = relas_of(alloc, defined, names.as_slice(), relocs)?;
     let mut symbols = locals.into_vec();
     symbols.append(&mut exports.into_vec())?;
-    put_undefined(alloc, &mut symbols, names.as_slice())?;
+    put_undefined(alloc, &mut symbols, imports, names.as_slice())?;
     Ok(Object {
         text,
         relas,

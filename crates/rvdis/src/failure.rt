@@ -4,6 +4,7 @@ ghost use Rattle.std.specs.Prelude.{◌≡◌};
 
 use crate::making::MakeError;
 use rv_base::OutOfMemory;
+use rv_words::WordsFault;
 use thiserror::Error;
 
 #[derive(Debug, Drop, Error)]
@@ -14,6 +15,9 @@ pub(crate) enum Failure {
     /// The words are none of the program's.
     #[error("{text}")]
     Words { text: String },
+    /// The words can't be had.
+    #[error("{fault}")]
+    NoWords { fault: WordsFault },
     #[error("{word}: no distinct names of m, zba, zbb, zca, zcb, zcd and zfhmin with commas between")]
     Flags { word: String },
     #[error("{word}: no address below 2^64")]
@@ -52,6 +56,7 @@ impl Failure {
     {
         match self {
             Failure::Asked { text: _ } => 0,
+            Failure::NoWords { fault } => fault.status(),
             Failure::Words { text: _ } | Failure::Flags { word: _ } | Failure::Base { word: _ } =>
                 2,
             Failure::NotReport { line: _ } | Failure::Refused { line: _ } => 3,
@@ -77,6 +82,12 @@ impl Failure {
                 let _ = eprintln!(rt; "rvdis: {self}");
             }
         }
+    }
+}
+
+impl From<WordsFault> for Failure {
+    fn from(fault: WordsFault) -> Failure {
+        Failure::NoWords { fault }
     }
 }
 

@@ -7,15 +7,18 @@ ghost use Rattle.rvdis.specs.Ending.{status_of};
 
 mod failure;
 mod making;
+mod passed;
 mod words;
 
 use failure::Failure;
 use making::{MakeError, output_of};
+use passed::say_passed;
 use rv_base::OutOfMemory;
 use rv_explain::refusal_of;
 use rv_stream::{ReadAllError, StdSink, StdSource, WriteError, read_all, write_all};
+use rv_words::command_words;
 use std::process::ExitCode;
-use words::{command_words, given_by};
+use words::given_by;
 
 fn input_of(rt: &HostRuntime) -> Result<Vec<u8>, Failure> {
     match read_all(rt.alloc(), &mut StdSource::new(rt.stdin())) {
@@ -48,6 +51,9 @@ fn run(rt: &HostRuntime) -> Result<(), Failure> {
     let words = command_words(rt)?;
     let given = given_by(rt.alloc(), &words)?;
     let input = input_of(rt)?;
+    if given.is_reasm {
+        say_passed(rt, &input);
+    }
     match output_of(rt.alloc(), &given, &input) {
         Ok(bytes) => write(rt, bytes.as_slice()),
         Err(error) => Err(passed_on(rt, &input, error)?),

@@ -7,32 +7,6 @@ use clap::{Arg, ArgAction, ArgMatches, Command, Error};
 use rv_base::{IsaFlags, OutOfMemory};
 use rv_listing::{first_part, natural, next_part, with_flag};
 use std::alloc::Global;
-use std::env;
-use std::io::{self, ErrorKind as IoErrorKind};
-
-fn all_words(rt: &HostRuntime) -> io::Result<Vec<String>> {
-    let mut words = Vec::new(rt.alloc());
-    match env::args(rt) {
-        Ok(all) => {
-            for word in all.skip(1) {
-                words.push(word)?;
-            }
-        }
-        Err(error) if error.kind() == IoErrorKind::InvalidData => words.push(String::new(
-            rt.alloc(),
-        ))?,
-        Err(error) => return Err(error),
-    }
-    Ok(words)
-}
-
-/// The words after the program's name. One that is not UTF-8 stands there as an empty word.
-pub(crate) fn command_words(rt: &HostRuntime) -> Result<Vec<String>, Failure> {
-    match all_words(rt) {
-        Ok(words) => Ok(words),
-        Err(_) => Err(Failure::OutOfMemory),
-    }
-}
 
 fn switch<'a>(alloc: Global, name: &'a str, help: &'a str) -> Arg<'a> {
     Arg::new(alloc, name)

@@ -3,6 +3,7 @@
 use rv_base::OutOfMemory;
 use rv_expr::ExprError;
 use rv_formula::FormulaError;
+use rv_words::WordsFault;
 use thiserror::Error;
 
 #[derive(Debug, Drop, Error)]
@@ -13,6 +14,9 @@ pub(crate) enum Failure {
     /// The words are none of the program's.
     #[error("{text}")]
     Words { text: String },
+    /// The words can't be had.
+    #[error("{fault}")]
+    NoWords { fault: WordsFault },
     #[error("the flags name no extension")]
     Flags,
     #[error("{error}")]
@@ -28,6 +32,9 @@ pub(crate) enum Failure {
     Read,
     #[error("standard output can't be written")]
     Write,
+    /// The input has more than 16777216 bytes.
+    #[error("too long")]
+    TooLong,
     #[error("out of memory")]
     OutOfMemory,
 }
@@ -47,6 +54,7 @@ impl Failure {
     pub(crate) fn status(&self) -> u8 {
         match self {
             Failure::Asked { text: _ } => 0,
+            Failure::NoWords { fault } => fault.status(),
             Failure::Words { text: _ } | Failure::Flags => 2,
             Failure::Formula { error: _ }
             | Failure::Program { error: _ }
@@ -54,6 +62,7 @@ impl Failure {
             | Failure::ProgramInLine { line: _, error: _ } => 3,
             Failure::Read => 5,
             Failure::Write => 6,
+            Failure::TooLong => 7,
             Failure::OutOfMemory => 8,
         }
     }
@@ -71,6 +80,12 @@ impl Failure {
                 let _ = eprintln!(rt; "rvexpr: {self}");
             }
         }
+    }
+}
+
+impl From<WordsFault> for Failure {
+    fn from(fault: WordsFault) -> Failure {
+        Failure::NoWords { fault }
     }
 }
 

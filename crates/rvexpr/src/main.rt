@@ -10,19 +10,22 @@ use rv_asm::report;
 use rv_base::IsaFlags;
 use rv_expr::compile;
 use rv_formula::parse;
+use rv_listing::next_line;
+use rv_stream::{ReadAllError, StdSource, read_all};
+use rv_words::command_words;
 use std::alloc::Global;
-use std::io::{self, BufRead, BufReader, BufWriter, Write};
+use std::io::{self, BufWriter, Write};
 use std::process::ExitCode;
-use words::{Given, command_words, given_by};
+use words::{Given, given_by};
 
 /// Writes the report of a formula's code.
 fn put_report<W: Write>(
     alloc: Global,
     flags: IsaFlags,
-    formula: &str,
+    formula: &[u8],
     out: &mut W,
 ) -> Result<(), Failure> {
-    let ops = parse(alloc, formula.as_bytes())?;
+    let ops = parse(alloc, formula)?;
     let code = compile(alloc, flags, &ops)?;
     let text = report(alloc, &code)?;
     match out.write_all(&text) {
@@ -31,19 +34,35 @@ fn put_report<W: Write>(
     }
 }
 
+fn input_of(rt: &HostRuntime) -> Result<Vec<u8>, Failure> {
+    match read_all(rt.alloc(), &mut StdSource::new(rt.stdin())) {
+        Ok(input) => Ok(input),
+        Err(ReadAllError::Failed) => Err(Failure::Read),
+        Err(ReadAllError::TooLong) => Err(Failure::TooLong),
+        Err(ReadAllError::OutOfMemory) => Err(Failure::OutOfMemory),
+    }
+}
+
+// A line ends in LF, or in CR and LF.
+fn without_cr(line: &[u8]) -> &[u8] {
+    match line.split_last() {
+        Some((last, front)) if *last == b'\r' => front,
+        _ => line,
+    }
+}
+
 /// Writes the report of each line's code. Lines are counted from 1.
 fn put_lines<W: Write>(rt: &HostRuntime, flags: IsaFlags, out: &mut W) -> Result<(), Failure> {
     let alloc = rt.alloc();
-    let Ok(input) = BufReader::new(alloc, rt.reader()) else {
-        return Err(Failure::OutOfMemory);
-    };
-    for (index, line) in input.lines(alloc).enumerate() {
-        let Ok(line) = line else {
-            return Err(Failure::Read);
-        };
-        if let Err(failure) = put_report(alloc, flags, &line, out) {
+    let input = input_of(rt)?;
+    let mut rest = input.as_slice();
+    let mut index = 0usize;
+    'lines: while let Some((line, after)) = next_line(rest) {
+        if let Err(failure) = put_report(alloc, flags, without_cr(line), out) {
             return Err(failure.in_line(index));
         }
+        index = index.saturating_add(1);
+        rest = after;
     }
     Ok(())
 }
@@ -56,7 +75,7 @@ fn put_all(rt: &HostRuntime, given: &Given) -> Result<(), Failure> {
         put_lines(rt, given.flags, &mut out)?;
     }
     for formula in &given.formulas {
-        put_report(rt.alloc(), given.flags, formula, &mut out)?;
+        put_report(rt.alloc(), given.flags, formula.as_bytes(), &mut out)?;
     }
     match out.flush() {
         Ok(()) => Ok(()),

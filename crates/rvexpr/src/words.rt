@@ -6,38 +6,12 @@ use clap::{Arg, ArgAction, Command, Error};
 use rv_base::{IsaFlags, OutOfMemory};
 use rv_listing::{first_part, next_part, with_flag};
 use std::alloc::Global;
-use std::env;
-use std::io::{self, ErrorKind as IoErrorKind};
 
 /// What the words give.
 #[derive(Drop)]
 pub(crate) struct Given<'a> {
     pub(crate) flags: IsaFlags,
     pub(crate) formulas: Vec<&'a str>,
-}
-
-fn all_words(rt: &HostRuntime) -> io::Result<Vec<String>> {
-    let mut words = Vec::new(rt.alloc());
-    match env::args(rt) {
-        Ok(all) => {
-            for word in all.skip(1) {
-                words.push(word)?;
-            }
-        }
-        Err(error) if error.kind() == IoErrorKind::InvalidData => words.push(String::new(
-            rt.alloc(),
-        ))?,
-        Err(error) => return Err(error),
-    }
-    Ok(words)
-}
-
-/// The words after the program's name. One that is not UTF-8 stands there as an empty word.
-pub(crate) fn command_words(rt: &HostRuntime) -> Result<Vec<String>, Failure> {
-    match all_words(rt) {
-        Ok(words) => Ok(words),
-        Err(_) => Err(Failure::OutOfMemory),
-    }
 }
 
 fn command<'a>(alloc: Global) -> Result<Command<'a>, OutOfMemory> {

@@ -11,6 +11,7 @@ use Rattle.rvobj.specs.declared.making.Abi.{Abi}
 use Rattle.rvobj.specs.declared.making.Abi.TheVariants.{Lp64, Lp64d}
 use Rattle.rvobj.specs.declared.making.Export.{Export}
 use Rattle.rvobj.specs.declared.making.Given.{Given}
+use Rattle.rvobj.specs.declared.making.Made.{Made}
 use Rattle.rvobj.specs.declared.making.MakeError.{MakeError}
 use Rattle.rvobj.specs.declared.making.MakeError.TheVariants as errors
 
@@ -66,7 +67,7 @@ Leaves made new (Err errors.OutOfMemory) = Unit {0}
 
 -- the file of a program's object, with these symbols
 abbrev pub IsFile : Given → Program → List ℕ → List Symbol → Type 0
-IsFile g p bytes symbols = bytes ≡ object_file (object_of p.bytes p.relocs symbols (e_flags g.flags g.abi))
+IsFile g p bytes symbols = bytes ≡ object_file (object_of p.bytes p.relocs g.imports symbols (e_flags g.flags g.abi))
 
 abbrev pub OfProgram : Given → Program → Result (List ℕ) MakeError → Type 0
 OfProgram g p (Ok bytes) = (symbols : List Symbol) × (symbols_from p.labels [] g.exports ≡ Ok symbols) × IsFile g p bytes symbols
@@ -74,9 +75,14 @@ OfProgram g p (Err (errors.NoLabel label)) = symbols_from p.labels [] g.exports 
 OfProgram g p (Err (errors.NotReport line)) = ⊥
 OfProgram g p (Err errors.OutOfMemory) = Unit {0}
 
+-- these bytes, whatever is said of the convention
+abbrev pub OfMade : Given → Program → Result Made MakeError → Type 0
+OfMade g p (Ok made) = OfProgram g p (Ok made.bytes)
+OfMade g p (Err error) = OfProgram g p (Err error)
+
 -- the object of an input, or why there is none; being out of memory says nothing
-abbrev pub Makes : Given → List ℕ → Result (List ℕ) MakeError → Type 0
-Makes g input (Ok bytes) = (p : Program) × (reads_report input ≡ Ok p) × OfProgram g p (Ok bytes)
+abbrev pub Makes : Given → List ℕ → Result Made MakeError → Type 0
+Makes g input (Ok made) = (p : Program) × (reads_report input ≡ Ok p) × OfMade g p (Ok made)
 Makes g input (Err (errors.NotReport line)) = reads_report input ≡ Err line
-Makes g input (Err (errors.NoLabel label)) = (p : Program) × (reads_report input ≡ Ok p) × OfProgram g p (Err (errors.NoLabel label))
+Makes g input (Err (errors.NoLabel label)) = (p : Program) × (reads_report input ≡ Ok p) × OfMade g p (Err (errors.NoLabel label))
 Makes g input (Err errors.OutOfMemory) = Unit {0}

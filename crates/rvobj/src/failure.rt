@@ -4,6 +4,7 @@ ghost use Rattle.std.specs.Prelude.{◌≡◌};
 
 use crate::making::MakeError;
 use rv_base::OutOfMemory;
+use rv_words::WordsFault;
 use thiserror::Error;
 
 #[derive(Debug, Drop, Error)]
@@ -14,12 +15,17 @@ pub(crate) enum Failure {
     /// The words are none of the program's.
     #[error("{text}")]
     Words { text: String },
+    /// The words can't be had.
+    #[error("{fault}")]
+    NoWords { fault: WordsFault },
     #[error("{word}: no distinct names of m, zba, zbb, zca, zcb, zcd and zfhmin with commas between")]
     Flags { word: String },
     #[error("{word}: no lp64 and no lp64d")]
     Abi { word: String },
     #[error("{word}: no LABEL=NAME with a label as L0")]
     Export { word: String },
+    #[error("{word}: no SYMBOL=NAME with a symbol as userextname0")]
+    Import { word: String },
     #[error("{word}: an empty name, or one that an earlier word gives")]
     Name { word: String },
     /// The first line of the input, counted from 1, that no report has there.
@@ -51,10 +57,12 @@ impl Failure {
     {
         match self {
             Failure::Asked { text: _ } => 0,
+            Failure::NoWords { fault } => fault.status(),
             Failure::Words { text: _ }
             | Failure::Flags { word: _ }
             | Failure::Abi { word: _ }
             | Failure::Export { word: _ }
+            | Failure::Import { word: _ }
             | Failure::Name { word: _ } => 2,
             Failure::NotReport { line: _ } | Failure::Refused { line: _ } => 3,
             Failure::NoLabel { label: _ } => 4,
@@ -78,6 +86,12 @@ impl Failure {
                 let _ = eprintln!(rt; "rvobj: {self}");
             }
         }
+    }
+}
+
+impl From<WordsFault> for Failure {
+    fn from(fault: WordsFault) -> Failure {
+        Failure::NoWords { fault }
     }
 }
 

@@ -6,6 +6,7 @@ ghost use Rattle.std.specs.Process.{exit_status};
 ghost use Rattle.rvobj.specs.Ending.{status_of};
 
 mod failure;
+mod floats;
 mod making;
 mod words;
 
@@ -14,8 +15,9 @@ use making::{MakeError, object_bytes};
 use rv_base::OutOfMemory;
 use rv_explain::refusal_of;
 use rv_stream::{ReadAllError, StdSink, StdSource, WriteError, read_all, write_all};
+use rv_words::command_words;
 use std::process::ExitCode;
-use words::{command_words, given_by};
+use words::given_by;
 
 fn input_of(rt: &HostRuntime) -> Result<Vec<u8>, Failure> {
     match read_all(rt.alloc(), &mut StdSource::new(rt.stdin())) {
@@ -44,12 +46,24 @@ fn passed_on(rt: &HostRuntime, input: &[u8], error: MakeError) -> Result<Failure
     }
 }
 
+// A linker takes no object of another convention, and functions pass no floats as the code expects them.
+fn warn(rt: &HostRuntime) {
+    let _ = eprintln!(rt;
+        "rvobj: warning: the code uses floating-point registers, and --abi lp64d is missing"
+    );
+}
+
 fn run(rt: &HostRuntime) -> Result<(), Failure> {
     let words = command_words(rt)?;
     let given = given_by(rt.alloc(), &words)?;
     let input = input_of(rt)?;
     match object_bytes(rt.alloc(), &given, &input) {
-        Ok(bytes) => write(rt, bytes.as_slice()),
+        Ok(made) => {
+            if made.lacks_abi {
+                warn(rt);
+            }
+            write(rt, made.bytes.as_slice())
+        }
         Err(error) => Err(passed_on(rt, &input, error)?),
     }
 }

@@ -3,12 +3,13 @@
 ghost use Rattle.std.specs.Prelude.{◌≡◌, ◌==◌, [], find, IfOk};
 ghost use Rattle.rv_obj.specs.Elf.{object_file};
 ghost use Rattle.rv_obj.specs.Symbols.{object_of};
-ghost use Rattle.rvobj.specs.Making.{e_flags, place_of, with_symbol, symbols_from, Finds, Leaves, OfProgram, Makes};
+ghost use Rattle.rvobj.specs.Making.{e_flags, place_of, with_symbol, symbols_from, Finds, Leaves, OfProgram, OfMade, Makes};
 
+use crate::floats::uses_floats;
 use mach_uses::LabelPlace;
 use rv_base::{IsaFlags, List, OutOfMemory};
 use rv_load::{Program, ProgramError, read_report};
-use rv_obj::{Symbol, object_file, object_of};
+use rv_obj::{Import, Symbol, object_file, object_of};
 use std::alloc::Global;
 
 /// How floating-point arguments are passed: in integer registers, or those of up to double precision in registers of their own.
@@ -30,8 +31,18 @@ pub struct Export<'a> {
 #[derive(Drop)]
 pub struct Given<'a> {
     pub exports: List<Export<'a>>,
+    /// What symbols that are elsewhere are called there.
+    pub imports: List<Import>,
     pub flags: IsaFlags,
     pub abi: Abi,
+}
+
+/// The bytes of an object.
+#[derive(Drop)]
+pub struct Made {
+    pub bytes: List<u8>,
+    /// Whether the code uses floating-point registers, and the convention passes nothing in them.
+    pub lacks_abi: bool,
 }
 
 /// Why there is no object.
@@ -120,15 +131,17 @@ fn symbols_of(
 fn file_of(
     alloc: Global,
     program: Program,
+    imports: &[Import],
     symbols: List<Symbol>,
     flags: u32,
 ) -> Result<List<u8>, OutOfMemory>
-    ensures { IfOk result (λ bytes. bytes ≡ object_file (object_of program.bytes program.relocs symbols flags)) }
+    ensures { IfOk result (λ bytes. bytes ≡ object_file (object_of program.bytes program.relocs imports.now symbols flags)) }
 {
     let object = object_of(
         alloc,
         program.bytes,
         program.relocs.as_slice(),
+        imports,
         symbols,
         flags,
     )?;
@@ -140,16 +153,34 @@ fn object_of_program(alloc: Global, given: &Given, program: Program) -> Result<L
     ensures { OfProgram given.now program result }
 {
     let symbols = symbols_of(alloc, program.labels.as_slice(), given.exports.as_slice())?;
-    let bytes = file_of(alloc, program, symbols, e_flags(given.flags, given.abi))?;
+    let flags = e_flags(given.flags, given.abi);
+    let bytes = file_of(alloc, program, given.imports.as_slice(), symbols, flags)?;
     Ok(bytes)
 }
 
+fn lacks_abi(given: &Given, program: &Program) -> bool {
+    match given.abi {
+        Abi::Lp64 => uses_floats(given.flags, program),
+        Abi::Lp64d => false,
+    }
+}
+
+fn made_of(alloc: Global, given: &Given, program: Program) -> Result<Made, MakeError>
+    ensures { OfMade given.now program result }
+{
+    let lacks_abi = lacks_abi(given, &program);
+    match object_of_program(alloc, given, program) {
+        Ok(bytes) => Ok(Made { bytes, lacks_abi }),
+        Err(error) => Err(error),
+    }
+}
+
 /// The bytes of the object of a report: the code's bytes, its relocations, and the symbols that are asked for.
-pub fn object_bytes(alloc: Global, given: &Given, input: &[u8]) -> Result<List<u8>, MakeError>
+pub fn object_bytes(alloc: Global, given: &Given, input: &[u8]) -> Result<Made, MakeError>
     ensures { Makes given.now input.now result }
 {
     match read_report(alloc, input) {
-        Ok(program) => object_of_program(alloc, given, program),
+        Ok(program) => made_of(alloc, given, program),
         Err(ProgramError::NotReport { line }) => Err(MakeError::NotReport { line }),
         Err(ProgramError::NotHex) | Err(ProgramError::OutOfMemory) => Err(MakeError::OutOfMemory),
     }

@@ -5,34 +5,9 @@ use crate::making::{Abi, Export, Given};
 use clap::error::ErrorKind;
 use clap::{Arg, ArgAction, ArgMatches, Command, Error};
 use rv_base::{IsaFlags, List, OutOfMemory};
-use rv_listing::{decimal, first_part, next_part, starts, tail, with_flag};
+use rv_listing::{decimal, first_part, next_part, starts, symbol_named, tail, with_flag};
+use rv_obj::Import;
 use std::alloc::Global;
-use std::env;
-use std::io::{self, ErrorKind as IoErrorKind};
-
-fn all_words(rt: &HostRuntime) -> io::Result<Vec<String>> {
-    let mut words = Vec::new(rt.alloc());
-    match env::args(rt) {
-        Ok(all) => {
-            for word in all.skip(1) {
-                words.push(word)?;
-            }
-        }
-        Err(error) if error.kind() == IoErrorKind::InvalidData => words.push(String::new(
-            rt.alloc(),
-        ))?,
-        Err(error) => return Err(error),
-    }
-    Ok(words)
-}
-
-/// The words after the program's name. One that is not UTF-8 stands there as an empty word.
-pub(crate) fn command_words(rt: &HostRuntime) -> Result<Vec<String>, Failure> {
-    match all_words(rt) {
-        Ok(words) => Ok(words),
-        Err(_) => Err(Failure::OutOfMemory),
-    }
-}
 
 fn option<'a>(alloc: Global, name: &'a str, value: &'a str, help: &'a str) -> Arg<'a> {
     Arg::new(alloc, name)
@@ -48,6 +23,11 @@ fn command<'a>(alloc: Global) -> Result<Command<'a>, OutOfMemory> {
         .action(ArgAction::Append)
         .value_name("LABEL=NAME")
         .help("A global symbol at a label of the listing, as L0=again");
+    let import = Arg::new(alloc, "import")
+        .long("import")
+        .action(ArgAction::Append)
+        .value_name("SYMBOL=NAME")
+        .help("What a symbol of the report is called elsewhere, as userextname0=puts");
     let start = option(
         alloc,
         "start",
@@ -72,6 +52,7 @@ fn command<'a>(alloc: Global) -> Result<Command<'a>, OutOfMemory> {
         .no_binary_name(true)
         .arg(start)?
         .arg(export)?
+        .arg(import)?
         .arg(flags)?
         .arg(abi)?;
     Ok(command)
@@ -191,6 +172,45 @@ fn exports_of<'a>(alloc: Global, matches: &ArgMatches<'a>) -> Result<List<Export
     Ok(exports)
 }
 
+fn import_of(alloc: Global, word: &str) -> Result<Import, Failure> {
+    let (symbol, name) = word.split_once('=').unwrap_or((word, ""));
+    let Some(symbol) = symbol_named(symbol.as_bytes()) else {
+        return Err(Failure::Import {
+            word: copy_of(alloc, word)?,
+        });
+    };
+    let name = Vec::from_slice(alloc, name.as_bytes()).map_err(OutOfMemory::from)?;
+    Ok(Import {
+        number: symbol.number,
+        name: List::from_vec(name),
+    })
+}
+
+fn is_imported(imports: &[Import], number: u32) -> bool {
+    imports.iter().any(|import| import.number == number)
+}
+
+fn put_import(alloc: Global, imports: &mut List<Import>, word: &str) -> Result<(), Failure> {
+    let import = import_of(alloc, word)?;
+    if import.name.as_slice().is_empty() || is_imported(imports.as_slice(), import.number) {
+        return Err(Failure::Name {
+            word: copy_of(alloc, word)?,
+        });
+    }
+    imports.push(import)?;
+    Ok(())
+}
+
+fn imports_of(alloc: Global, matches: &ArgMatches) -> Result<List<Import>, Failure> {
+    let mut imports = List::new(alloc);
+    if let Some(words) = matches.get_strs("import") {
+        for word in words {
+            put_import(alloc, &mut imports, word)?;
+        }
+    }
+    Ok(imports)
+}
+
 /// What words give.
 pub(crate) fn given_by<'a>(alloc: Global, words: &'a [String]) -> Result<Given<'a>, Failure> {
     let command = command(alloc)?;
@@ -200,6 +220,7 @@ pub(crate) fn given_by<'a>(alloc: Global, words: &'a [String]) -> Result<Given<'
     };
     Ok(Given {
         exports: exports_of(alloc, &matches)?,
+        imports: imports_of(alloc, &matches)?,
         flags: flags_of(alloc, matches.get_str("flags"))?,
         abi: abi_of(alloc, matches.get_str("abi"))?,
     })

@@ -7,5 +7,5 @@ use Rattle.rvobj.proofs.making.file_of.Goals as goal
 
 pub returns : goal.returns
 returns c =
-    let with_relocs = ap (λ (relocs : List MachReloc). object_of c.args.program.bytes relocs c.args.symbols c.args.flags) c.as_slice.ensures in
+    let with_relocs = ap (λ (relocs : List MachReloc). object_of c.args.program.bytes relocs c.args.imports.now c.args.symbols c.args.flags) c.as_slice.ensures in
     c.from_vec.ensures ∙ c.in_ok-file.ensures ∙ ap (λ (o : Object). object_file o) (c.in_ok-object.ensures ∙ with_relocs)

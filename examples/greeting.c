@@ -1,0 +1,2 @@
+/* What puts.lst prints. */
+const char greeting[] = "hello";
