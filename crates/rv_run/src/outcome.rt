@@ -58,7 +58,26 @@ pub enum Outcome {
 }
 
 impl Outcome {
-    ghost use Rattle.rv_run.specs.Outcomes.{status_of};
+    ghost use Rattle.rv_run.specs.Outcomes.{is_asked, status_of};
+
+    /// Whether its text is what was asked for, and not why there is none.
+    pub fn is_asked(&self) -> bool
+        ensures { result ≡ is_asked self.now }
+    {
+        match self {
+            Outcome::Ran { run: _ } | Outcome::Help { text: _ } | Outcome::Version { text: _ } =>
+                true,
+            Outcome::Usage { text: _ }
+            | Outcome::BadWord { cause: _, word: _ }
+            | Outcome::NotReport { line: _ }
+            | Outcome::NotHex
+            | Outcome::Unplaced { error: _, reloc: _ }
+            | Outcome::TooLong
+            | Outcome::ReadFault
+            | Outcome::WriteFault
+            | Outcome::OutOfMemory => false,
+        }
+    }
 
     /// The status that the process ends with.
     pub fn status(&self) -> u8
@@ -113,6 +132,9 @@ fn cause_text(cause: BadWord) -> &'static str
         BadWord::Address { named: _, index: _ } =>
             "no NAME=ADDRESS with a name as userextname0 and an address below 2^64",
         BadWord::AddressTwice { named: _, index: _ } => "gives a name that an earlier word gives",
+        BadWord::Callee { index: _ } =>
+            "no NAME or NAME:REGISTER=VALUE,.. with a name whose address a --symbol gives, and each register once",
+        BadWord::CalleeTwice { index: _ } => "gives a name that an earlier word gives",
         BadWord::Setting => "no AVL,VTYPE with a vector length below 32 and a vtype below 256",
         BadWord::Answer { index: _ } =>
             "no success, failure, bits:VALUE, length:N, vector:N=0xBITS or stored:HEX",
