@@ -18,27 +18,31 @@ fn words_of(alloc: Global, text: &str) -> Result<Vec<String>, AllocError> {
 }
 
 /// The status of a call with these words.
-pub(crate) fn status_of<S: Source, K: Sink>(
+pub(crate) fn status_of<S: Source, K: Sink, E: Sink>(
     alloc: Global,
     words: &str,
     source: &mut S,
     sink: &mut K,
+    errors: &mut E,
 ) -> Result<u8, AllocError> {
     let words = words_of(alloc, words)?;
-    Ok(run(alloc, &words, source, sink, &mut Silent).status())
+    Ok(run(alloc, &words, source, sink, errors, &mut Silent).status())
 }
 
-/// The status of a call with these words over an input, a space, and its text.
+/// The status of a call with these words over an input, a space, and its text on either sink.
 pub(crate) fn called(alloc: Global, words: &str, input: &str) -> Result<String, CaseError> {
     let mut sink = SureSink::new(alloc);
+    let mut errors = SureSink::new(alloc);
     let status = status_of(
         alloc,
         words,
         &mut SureSource::new(input.as_bytes()),
         &mut sink,
+        &mut errors,
     )?;
     let mut text = format!(in alloc; "{status} ")?;
     text.push_str(&String::from_utf8_lossy(alloc, sink.bytes())?)?;
+    text.push_str(&String::from_utf8_lossy(alloc, errors.bytes())?)?;
     Ok(text)
 }
 

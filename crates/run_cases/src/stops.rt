@@ -86,7 +86,14 @@ fn status_of_noise(alloc: Global, words: &str) -> Result<u8, AllocError> {
     let mut noise = Vec::new(alloc);
     put_noise(&mut noise, 1000000)?;
     let mut sink = SureSink::new(alloc);
-    status_of(alloc, words, &mut SureSource::new(&noise), &mut sink)
+    let mut errors = SureSink::new(alloc);
+    status_of(
+        alloc,
+        words,
+        &mut SureSource::new(&noise),
+        &mut sink,
+        &mut errors,
+    )
 }
 
 /// The status of a call whose second read fails.
@@ -94,7 +101,8 @@ fn status_of_bad_read(alloc: Global) -> Result<u8, AllocError> {
     let failing = [1];
     let mut source = MemSource::new(COUNTDOWN.as_bytes(), 8, &failing);
     let mut sink = SureSink::new(alloc);
-    status_of(alloc, "a0=5", &mut source, &mut sink)
+    let mut errors = SureSink::new(alloc);
+    status_of(alloc, "a0=5", &mut source, &mut sink, &mut errors)
 }
 
 /// The status of a call whose second write fails.
@@ -102,7 +110,8 @@ fn status_of_bad_write(alloc: Global) -> Result<u8, AllocError> {
     let failing = [1];
     let mut source = SureSource::new(COUNTDOWN.as_bytes());
     let mut sink = MemSink::new(alloc, 4, &failing);
-    status_of(alloc, "a0=5", &mut source, &mut sink)
+    let mut errors = SureSink::new(alloc);
+    status_of(alloc, "a0=5", &mut source, &mut sink, &mut errors)
 }
 
 fn write_statuses(alloc: Global, text: &mut String) -> Result<(), AllocError> {

@@ -31,8 +31,8 @@ word_rule name = record (new_rule name) { action = Some Append }
 abbrev pub opening : App
 opening = on_top (λ s. record s { has_version = true; no_binary_name = true }) (new_app (codes "rvrun"))
 
--- options that say what the code is; where the run begins, and how long it is; what stands in the memory, and where symbols are; and
--- what the units begin with and answer
+-- options that say what the code is; where the run begins, and how long it is; what stands in the memory, where symbols are, and what
+-- stands there; and what the units begin with and answer
 abbrev pub with_code : App → App
 with_code app = with_rule (with_rule (with_rule app (flag_rule (codes "hex"))) (option_rule (codes "base"))) (option_rule (codes "flags"))
 
@@ -40,7 +40,7 @@ abbrev pub with_start : App → App
 with_start app = with_rule (with_rule (with_rule app (option_rule (codes "from"))) (option_rule (codes "at"))) (option_rule (codes "steps"))
 
 abbrev pub with_memory : App → App
-with_memory app = with_rule (with_rule (with_rule app (list_rule (codes "data"))) (list_rule (codes "symbol"))) (list_rule (codes "slot"))
+with_memory app = with_rule (with_rule (with_rule (with_rule app (list_rule (codes "data"))) (list_rule (codes "symbol"))) (list_rule (codes "slot"))) (list_rule (codes "callee"))
 
 abbrev pub with_units : App → App
 with_units app = with_rule (with_rule (with_rule app (option_rule (codes "setting"))) (list_rule (codes "answer"))) (option_rule (codes "unit"))
@@ -63,6 +63,7 @@ pub record IsGiven (rows : List Row) (g : Given) : Type 0 where
   pub memory : map (λ s. s.now) g.memory ≡ unwrap_or (all_of (codes "data") rows) []
   pub symbols : map (λ s. s.now) g.symbols ≡ unwrap_or (all_of (codes "symbol") rows) []
   pub slots : map (λ s. s.now) g.slots ≡ unwrap_or (all_of (codes "slot") rows) []
+  pub callees : map (λ s. s.now) g.callees ≡ unwrap_or (all_of (codes "callee") rows) []
   pub setting : option_map (λ s. s.now) g.setting ≡ first_of (codes "setting") rows
   pub answers : map (λ s. s.now) g.answers ≡ unwrap_or (all_of (codes "answer") rows) []
   pub unit : option_map (λ s. s.now) g.unit ≡ first_of (codes "unit") rows

@@ -1,5 +1,5 @@
 -- What the words of a command say of a run.
-use Rattle.std.specs.Prelude.{◌≡◌, ℕ, ◌+◌, ◌-◌, ◌%◌, ◌^◌, Bool, true, false, ◌&&◌, List, [], ◌∷◌, ◌++◌, drop, Option, Some, None, Result, Ok, Err, nat_le, ◌==◌, if◌then◌else◌, codes}
+use Rattle.std.specs.Prelude.{◌≡◌, ℕ, ◌+◌, ◌-◌, ◌%◌, ◌^◌, Bool, true, false, ◌&&◌, List, [], ◌∷◌, ◌++◌, drop, find, Option, Some, None, option_map, Result, Ok, Err, nat_le, ◌==◌, if◌then◌else◌, codes}
 use Rattle.std.specs.List.{list_any}
 use Rattle.std.specs.Str.{bytes_eq}
 use Rattle.std.specs.Borrow.{Bor}
@@ -19,6 +19,7 @@ use Rattle.rv_listing.specs.HexDigits.{hex_bytes}
 use Rattle.rv_full.specs.declared.answer.Answer.{Answer}
 use Rattle.rv_full.specs.declared.units.Setting.{Setting}
 use Rattle.rv_load.specs.Answers.{answer, setting_pair, vector_register}
+use Rattle.rv_load.specs.declared.callees.Callee.{Callee}
 use Rattle.rv_load.specs.declared.given.Given.{Given}
 use Rattle.rv_load.specs.declared.settings.Settings.{Settings}
 use Rattle.rv_load.specs.declared.settings.SettingsError.{SettingsError}
@@ -151,6 +152,49 @@ abbrev pub addresses_from : Named → ℕ → List (ExternalName × ℕ) → Lis
 addresses_from named i old [] = Ok old
 addresses_from named i old (w ∷ ws) = put_address named i old w.now then λ new. addresses_from named (i + 1) new ws
 
+-- ---- callees
+
+-- one more register of a callee, which none before it is
+abbrev pub with_set : List RegisterValue → RegisterValue → Option (List RegisterValue)
+with_set old r = if list_any (λ o. is_same o.register r.register) old then None else Some (old ++ r ∷ [])
+
+abbrev pub put_set : List RegisterValue → List ℕ → Option (List RegisterValue)
+put_set old w = register_value w >>= with_set old
+
+-- the registers of words `REGISTER=VALUE`, after others
+abbrev pub sets_after : List RegisterValue → List (List ℕ) → Option (List RegisterValue)
+sets_after old [] = Some old
+sets_after old (w ∷ ws) = put_set old w >>= λ new. sets_after new ws
+
+-- the address of a symbol, where a word gives one
+abbrev pub address_of : List (ExternalName × ℕ) → ExternalName → Option ℕ
+address_of symbols name = option_map (λ o. o.1) (find (λ o. o.0.number == name.number) symbols)
+
+-- a callee of this name, which stands at the symbol's address
+abbrev pub named_callee : List (ExternalName × ℕ) → List ℕ → List RegisterValue → Option Callee
+named_callee symbols w registers = symbol w >>= λ name. address_of symbols name >>= λ a. Some (record { name = name; address = a; registers = registers })
+
+-- the name alone, or both parts of the word
+abbrev pub callee_by : List (ExternalName × ℕ) → List ℕ → Option (List ℕ × List ℕ) → Option Callee
+callee_by symbols w None = named_callee symbols w []
+callee_by symbols w (Some p) = sets_after [] (parts_of 44 p.1) >>= λ registers. named_callee symbols p.0 registers
+
+-- `userextnameN`, or `userextnameN:REGISTER=VALUE,..`
+abbrev pub callee_of : List (ExternalName × ℕ) → List ℕ → Option Callee
+callee_of symbols w = callee_by symbols w (as_pair (parts_of 58 w))
+
+-- one more callee, whose name was not given before
+abbrev pub with_callee : ℕ → List Callee → Callee → Result (List Callee) BadWord
+with_callee i old c = if list_any (λ o. o.name.number == c.name.number) old then Err (bad.CalleeTwice i) else Ok (old ++ c ∷ [])
+
+abbrev pub put_callee : List (ExternalName × ℕ) → ℕ → List Callee → List ℕ → Result (List Callee) BadWord
+put_callee symbols i old w = or_bad (bad.Callee i) (callee_of symbols w) then with_callee i old
+
+-- the words from number i on
+abbrev pub callees_from : List (ExternalName × ℕ) → ℕ → List Callee → List (Bor (List ℕ)) → Result (List Callee) BadWord
+callees_from symbols i old [] = Ok old
+callees_from symbols i old (w ∷ ws) = put_callee symbols i old w.now then λ new. callees_from symbols (i + 1) new ws
+
 -- ---- the setting and the answers
 
 -- the vector setting, 0 and 0 otherwise
@@ -180,8 +224,23 @@ settings_of g =
     base_of g then λ base. flags_of g.flags then λ flags. start_of g.from g.at then λ start. steps_of g then λ steps.
     data_from 0 [] g.memory then λ bytes. registers_from 0 [] g.registers then λ registers.
     addresses_from Symbol 0 [] g.symbols then λ symbols. addresses_from Slot 0 [] g.slots then λ slots.
+    callees_from symbols 0 [] g.callees then λ callees.
     setting_of g.setting then λ setting. answers_from 0 [] g.answers then λ answers. host_of g.unit then λ host.
-    Ok (record { base = base; flags = flags; start = start; steps = steps; trace = g.trace; registers = registers; memory = bytes; symbols = symbols; slots = slots; setting = setting; answers = answers; host = host })
+    Ok (record {
+      base = base;
+      flags = flags;
+      start = start;
+      steps = steps;
+      trace = g.trace;
+      registers = registers;
+      memory = bytes;
+      symbols = symbols;
+      slots = slots;
+      callees = callees;
+      setting = setting;
+      answers = answers;
+      host = host;
+    })
 
 -- what a reader of words returned; being out of memory says nothing
 abbrev pub Reads : {A : Type 0} → Result A BadWord → Result A SettingsError → Type 0

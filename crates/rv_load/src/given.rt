@@ -16,6 +16,7 @@ pub struct Given<'a> {
     pub memory: List<&'a str>,
     pub symbols: List<&'a str>,
     pub slots: List<&'a str>,
+    pub callees: List<&'a str>,
     pub setting: Option<&'a str>,
     pub answers: List<&'a str>,
     pub unit: Option<&'a str>,

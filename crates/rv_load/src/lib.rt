@@ -2,6 +2,7 @@
 #![tactic(auto)]
 
 mod answers;
+mod callees;
 mod digits;
 mod given;
 mod program;
@@ -10,6 +11,7 @@ mod report;
 mod settings;
 mod words;
 
+pub use callees::Callee;
 pub use given::Given;
 pub use program::{Program, ProgramError, read_hex, read_report};
 pub use settings::{

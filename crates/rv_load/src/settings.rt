@@ -5,9 +5,10 @@ ghost use Rattle.std.specs.List.{list_any};
 ghost use Rattle.std.specs.Str.{bytes_eq};
 ghost use Rattle.rv_listing.specs.Tokens.{parts_of};
 ghost use Rattle.rv_listing.specs.FlagsHeader.{flags_form};
-ghost use Rattle.rv_load.specs.Words.{value, number_or, base_of, steps_of, start_of, flags_of, file_register, is_same_file, is_same, named_register, register_value, with_register, put_register, registers_from, or_bad, data_bytes, data_from, name_address, with_address, put_address, addresses_from, host_of, settings_of, Reads, Leaves};
+ghost use Rattle.rv_load.specs.Words.{value, number_or, aligned, base_of, steps_of, start_of, flags_of, file_register, is_same_file, is_same, named_register, register_value, with_register, put_register, registers_from, or_bad, data_bytes, data_from, name_address, with_address, put_address, addresses_from, host_of, settings_of, Reads, Leaves};
 
 use crate::answers::{answers_of, setting_of};
+use crate::callees::{Callee, callees_of};
 use crate::given::Given;
 use rv_base::{ExternalName, IsaFlags, List, OutOfMemory, PReg, Reg, RegClass};
 use rv_full::{Answer, Setting};
@@ -67,6 +68,8 @@ pub struct Settings {
     /// The addresses of symbols, and of the slots that hold such addresses.
     pub symbols: List<(ExternalName, u64)>,
     pub slots: List<(ExternalName, u64)>,
+    /// The functions outside of the code.
+    pub callees: List<Callee>,
     pub setting: Setting,
     /// What the units answer, in order.
     pub answers: List<Answer>,
@@ -74,7 +77,7 @@ pub struct Settings {
     pub host: bool,
 }
 
-/// A word that says nothing of a run. Data, registers, symbols, slots and answers are counted from 0.
+/// A word that says nothing of a run. Data, registers, symbols, slots, callees and answers are counted from 0.
 #[derive(Clone, Copy, Debug, PartialEq, Eq, Error)]
 pub enum BadWord {
     #[error("the code's address")]
@@ -99,6 +102,11 @@ pub enum BadWord {
     /// An address whose name an earlier word gives.
     #[error("the address with number {index}, whose name an earlier word gives")]
     AddressTwice { named: Named, index: usize },
+    #[error("the callee with number {index}")]
+    Callee { index: usize },
+    /// A callee whose name an earlier word gives.
+    #[error("the callee with number {index}, whose name an earlier word gives")]
+    CalleeTwice { index: usize },
     #[error("the vector setting")]
     Setting,
     #[error("the answer with number {index}")]
@@ -144,13 +152,20 @@ fn number_or(default: u64, word: BadWord, given: Option<&str>) -> Result<u64, Ba
     }
 }
 
+fn aligned(base: u64) -> Result<u64, BadWord>
+    ensures { result ≡ aligned base }
+{
+    if base % 4 == 0 {
+        Ok(base)
+    } else {
+        Err(BadWord::Base)
+    }
+}
+
 fn base_of(given: &Given) -> Result<u64, BadWord>
     ensures { result ≡ base_of given.now }
 {
-    match number_or(0x10000, BadWord::Base, given.base) {
-        Ok(base) if base % 4 == 0 => Ok(base),
-        _ => Err(BadWord::Base),
-    }
+    aligned(number_or(0x10000, BadWord::Base, given.base)?)
 }
 
 fn steps_of(given: &Given) -> Result<u64, BadWord>
@@ -231,7 +246,7 @@ fn named_register(w: &[u8]) -> Option<PReg>
     file_register(reg)
 }
 
-fn register_value(w: &[u8]) -> Option<RegisterValue>
+pub(crate) fn register_value(w: &[u8]) -> Option<RegisterValue>
     ensures { result ≡ register_value w.now }
 {
     let (name, text) = two_parts(b'=', w)?;
@@ -256,7 +271,7 @@ fn is_same(a: PReg, b: PReg) -> bool
     a.number == b.number && is_same_file(a.class, b.class)
 }
 
-fn is_among(registers: &[RegisterValue], register: PReg) -> bool
+pub(crate) fn is_among(registers: &[RegisterValue], register: PReg) -> bool
     ensures { result ≡ list_any (λ r. is_same r.register register) registers.now }
 {
     registers.iter().any(|r| is_same(r.register, register))
@@ -429,7 +444,7 @@ fn host_of(given: Option<&str>) -> Result<bool, BadWord>
 }
 
 /// What the words say; or the first bad one, in the order of base, flags, start, steps, data, registers, symbols, slots,
-/// setting, answers and unit.
+/// callees, setting, answers and unit.
 pub fn settings_of(alloc: Global, given: &Given) -> Result<Settings, SettingsError>
     ensures { Reads (settings_of given.now) result }
 {
@@ -441,6 +456,7 @@ pub fn settings_of(alloc: Global, given: &Given) -> Result<Settings, SettingsErr
     let registers = registers_of(alloc, given.registers.as_slice())?;
     let symbols = addresses_of(alloc, Named::Symbol, given.symbols.as_slice())?;
     let slots = addresses_of(alloc, Named::Slot, given.slots.as_slice())?;
+    let callees = callees_of(alloc, symbols.as_slice(), given.callees.as_slice())?;
     let setting = setting_of(given.setting)?;
     let answers = answers_of(alloc, given.answers.as_slice())?;
     let host = host_of(given.unit)?;
@@ -454,6 +470,7 @@ pub fn settings_of(alloc: Global, given: &Given) -> Result<Settings, SettingsErr
         memory,
         symbols,
         slots,
+        callees,
         setting,
         answers,
         host,

@@ -191,7 +191,7 @@ fn with_start<'a>(alloc: Global, c: Command<'a>) -> Result<Command<'a>, OutOfMem
     )
 }
 
-// What stands in the memory, and where symbols are.
+// What stands in the memory, where symbols are, and what stands there.
 fn with_memory<'a>(alloc: Global, c: Command<'a>) -> Result<Command<'a>, OutOfMemory>
     ensures { IfOk result (λ made. app_of made ≡ with_memory (app_of c.entry)) }
 {
@@ -203,12 +203,19 @@ fn with_memory<'a>(alloc: Global, c: Command<'a>) -> Result<Command<'a>, OutOfMe
         "NAME=ADDRESS",
         "Where a symbol is, as userextname0=0x20000",
     )?;
-    with_list(
+    let c = with_list(
         alloc,
         c,
         "slot",
         "NAME=ADDRESS",
         "Where the slot is that holds a symbol's address",
+    )?;
+    with_list(
+        alloc,
+        c,
+        "callee",
+        "CALLEE",
+        "A symbol from which control returns to ra at once, with registers set, as userextname0:a0=5",
     )
 }
 
@@ -310,6 +317,7 @@ fn given_by<'a>(alloc: Global, matches: &ArgMatches<'a>) -> Result<Given<'a>, Ou
         memory: all_given(alloc, matches, "data")?,
         symbols: all_given(alloc, matches, "symbol")?,
         slots: all_given(alloc, matches, "slot")?,
+        callees: all_given(alloc, matches, "callee")?,
         setting: given(matches, "setting"),
         answers: all_given(alloc, matches, "answer")?,
         unit: given(matches, "unit"),

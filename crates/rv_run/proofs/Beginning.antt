@@ -1,7 +1,7 @@
 -- Whether a run begins, and the word that doesn't fit where it doesn't, are the same of a program whose relocations are filled: that has
 -- the same length and the same lines.
 use Rattle.std.proofs.Common.{◌≡◌, ℕ, ◌+◌, ◌^◌, length, Some, None, Result, Ok, Err, refl, sym, ap, ◌∙◌}
-use Rattle.std.specs.Prelude.{nat_lt, if◌then◌else◌}
+use Rattle.std.specs.Prelude.{nat_le, nat_lt, if◌then◌else◌}
 use Rattle.rv_full.specs.Steps.{Machine}
 use Rattle.rv_load.specs.declared.program.Program.{Program}
 use Rattle.rv_load.specs.declared.settings.BadWord.{BadWord}
@@ -18,7 +18,7 @@ abbrev offset_of : Settings → Program → Result ℕ BadWord
 offset_of s p = fits s p then λ base. or_bad (start_word s.start) (start_offset s.start p)
 
 fits_alike : (s : Settings) (p q : Program) → length q.bytes ≡ length p.bytes → fits s q ≡ fits s p
-fits_alike s p q e = ap (λ n. if nat_lt (s.base + n) (2 ^ 64) then Ok s.base else Err bad.Base) e
+fits_alike s p q e = ap (λ n. if nat_le (s.base + n) (2 ^ 64) then Ok s.base else Err bad.Base) e
 
 start_alike : (start : Start) (p q : Program) → length q.bytes ≡ length p.bytes → q.lines ≡ p.lines → start_offset start q ≡ start_offset start p
 start_alike Beginning p q e f = refl

@@ -1,6 +1,6 @@
--- No step of a unit takes a byte's entry away either, so a byte that a run changed has one after it.
-use Rattle.std.proofs.Common.{◌≡◌, ◌∙◌, ℕ, zero, suc, ◌+◌, Bool, true, false, List, [], ◌∷◌, Option, sym, ap, subst}
-use Rattle.std.specs.Prelude.{Some, None, IfSome, if◌then◌else◌, ◌&&◌, nat_eq, ◌%◌, take, unwrap_or}
+-- No step of a unit or of a callee takes a byte's entry away either, so a byte that a run changed has one after it.
+use Rattle.std.proofs.Common.{◌≡◌, ◌∙◌, ℕ, zero, suc, ◌+◌, Bool, true, false, List, [], ◌∷◌, Option, refl, sym, ap, subst}
+use Rattle.std.specs.Prelude.{Some, None, IfSome, if◌then◌else◌, ◌&&◌, nat_eq, ◌*◌, ◌/◌, ◌%◌, take, unwrap_or}
 use Rattle.std.specs.FinMap as map
 use Rattle.std.specs.Int.{to_le_bytes}
 use mir.Syntax.{w64}
@@ -15,7 +15,7 @@ use Rattle.rv_machine.specs.declared.ops.FloatFormat.{FloatFormat}
 use Rattle.rv_machine.specs.declared.ops.VecMemOp.{VecMemOp}
 use Rattle.rv_machine.specs.declared.ops.VecMemOp.TheVariants.{Vsetivli, Vle8, Vle16, Vle32, Vle64, Vse8, Vse16, Vse32, Vse64}
 use Rattle.rv_machine.specs.Decode.{decode}
-use Rattle.rv_machine.specs.State.{Memory, State, byte, wrap}
+use Rattle.rv_machine.specs.State.{Memory, State, at, byte, reg, wrap}
 use Rattle.rv_machine.specs.Steps.{fetch, istep}
 use Rattle.rv_full.specs.declared.answer.Answer.{Answer}
 use Rattle.rv_full.specs.declared.shapes.Target.{Target}
@@ -24,14 +24,20 @@ use Rattle.rv_full.specs.declared.shapes.FloatShape.{FloatShape}
 use Rattle.rv_full.specs.declared.shapes.FloatShape.TheVariants.{Answered, ToInteger, ToFloat, Sign}
 use Rattle.rv_full.specs.declared.shapes.VectorShape.{VectorShape}
 use Rattle.rv_full.specs.declared.shapes.VectorShape.TheVariants as vector
-use Rattle.rv_full.specs.Units.{FullState, FullValues, freg, values_of}
+use Rattle.rv_full.specs.Units.{FullState, FullValues, freg, put, values_of}
 use Rattle.rv_full.specs.Rows.{Kind, Row, Absent, Does, Takes, address_of, fits, first, rest, put_x, put_memory, success_of, stored_of, x_of, y_of}
 use Rattle.rv_full.specs.Atomics.{atomic_row, amo_row, amo_result, sc_row, has_reserved, reservation_of, number_put, old_of, operand, width_bytes}
 use Rattle.rv_full.specs.declared.shapes.Sources.TheVariants as sources
 use Rattle.rv_full.specs.Floats.{format_bytes, shape_row, float_shape, number_row, inputs_of, is_move}
 use Rattle.rv_full.specs.Vectors.{is_legal, arithmetic_inputs, arithmetic_row, vector_shape, vector_load_row, vector_store_row, vector_memory_row, store_some}
 use Rattle.rv_full.specs.UnitRows.{row_of, unit_row}
-use Rattle.rv_full.specs.Steps.{Next, Goes, Asks, Halts, taken, row_next, unit_on, next_by, fnext, fiter, then_fstep, stepped}
+use Rattle.rv_full.specs.Steps.{Next, Goes, Asks, Halts, taken, row_next, unit_on, next_by, fnext, stepped}
+use Rattle.rv_base.specs.declared.regs.RegClass.{RegClass}
+use Rattle.rv_base.specs.declared.regs.RegClass.TheVariants as classes
+use Rattle.rv_load.specs.declared.callees.Callee.{Callee}
+use Rattle.rv_load.specs.declared.settings.RegisterValue.{RegisterValue}
+use Rattle.rv_steps.specs.Callees.{callee_at, returned, step_at, steps_with, then_step_with}
+use Rattle.rv_steps.specs.Starting.{set_register, set_registers}
 use Rattle.rv_run.proofs.Grows.{Grows, Has, insert_grows, step_grows, store_grows}
 
 same : (mem : Memory) → Grows mem mem
@@ -175,20 +181,37 @@ stepped_grows mem old (Goes b) grew has = λ a e. grew a (has a e)
 stepped_grows mem old Asks grew has = tt
 stepped_grows mem old Halts grew has = tt
 
-then_grows : (flags : IsaFlags) (mem : Memory) (o : Option FullState) → FullHas mem o → FullHas mem (then_fstep flags o)
-then_grows flags mem None has = tt
-then_grows flags mem (Some b) has = stepped_grows mem b.state.values.mem (fnext flags b) has (next_grows flags b)
+-- a callee leaves the memory as it is
+set_same : (class : RegClass) (n x : ℕ) (b : FullState) → (set_register b class n x).state.values.mem ≡ b.state.values.mem
+set_same classes.Int n x b = refl
+set_same classes.Float n x b = refl
+set_same classes.Vector n x b = refl
 
-all_grows : (flags : IsaFlags) (k : ℕ) (first : FullState) → FullHas first.state.values.mem (fiter flags k first)
-unfolding fiter
-all_grows flags zero first = λ a e. e
-all_grows flags (suc k) first = then_grows flags first.state.values.mem (fiter flags k first) (all_grows flags k first)
+sets_same : (rs : List RegisterValue) (b : FullState) → (set_registers b rs).state.values.mem ≡ b.state.values.mem
+sets_same [] b = refl
+sets_same (r ∷ rs) b = sets_same rs (set_register b r.register.class r.register.number r.value) ∙ set_same r.register.class r.register.number r.value b
 
-run_grows : (flags : IsaFlags) (k : ℕ) (first last : FullState) → fiter flags k first ≡ Some last → Grows first.state.values.mem last.state.values.mem
-run_grows flags k first last steps = subst (FullHas first.state.values.mem) steps (all_grows flags k first)
+returned_same : (c : Callee) (b : FullState) → (returned c b).state.values.mem ≡ b.state.values.mem
+returned_same c b = sets_same c.registers (put (at (reg b.state.values 1 / 2 * 2) b.state.values) b)
+
+step_full_grows : (o : Option Callee) (flags : IsaFlags) (mem : Memory) (b : FullState) → Grows mem b.state.values.mem → FullHas mem (step_at o flags b)
+step_full_grows None flags mem b has = stepped_grows mem b.state.values.mem (fnext flags b) has (next_grows flags b)
+step_full_grows (Some c) flags mem b has = subst (Grows mem) (sym (returned_same c b)) has
+
+then_grows : (callees : List Callee) (flags : IsaFlags) (mem : Memory) (o : Option FullState) → FullHas mem o → FullHas mem (then_step_with callees flags o)
+then_grows callees flags mem None has = tt
+then_grows callees flags mem (Some b) has = step_full_grows (callee_at callees b.state.pc) flags mem b has
+
+all_grows : (callees : List Callee) (flags : IsaFlags) (k : ℕ) (first : FullState) → FullHas first.state.values.mem (steps_with callees flags k first)
+unfolding steps_with
+all_grows callees flags zero first = λ a e. e
+all_grows callees flags (suc k) first = then_grows callees flags first.state.values.mem (steps_with callees flags k first) (all_grows callees flags k first)
+
+run_grows : (callees : List Callee) (flags : IsaFlags) (k : ℕ) (first last : FullState) → steps_with callees flags k first ≡ Some last → Grows first.state.values.mem last.state.values.mem
+run_grows callees flags k first last steps = subst (FullHas first.state.values.mem) steps (all_grows callees flags k first)
 
 -- a byte that has no entry after so many steps is 0 before and after them
-pub unwritten : (flags : IsaFlags) (k : ℕ) (first last : FullState) → fiter flags k first ≡ Some last → (a : ℕ) → map.get last.state.values.mem a ≡ None
+pub unwritten : (callees : List Callee) (flags : IsaFlags) (k : ℕ) (first last : FullState) → steps_with callees flags k first ≡ Some last → (a : ℕ) → map.get last.state.values.mem a ≡ None
     → byte last.state.values.mem a ≡ byte first.state.values.mem a
-unwritten flags k first last steps a none =
-    ap (λ (o : Option ℕ). unwrap_or o 0) (none ∙ sym (run_grows flags k first last steps a none))
+unwritten callees flags k first last steps a none =
+    ap (λ (o : Option ℕ). unwrap_or o 0) (none ∙ sym (run_grows callees flags k first last steps a none))

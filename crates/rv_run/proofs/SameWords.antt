@@ -7,6 +7,7 @@ use Rattle.std.proofs.lemmas.Option.{same_Some, slice_get-map}
 use Rattle.rv_base.specs.declared.external_name.ExternalName.{ExternalName}
 use Rattle.rv_listing.specs.FlagsHeader.{flags_form}
 use Rattle.rv_listing.specs.Tokens.{◌>>=◌, natural, parts_of}
+use Rattle.rv_load.specs.declared.callees.Callee.{Callee}
 use Rattle.rv_load.specs.declared.given.Given.{Given}
 use Rattle.rv_load.specs.declared.settings.BadWord.{BadWord}
 use Rattle.rv_load.specs.declared.settings.BadWord.TheVariants as bad
@@ -19,7 +20,7 @@ use Rattle.rv_load.specs.declared.settings.Start.TheVariants as start
 use Rattle.rv_full.specs.declared.answer.Answer.{Answer}
 use Rattle.rv_load.specs.Answers.{answer, setting_pair}
 use Rattle.rv_load.specs.Command.{Parses}
-use Rattle.rv_load.specs.Words.{or_bad, ◌then◌, number_or, aligned, start_of, flags_of, put_register, registers_from, data_bytes, data_from, put_address, addresses_from, setting_of, answers_from, host_of, settings_of}
+use Rattle.rv_load.specs.Words.{or_bad, ◌then◌, number_or, aligned, start_of, flags_of, put_register, registers_from, data_bytes, data_from, put_address, addresses_from, put_callee, callees_from, setting_of, answers_from, host_of, settings_of}
 use Rattle.rv_run.specs.Outcomes.{Asked, given_text, listed_text, addresses_of, word_text}
 
 abbrev text : Option (Bor (List ℕ)) → Option (List ℕ)
@@ -41,6 +42,7 @@ pub record Alike (g h : Given) : Type 0 where
   registers : texts g.registers ≡ texts h.registers
   symbols : texts g.symbols ≡ texts h.symbols
   slots : texts g.slots ≡ texts h.slots
+  callees : texts g.callees ≡ texts h.callees
   setting : text g.setting ≡ text h.setting
   answers : texts g.answers ≡ texts h.answers
   unit : text g.unit ≡ text h.unit
@@ -58,6 +60,7 @@ alike words g h p q = record {
   registers = p.1.registers ∙ sym q.1.registers;
   symbols = p.1.symbols ∙ sym q.1.symbols;
   slots = p.1.slots ∙ sym q.1.slots;
+  callees = p.1.callees ∙ sym q.1.callees;
   setting = p.1.setting ∙ sym q.1.setting;
   answers = p.1.answers ∙ sym q.1.answers;
   unit = p.1.unit ∙ sym q.1.unit;
@@ -116,6 +119,15 @@ addresses_alike named i old (x ∷ xs) (y ∷ ys) e =
     let rest : texts xs ≡ texts ys = cc in
     λ j. put_address named i old (first j) then λ new. addresses_alike named (i + 1) new xs ys rest j
 
+callees_alike : (symbols : List (ExternalName × ℕ)) (i : ℕ) (old : List Callee) (xs ys : List (Bor (List ℕ))) → texts xs ≡ texts ys → callees_from symbols i old xs ≡ callees_from symbols i old ys
+callees_alike symbols i old [] [] e = refl
+callees_alike symbols i old [] (y ∷ ys) e = absurd (cc)
+callees_alike symbols i old (x ∷ xs) [] e = absurd (cc)
+callees_alike symbols i old (x ∷ xs) (y ∷ ys) e =
+    let first : x.now ≡ y.now = cc in
+    let rest : texts xs ≡ texts ys = cc in
+    λ j. put_callee symbols i old (first j) then λ new. callees_alike symbols (i + 1) new xs ys rest j
+
 setting_alike : (a b : Option (Bor (List ℕ))) → text a ≡ text b → setting_of a ≡ setting_of b
 setting_alike None None e = refl
 setting_alike None (Some y) e = absurd (cc)
@@ -142,8 +154,23 @@ settings_alike g h a j =
     (number_alike 0x10000 bad.Base g.base h.base a.base j then aligned) then λ base. flags_alike g.flags h.flags a.flags j then λ flags. start_alike g.from h.from g.at h.at a.from a.at j then λ start. number_alike 10000000 bad.Steps g.steps h.steps a.steps j then λ steps.
     data_alike 0 [] g.memory h.memory a.memory j then λ bytes. registers_alike 0 [] g.registers h.registers a.registers j then λ registers.
     addresses_alike Symbol 0 [] g.symbols h.symbols a.symbols j then λ symbols. addresses_alike Slot 0 [] g.slots h.slots a.slots j then λ slots.
+    callees_alike symbols 0 [] g.callees h.callees a.callees j then λ callees.
     setting_alike g.setting h.setting a.setting j then λ setting. answers_alike 0 [] g.answers h.answers a.answers j then λ answers. host_alike g.unit h.unit a.unit j then λ host.
-    Ok (record { base = base; flags = flags; start = start; steps = steps; trace = a.trace j; registers = registers; memory = bytes; symbols = symbols; slots = slots; setting = setting; answers = answers; host = host })
+    Ok (record {
+      base = base;
+      flags = flags;
+      start = start;
+      steps = steps;
+      trace = a.trace j;
+      registers = registers;
+      memory = bytes;
+      symbols = symbols;
+      slots = slots;
+      callees = callees;
+      setting = setting;
+      answers = answers;
+      host = host;
+    })
 
 -- a result is one
 pub not_both : {X Y : Type 0} (r : Result X Y) (x : X) (y : Y) → r ≡ Ok x → r ≡ Err y → ⊥
@@ -184,6 +211,8 @@ word_alike g h a (bad.Register index) = listed_alike index g.registers h.registe
 word_alike g h a (bad.Twice index) = listed_alike index g.registers h.registers a.registers
 word_alike g h a (bad.Address named index) = listed_alike index (addresses_of g named) (addresses_of h named) (addresses_texts g h a named)
 word_alike g h a (bad.AddressTwice named index) = listed_alike index (addresses_of g named) (addresses_of h named) (addresses_texts g h a named)
+word_alike g h a (bad.Callee index) = listed_alike index g.callees h.callees a.callees
+word_alike g h a (bad.CalleeTwice index) = listed_alike index g.callees h.callees a.callees
 word_alike g h a bad.Setting = given_alike g.setting h.setting a.setting
 word_alike g h a (bad.Answer index) = listed_alike index g.answers h.answers a.answers
 word_alike g h a bad.Unit = given_alike g.unit h.unit a.unit

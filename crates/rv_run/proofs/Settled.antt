@@ -14,7 +14,7 @@ use Rattle.rv_load.specs.declared.settings.BadWord.{BadWord}
 use Rattle.rv_load.specs.declared.settings.Settings.{Settings}
 use Rattle.rv_load.specs.Command.{Parses}
 use Rattle.rv_load.specs.Words.{settings_of}
-use Rattle.rv_run.specs.Outcomes.{Call, Loads, OfProgram, Means, Asked, Read, IsBadWord, Ended, limit, word_text, unplaced, IsLinked, IsUnfit, IsRefused, reloc_of}
+use Rattle.rv_run.specs.Outcomes.{Call, Loads, OfProgram, Means, Asked, Read, IsBadWord, Ended, limit, word_text, unplaced, IsLinked, IsUnfit, IsRefused, WriteFaults, reloc_of}
 use Rattle.rv_run.specs.Settled.{IsOrOutOfMemory, IsOfWords, IsRan, NoFault, IsSettled}
 use Rattle.rv_steps.specs.Starting.{begin}
 use Rattle.rv_run.specs.declared.outcome.Outcome.{Outcome}
@@ -249,7 +249,7 @@ module _ (g : Given) (s : Settings) (input : List ℕ) where
 
 -- ---- by the words alone
 
-asks_none : (c : Call) (returned : Outcome) → Ended c returned → ((g : Given) → ¬ Parses c.words (Ok g)) → ¬ Rose c.write_faults c.write_faults_after → IsOfWords returned
+asks_none : (c : Call) (returned : Outcome) → Ended c returned → ((g : Given) → ¬ Parses c.words (Ok g)) → ¬ WriteFaults c → IsOfWords returned
 asks_none c (ends.Help text) ended none fine = tt
 asks_none c (ends.Version text) ended none fine = tt
 asks_none c (ends.Usage text) ended none fine = tt
@@ -263,7 +263,7 @@ asks_none c ends.TooLong ended none fine = absurd (none ended.0.0.0 ended.0.0.2.
 asks_none c ends.ReadFault ended none fine = absurd (none ended.0.0 ended.0.2.parsed)
 asks_none c ends.WriteFault ended none fine = absurd (fine ended.0)
 
-module _ (c : Call) (g : Given) (cause : BadWord) (parsed : Parses c.words (Ok g)) (set : settings_of g ≡ Err cause) (fine : ¬ Rose c.write_faults c.write_faults_after) where
+module _ (c : Call) (g : Given) (cause : BadWord) (parsed : Parses c.words (Ok g)) (set : settings_of g ≡ Err cause) (fine : ¬ WriteFaults c) where
   -- no run is asked for
   not_asked : (h : Given) (t : Settings) → Asked c.words h t → ⊥
   not_asked h t a =

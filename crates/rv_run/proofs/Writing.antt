@@ -1,11 +1,11 @@
 -- What was due and was written ends a call.
-use Rattle.std.proofs.Common.{ℕ, inl, inr, List, sym, subst}
+use Rattle.std.proofs.Common.{ℕ, Bool, true, false, ◌⊎◌, inl, inr, List, sym, subst}
 use Rattle.std.specs.Io.KnownBytes.{Appends}
 use Rattle.rv_load.specs.declared.given.Given.{Given}
 use Rattle.rv_load.specs.declared.settings.Settings.{Settings}
 use Rattle.rv_run.specs.declared.outcome.Outcome.{Outcome}
 use Rattle.rv_run.specs.declared.outcome.Outcome.TheVariants as ends
-use Rattle.rv_run.specs.Outcomes.{Call, Read, Due, Means, WritesText, text_of, Ended}
+use Rattle.rv_run.specs.Outcomes.{Call, Read, Due, IsFault, IsUntouched, Means, Taken, WritesText, is_asked, other, own, own_of, text_of, Ended}
 
 -- nothing is due of an outcome that no input means
 abbrev IsMeant : Outcome → Type 0
@@ -14,24 +14,29 @@ IsMeant outcome = (g : Given) × (s : Settings) × (input : List ℕ) × Means g
 meant : (c : Call) (outcome : Outcome) → Read c outcome → IsMeant outcome
 meant c outcome read = (read.0, read.1, read.3, read.6)
 
-written : (c : Call) (outcome : Outcome) → Due c outcome → Appends c.taken c.taken_after (text_of outcome) → Ended c outcome
-written c (ends.Ran run) due appended = (due, appended)
-written c (ends.Help text) due appended = (due, appended)
-written c (ends.Version text) due appended = (due, appended)
-written c (ends.Usage text) due appended = (due, appended)
-written c (ends.BadWord cause word) due appended = (due, appended)
-written c (ends.NotReport line) due appended = (due, appended)
-written c ends.NotHex due appended = (due, appended)
-written c (ends.Unplaced error reloc) due appended = (due, appended)
-written c ends.TooLong due appended = (due, appended)
-written c ends.ReadFault due appended = absurd (meant c ends.ReadFault due).3
-written c ends.WriteFault due appended = absurd (meant c ends.WriteFault due).3
-written c ends.OutOfMemory due appended = absurd (meant c ends.OutOfMemory due).3
+written : (c : Call) (outcome : Outcome) → Due c outcome → Appends (own outcome c).taken (own outcome c).taken_after (text_of outcome) → IsUntouched (other outcome c) → Ended c outcome
+written c (ends.Ran run) due appended same = (due, appended, same)
+written c (ends.Help text) due appended same = (due, appended, same)
+written c (ends.Version text) due appended same = (due, appended, same)
+written c (ends.Usage text) due appended same = (due, appended, same)
+written c (ends.BadWord cause word) due appended same = (due, appended, same)
+written c (ends.NotReport line) due appended same = (due, appended, same)
+written c ends.NotHex due appended same = (due, appended, same)
+written c (ends.Unplaced error reloc) due appended same = (due, appended, same)
+written c ends.TooLong due appended same = (due, appended, same)
+written c ends.ReadFault due appended same = absurd (meant c ends.ReadFault due).3
+written c ends.WriteFault due appended same = absurd (meant c ends.WriteFault due).3
+written c ends.OutOfMemory due appended same = absurd (meant c ends.OutOfMemory due).3
 
-pub ended_written : (c : Call) (outcome returned : Outcome) → Due c outcome → WritesText outcome c.taken c.taken_after c.write_faults c.write_faults_after returned → Ended c returned
-ended_written c outcome returned due (inl (is, appended)) = subst (λ (o : Outcome). Ended c o) (sym is) (written c outcome due appended)
-ended_written c outcome returned due (inr (inl (is, rose, front))) = subst (λ (o : Outcome). Ended c o) (sym is) (rose, (outcome, due, front))
-ended_written c outcome returned due (inr (inr (is, front))) = subst (λ (o : Outcome). Ended c o) (sym is) (inr (outcome, due, front))
+a_fault : (is_output : Bool) (output errors : Taken) → IsFault (own_of is_output output errors) → IsFault output ⊎ IsFault errors
+a_fault true output errors rose = inl rose
+a_fault false output errors rose = inr rose
+
+pub ended_written : (c : Call) (outcome returned : Outcome) → Due c outcome → WritesText outcome c.output c.errors returned → Ended c returned
+ended_written c outcome returned due (inl (is, appended), same) = subst (λ (o : Outcome). Ended c o) (sym is) (written c outcome due appended same)
+ended_written c outcome returned due (inr (inl (is, rose, front)), same) =
+    subst (λ (o : Outcome). Ended c o) (sym is) (a_fault (is_asked outcome) c.output c.errors rose, (outcome, due, front, same))
+ended_written c outcome returned due (inr (inr (is, front)), same) = subst (λ (o : Outcome). Ended c o) (sym is) (inr (outcome, due, front, same))
 
 -- an outcome that an input means is due where the input was read
 pub due_read : (c : Call) (outcome : Outcome) → Read c outcome → Due c outcome

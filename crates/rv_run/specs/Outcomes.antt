@@ -1,7 +1,7 @@
 -- How a call of the program ends, and why.
-use Rattle.std.specs.Prelude.{◌≡◌, ℕ, ◌<◌, ◌≤◌, ◌⊎◌, Bool, true, false, List, [], ◌++◌, length, slice_get, if◌then◌else◌, Option, Some, None, Result, Ok, Err, IfSome, unwrap_or, option_map, codes}
+use Rattle.std.specs.Prelude.{◌≡◌, ℕ, ◌+◌, ◌<◌, ◌≤◌, ◌⊎◌, nat_lt, Bool, true, false, List, [], ◌++◌, length, slice_get, if◌then◌else◌, Option, Some, None, Result, Ok, Err, IfSome, unwrap_or, option_map, codes}
 use Rattle.std.specs.Borrow.{Bor}
-use Rattle.std.specs.Io.KnownBytes.{Appends, Keeps}
+use Rattle.std.specs.Io.KnownBytes.{Appends}
 use Rattle.std.specs.Fmt.{decimal}
 use Rattle.std.specs.FinMap as map
 use Rattle.mach_records.specs.declared.records.MachReloc.{MachReloc}
@@ -14,7 +14,7 @@ use Rattle.rv_fill.specs.Refusal.{refusal}
 use Rattle.rv_listing.specs.Relocations.{target_text}
 use Rattle.rv_machine.specs.State.{State, byte}
 use Rattle.rv_full.specs.Units.{put}
-use Rattle.rv_full.specs.Steps.{Machine}
+use Rattle.rv_full.specs.Steps.{Machine, fiter}
 use Rattle.rv_stream.specs.Ends.{Rose, TookFront, Gave}
 use Rattle.rv_load.specs.declared.given.Given.{Given}
 use Rattle.rv_load.specs.declared.program.Program.{Program}
@@ -31,7 +31,7 @@ use Rattle.rv_load.specs.Hex.{ReadsHex}
 use Rattle.rv_load.specs.Report.{ReadsReport}
 use Rattle.rv_load.specs.Words.{settings_of}
 use Rattle.rv_steps.specs.Files.{unit_lines}
-use Rattle.rv_steps.specs.Computed.{HostRuns}
+use Rattle.rv_steps.specs.Computed.{HostRuns, with_more}
 use Rattle.rv_steps.specs.FullRunning.{IsIntegerEnd}
 use Rattle.rv_run.specs.Memory.{memory_lines}
 use Rattle.rv_run.specs.Output.{file, run_text}
@@ -56,6 +56,8 @@ cause_text (bad.Register index) = codes "no REGISTER=VALUE with a register x1 to
 cause_text (bad.Twice index) = codes "sets a register that an earlier word sets"
 cause_text (bad.Address named index) = codes "no NAME=ADDRESS with a name as userextname0 and an address below 2^64"
 cause_text (bad.AddressTwice named index) = codes "gives a name that an earlier word gives"
+cause_text (bad.Callee index) = codes "no NAME or NAME:REGISTER=VALUE,.. with a name whose address a --symbol gives, and each register once"
+cause_text (bad.CalleeTwice index) = codes "gives a name that an earlier word gives"
 cause_text bad.Setting = codes "no AVL,VTYPE with a vector length below 32 and a vtype below 256"
 cause_text (bad.Answer index) = codes "no success, failure, bits:VALUE, length:N, vector:N=0xBITS or stored:HEX"
 cause_text bad.Unit = codes "no unit, which host is"
@@ -146,19 +148,23 @@ abbrev pub Loads : Bool → List ℕ → Result Program ProgramError → Type 0
 Loads true = ReadsHex
 Loads false = ReadsReport
 
--- What is shown is of the machine that so many steps of the model reach from the one that the words and the program give, with
--- the answers of the words and then those that the host computes, where the words name it; and the run ended there for this cause.
+-- What is shown is of the machine that so many steps of the model and of callees reach from the one that the words and the program give,
+-- with the answers of the words and then those that the host computes, where the words name it; and the run ended there for this cause.
 pub record IsRun (s : Settings) (p : Program) (run : Run) : Type 0 where
   pub first : Machine
   pub last : Machine
   pub begins : begin s p ≡ Ok first
-  pub ran : HostRuns s.host s.trace s.flags s.base (length p.bytes) s.steps first.full run.steps last.full run.ending run.trace
-  -- a run of the integer machine is this one, where no unit goes on at its end: as many steps, to the same state and cause, and all else as it was
-  pub integer : (k : ℕ) (t : State) (ending : Ending) → Runs s.flags s.base (length p.bytes) s.steps first.full.state k t ending → IsIntegerEnd s.flags (put t first.full) ending
+  pub ran : HostRuns s.host s.trace s.callees s.flags s.base (length p.bytes) s.steps first.full (run.steps + run.calls) run.calls last.full run.ending run.trace
+  -- where no callee is given, all steps are the model's
+  pub own : s.callees ≡ [] → (run.calls ≡ 0) × (fiter s.flags run.steps (with_more ran.more first.full) ≡ Some last.full)
+  -- and then a run of the integer machine is this one, where no unit goes on at its end: as many steps, to the same state and cause, and all else
+  -- as it was
+  pub integer : s.callees ≡ [] → (k : ℕ) (t : State) (ending : Ending) → Runs s.flags s.base (length p.bytes) s.steps first.full.state k t ending → IsIntegerEnd s.flags (put t first.full) ending
       → (run.steps ≡ k) × (last.full ≡ put t first.full) × (run.ending ≡ ending)
   -- what has no byte written at the end is as it was
   pub unwritten : (a : ℕ) → map.get last.full.state.values.mem a ≡ None → byte last.full.state.values.mem a ≡ byte first.full.state.values.mem a
   pub flags : run.flags ≡ s.flags
+  pub has_callees : run.has_callees ≡ nat_lt 0 (length s.callees)
   pub before : run.before ≡ file 31 first.full.state.values
   pub after : run.after ≡ file 31 last.full.state.values
   pub units : run.units ≡ unit_lines first.full.units last.full.units
@@ -189,6 +195,8 @@ word_text g (bad.Register index) = listed_text g.registers index
 word_text g (bad.Twice index) = listed_text g.registers index
 word_text g (bad.Address named index) = listed_text (addresses_of g named) index
 word_text g (bad.AddressTwice named index) = listed_text (addresses_of g named) index
+word_text g (bad.Callee index) = listed_text g.callees index
+word_text g (bad.CalleeTwice index) = listed_text g.callees index
 word_text g bad.Setting = given_text g.setting
 word_text g (bad.Answer index) = listed_text g.answers index
 word_text g bad.Unit = given_text g.unit
@@ -274,21 +282,34 @@ Means g s input ends.OutOfMemory = ⊥
 abbrev pub Words : Type 0
 Words = List (List ℕ)
 
--- What a call began with, and what it left: its words, the bytes left and taken, where they are known, and the counts of
--- faults.
+-- What a sink took before a call and after it, where that is known, and its counts of faults.
+pub record Taken : Type 0 where
+  pub taken : Option (List ℕ)
+  pub taken_after : Option (List ℕ)
+  pub faults : ℕ
+  pub faults_after : ℕ
+
+abbrev pub taken : Option (List ℕ) → Option (List ℕ) → ℕ → ℕ → Taken
+taken old new before after = record { taken = old; taken_after = new; faults = before; faults_after = after }
+
+-- nothing of a sink changed
+pub record IsUntouched (t : Taken) : Type 0 where
+  pub as_it_was : t.taken_after ≡ t.taken
+  pub faults_stay : t.faults_after ≡ t.faults
+
+-- What a call began with, and what it left: its words, the bytes left where they are known, the count of faults, and what standard output
+-- and standard error took.
 pub record Call : Type 0 where
   pub words : Words
   pub left : Option (List ℕ)
   pub left_after : Option (List ℕ)
   pub read_faults : ℕ
   pub read_faults_after : ℕ
-  pub taken : Option (List ℕ)
-  pub taken_after : Option (List ℕ)
-  pub write_faults : ℕ
-  pub write_faults_after : ℕ
+  pub output : Taken
+  pub errors : Taken
 
-abbrev pub call : Words → Option (List ℕ) → Option (List ℕ) → ℕ → ℕ → Option (List ℕ) → Option (List ℕ) → ℕ → ℕ → Call
-call words left left_after r r_after taken taken_after w w_after = record { words = words; left = left; left_after = left_after; read_faults = r; read_faults_after = r_after; taken = taken; taken_after = taken_after; write_faults = w; write_faults_after = w_after }
+abbrev pub call : Words → Option (List ℕ) → Option (List ℕ) → ℕ → ℕ → Taken → Taken → Call
+call words left left_after r r_after output errors = record { words = words; left = left; left_after = left_after; read_faults = r; read_faults_after = r_after; output = output; errors = errors }
 
 abbrev pub limit : ℕ
 limit = 16777216
@@ -323,24 +344,71 @@ Due c ends.TooLong = Asks c × Gave (λ n. limit < n) c.left c.left_after
 Due c (ends.BadWord cause word) = IsBadWord c cause word ⊎ Read c (ends.BadWord cause word)
 Due c outcome = Read c outcome
 
--- the text that was due was written
-abbrev pub Wrote : Call → Outcome → Type 0
-Wrote c outcome = Due c outcome × Appends c.taken c.taken_after (text_of outcome)
+-- What was asked for is written to standard output: a run, help or the version. Why there is none of these is written to standard error.
+abbrev pub is_asked : Outcome → Bool
+is_asked (ends.Ran run) = true
+is_asked (ends.Help text) = true
+is_asked (ends.Version text) = true
+is_asked (ends.Usage text) = false
+is_asked (ends.BadWord cause word) = false
+is_asked (ends.NotReport line) = false
+is_asked ends.NotHex = false
+is_asked (ends.Unplaced error reloc) = false
+is_asked ends.TooLong = false
+is_asked ends.ReadFault = false
+is_asked ends.WriteFault = false
+is_asked ends.OutOfMemory = false
 
--- a front of a text that was due was written
+-- the sink that is written to, and the other one
+abbrev pub own_of : Bool → Taken → Taken → Taken
+own_of true output errors = output
+own_of false output errors = errors
+
+abbrev pub other_of : Bool → Taken → Taken → Taken
+other_of true output errors = errors
+other_of false output errors = output
+
+abbrev pub own : Outcome → Call → Taken
+own outcome c = own_of (is_asked outcome) c.output c.errors
+
+abbrev pub other : Outcome → Call → Taken
+other outcome c = other_of (is_asked outcome) c.output c.errors
+
+-- the text that was due was written to its sink, and nothing to the other
+abbrev pub Wrote : Call → Outcome → Type 0
+Wrote c outcome = Due c outcome × Appends (own outcome c).taken (own outcome c).taken_after (text_of outcome) × IsUntouched (other outcome c)
+
+-- a front of a text that was due was written to its sink, and nothing to the other
 abbrev pub WroteFront : Call → Type 0
-WroteFront c = (outcome : Outcome) × Due c outcome × TookFront c.taken c.taken_after (text_of outcome)
+WroteFront c = (outcome : Outcome) × Due c outcome × TookFront (own outcome c).taken (own outcome c).taken_after (text_of outcome) × IsUntouched (other outcome c)
+
+-- a fault of a sink
+abbrev pub IsFault : Taken → Type 0
+IsFault t = Rose t.faults t.faults_after
+
+abbrev pub WriteFaults : Call → Type 0
+WriteFaults c = IsFault c.output ⊎ IsFault c.errors
+
+abbrev pub Untouched : Call → Type 0
+Untouched c = IsUntouched c.output × IsUntouched c.errors
 
 -- why a call ended so, and what it left written; a fault of the source came before more bytes than may be read
 abbrev pub Ended : Call → Outcome → Type 0
-Ended c ends.ReadFault = Asks c × Rose c.read_faults c.read_faults_after × Gave (λ n. n ≤ limit) c.left c.left_after × Keeps c.taken c.taken_after
-Ended c ends.WriteFault = Rose c.write_faults c.write_faults_after × WroteFront c
-Ended c ends.OutOfMemory = Keeps c.taken c.taken_after ⊎ WroteFront c
+Ended c ends.ReadFault = Asks c × Rose c.read_faults c.read_faults_after × Gave (λ n. n ≤ limit) c.left c.left_after × Untouched c
+Ended c ends.WriteFault = WriteFaults c × WroteFront c
+Ended c ends.OutOfMemory = Untouched c ⊎ WroteFront c
 Ended c outcome = Wrote c outcome
 
 -- A text was written and the outcome meant is returned, or a fault of the sink came, or memory ran out.
-abbrev pub WritesText : Outcome → Option (List ℕ) → Option (List ℕ) → ℕ → ℕ → Outcome → Type 0
-WritesText outcome old new before after returned =
-    ((returned ≡ outcome) × Appends old new (text_of outcome))
-    ⊎ ((returned ≡ ends.WriteFault) × Rose before after × TookFront old new (text_of outcome))
-    ⊎ ((returned ≡ ends.OutOfMemory) × TookFront old new (text_of outcome))
+abbrev pub WritesTo : Outcome → Taken → Outcome → Type 0
+WritesTo outcome t returned =
+    ((returned ≡ outcome) × Appends t.taken t.taken_after (text_of outcome))
+    ⊎ ((returned ≡ ends.WriteFault) × IsFault t × TookFront t.taken t.taken_after (text_of outcome))
+    ⊎ ((returned ≡ ends.OutOfMemory) × TookFront t.taken t.taken_after (text_of outcome))
+
+-- to one of two sinks, and nothing to the other
+abbrev pub WritesOn : Bool → Outcome → Taken → Taken → Outcome → Type 0
+WritesOn is_output outcome output errors returned = WritesTo outcome (own_of is_output output errors) returned × IsUntouched (other_of is_output output errors)
+
+abbrev pub WritesText : Outcome → Taken → Taken → Outcome → Type 0
+WritesText outcome output errors returned = WritesOn (is_asked outcome) outcome output errors returned

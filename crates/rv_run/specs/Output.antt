@@ -1,5 +1,5 @@
 -- The text of a run.
-use Rattle.std.specs.Prelude.{ℕ, zero, suc, ◌+◌, List, [], ◌∷◌, ◌++◌, ◌==◌, if◌then◌else◌, codes, Option, Some, None}
+use Rattle.std.specs.Prelude.{ℕ, zero, suc, ◌+◌, Bool, true, false, List, [], ◌∷◌, ◌++◌, ◌==◌, if◌then◌else◌, codes, Option, Some, None}
 use Rattle.std.specs.Fmt.{decimal, signed_decimal}
 use Rattle.std.specs.Int.{w64, cast_signed}
 use Rattle.rv_base.specs.RegNames.{int_names, name_at}
@@ -27,6 +27,11 @@ ending_line flags (NeedsAnswer offset word) = codes "needs an answer at " ++ dec
 abbrev pub steps_line : ℕ → List ℕ
 steps_line k = codes "steps " ++ decimal k ++ codes "\n"
 
+-- how many steps were the callees', where there are any
+abbrev pub calls_line : Bool → ℕ → List ℕ
+calls_line false n = []
+calls_line true n = codes "calls " ++ decimal n ++ codes "\n"
+
 -- the register x1 and on, n of them
 abbrev pub file : ℕ → Values → List ℕ
 file zero v = []
@@ -42,6 +47,6 @@ changes n [] after = []
 changes n (x ∷ xs) [] = []
 changes n (x ∷ xs) (y ∷ ys) = (if x == y then [] else register_line n y) ++ changes (n + 1) xs ys
 
--- the steps, how the run ended, how many steps it had, and the registers and the memory that changed
+-- the steps, how the run ended, how many steps it had and how many the callees, and the registers and the memory that changed
 abbrev pub run_text : Run → List ℕ
-run_text r = r.trace ++ ending_line r.flags r.ending ++ steps_line r.steps ++ changes 1 r.before r.after ++ r.units ++ r.memory
+run_text r = r.trace ++ ending_line r.flags r.ending ++ steps_line r.steps ++ calls_line r.has_callees r.calls ++ changes 1 r.before r.after ++ r.units ++ r.memory

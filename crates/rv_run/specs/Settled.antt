@@ -10,7 +10,7 @@ use Rattle.rv_load.specs.declared.settings.BadWord.{BadWord}
 use Rattle.rv_load.specs.declared.settings.Settings.{Settings}
 use Rattle.rv_load.specs.Command.{Parses}
 use Rattle.rv_load.specs.Words.{settings_of}
-use Rattle.rv_run.specs.Outcomes.{Call, Loads, Asked, limit, word_text, unplaced, IsUnfit, IsRefused, reloc_of}
+use Rattle.rv_run.specs.Outcomes.{Call, Loads, Asked, limit, word_text, unplaced, IsUnfit, IsRefused, WriteFaults, reloc_of}
 use Rattle.rv_steps.specs.Starting.{begin}
 use Rattle.rv_run.specs.declared.outcome.Outcome.{Outcome}
 use Rattle.rv_run.specs.declared.outcome.Outcome.TheVariants as ends
@@ -33,7 +33,7 @@ IsRan ends.OutOfMemory = Unit {0}
 IsRan other = ⊥
 
 abbrev pub NoFault : Call → Type 0
-NoFault c = ¬ Rose c.read_faults c.read_faults_after × ¬ Rose c.write_faults c.write_faults_after
+NoFault c = ¬ Rose c.read_faults c.read_faults_after × ¬ WriteFaults c
 
 -- an input of no more bytes than may be read, where it is known
 abbrev pub IfShort : Call → (List ℕ → Type 0) → Type 0
@@ -44,8 +44,8 @@ IfShort c P = IfSome c.left (λ input. length input ≤ limit → P input)
 -- from which no run begins by the word that doesn't fit it. From any other there is a run: where no relocation is refused there is the
 -- program with all of them filled, and a run begins from that one where one begins from the program as it is.
 pub record IsSettled (c : Call) (returned : Outcome) : Type 0 where
-  pub of_words : ((g : Given) → ¬ Parses c.words (Ok g)) → ¬ Rose c.write_faults c.write_faults_after → IsOfWords returned
-  pub bad_word : (g : Given) (cause : BadWord) → Parses c.words (Ok g) → settings_of g ≡ Err cause → ¬ Rose c.write_faults c.write_faults_after → IsOrOutOfMemory returned (ends.BadWord cause (word_text g cause))
+  pub of_words : ((g : Given) → ¬ Parses c.words (Ok g)) → ¬ WriteFaults c → IsOfWords returned
+  pub bad_word : (g : Given) (cause : BadWord) → Parses c.words (Ok g) → settings_of g ≡ Err cause → ¬ WriteFaults c → IsOrOutOfMemory returned (ends.BadWord cause (word_text g cause))
   pub too_long : (g : Given) (s : Settings) → Asked c.words g s → NoFault c → IfSome c.left (λ input. limit < length input → IsOrOutOfMemory returned ends.TooLong)
   pub not_report : (g : Given) (s : Settings) (line : ℕ) → Asked c.words g s → NoFault c → IfShort c (λ input. Loads g.hex input (Err (program_errors.NotReport line)) → IsOrOutOfMemory returned (ends.NotReport line))
   pub not_hex : (g : Given) (s : Settings) → Asked c.words g s → NoFault c → IfShort c (λ input. Loads g.hex input (Err program_errors.NotHex) → IsOrOutOfMemory returned ends.NotHex)

@@ -14,6 +14,7 @@ use rv_fill::PlaceError;
 use rv_load::BadWord;
 use rv_steps::Ending;
 use std::alloc::Global;
+use std::process::ExitCode;
 
 /// How a call of the program ended.
 #[derive(Drop)]
@@ -58,7 +59,27 @@ pub enum Outcome {
 }
 
 impl Outcome {
-    ghost use Rattle.rv_run.specs.Outcomes.{status_of};
+    ghost use Rattle.std.specs.Process.{exit_status};
+    ghost use Rattle.rv_run.specs.Outcomes.{is_asked, status_of};
+
+    /// Whether its text is what was asked for, and not why there is none.
+    pub fn is_asked(&self) -> bool
+        ensures { result ≡ is_asked self.now }
+    {
+        match self {
+            Outcome::Ran { run: _ } | Outcome::Help { text: _ } | Outcome::Version { text: _ } =>
+                true,
+            Outcome::Usage { text: _ }
+            | Outcome::BadWord { cause: _, word: _ }
+            | Outcome::NotReport { line: _ }
+            | Outcome::NotHex
+            | Outcome::Unplaced { error: _, reloc: _ }
+            | Outcome::TooLong
+            | Outcome::ReadFault
+            | Outcome::WriteFault
+            | Outcome::OutOfMemory => false,
+        }
+    }
 
     /// The status that the process ends with.
     pub fn status(&self) -> u8
@@ -78,6 +99,13 @@ impl Outcome {
             Outcome::TooLong => 7,
             Outcome::OutOfMemory => 8,
         }
+    }
+
+    /// That status, as `main` returns it.
+    pub fn exit_code(&self) -> ExitCode
+        ensures { exit_status result ≡ status_of self.now }
+    {
+        ExitCode::from(self.status())
     }
 }
 
@@ -113,6 +141,9 @@ fn cause_text(cause: BadWord) -> &'static str
         BadWord::Address { named: _, index: _ } =>
             "no NAME=ADDRESS with a name as userextname0 and an address below 2^64",
         BadWord::AddressTwice { named: _, index: _ } => "gives a name that an earlier word gives",
+        BadWord::Callee { index: _ } =>
+            "no NAME or NAME:REGISTER=VALUE,.. with a name whose address a --symbol gives, and each register once",
+        BadWord::CalleeTwice { index: _ } => "gives a name that an earlier word gives",
         BadWord::Setting => "no AVL,VTYPE with a vector length below 32 and a vtype below 256",
         BadWord::Answer { index: _ } =>
             "no success, failure, bits:VALUE, length:N, vector:N=0xBITS or stored:HEX",

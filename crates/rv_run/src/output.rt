@@ -5,7 +5,7 @@ ghost use Rattle.std.specs.Fmt.{decimal};
 ghost use Rattle.rv_machine.specs.Decode as decoding;
 ghost use Rattle.rv_machine.specs.Layout.{HasFileRegisters};
 ghost use Rattle.rv_steps.specs.Files.{hex};
-ghost use Rattle.rv_run.specs.Output.{operation_text, ending_line, steps_line, register_line, changes, run_text};
+ghost use Rattle.rv_run.specs.Output.{operation_text, ending_line, steps_line, calls_line, register_line, changes, run_text};
 
 use crate::result::Run;
 use rv_base::{IsaFlags, OutOfMemory, PReg, Reg, RegClass};
@@ -70,6 +70,16 @@ fn steps_line(alloc: Global, steps: u64) -> Result<String, OutOfMemory>
     Ok(format!(in alloc; "steps {steps}\n")?)
 }
 
+fn calls_line(alloc: Global, has_callees: bool, calls: u64) -> Result<String, OutOfMemory>
+    ensures { IfOk result (λ text. string_bytes text ≡ calls_line has_callees calls) }
+{
+    if has_callees {
+        Ok(format!(in alloc; "calls {calls}\n")?)
+    } else {
+        Ok(String::new(alloc))
+    }
+}
+
 fn register_line(alloc: Global, number: u8, value: u64) -> Result<String, OutOfMemory>
     requires { number < 32 }
     ensures { IfOk result (λ text. string_bytes text ≡ register_line number value) }
@@ -106,14 +116,15 @@ fn put_changes(
     Ok(())
 }
 
-/// The text of a run: its steps where they were asked for, how it ended, how many steps it had, and the registers and
-/// the memory that changed.
+/// The text of a run: its steps where they were asked for, how it ended, how many steps it had and how many the callees, where there are
+/// any, and the registers and the memory that changed.
 pub fn put_run(alloc: Global, out: &mut Vec<u8>, run: &Run) -> Result<(), OutOfMemory>
     ensures { OnOk result (out.new.items ≡ out.old.items ++ run_text run.now) }
 {
     out.extend_from_slice(run.trace.as_slice())?;
     put(out, ending_line(alloc, run.flags, run.ending)?.as_str())?;
     put(out, steps_line(alloc, run.steps)?.as_str())?;
+    put(out, calls_line(alloc, run.has_callees, run.calls)?.as_str())?;
     put_changes(alloc, out, run.before.as_slice(), run.after.as_slice())?;
     out.extend_from_slice(run.units.as_slice())?;
     out.extend_from_slice(run.memory.as_slice())?;

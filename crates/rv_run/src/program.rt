@@ -7,7 +7,7 @@ ghost use Rattle.rv_run.specs.Output.{file};
 ghost use Rattle.rv_steps.specs.Computed.{RunsTo};
 ghost use Rattle.rv_run.specs.Settled.{IsSettled};
 ghost use Rattle.rv_steps.specs.Starting.{begin};
-ghost use Rattle.rv_run.specs.Outcomes.{Loads, IsRun, given_text, listed_text, word_text, addresses_of, unplaced, IsLinked, reloc_of, OfLinked, OfProgram, Means, Words, call, Asked, AskRun, Ended, WritesText};
+ghost use Rattle.rv_run.specs.Outcomes.{Loads, IsRun, given_text, listed_text, word_text, addresses_of, unplaced, IsLinked, reloc_of, OfLinked, OfProgram, Means, Words, call, taken, Asked, AskRun, Ended, WritesTo, WritesText};
 
 use crate::memory::memory_lines;
 use crate::outcome::{Outcome, text_of};
@@ -54,15 +54,16 @@ fn run_asked<P: Progress>(
     place: Place,
     lines: &mut Vec<u8>,
     progress: &mut P,
-) -> Result<(u64, Ending), OutOfMemory>
+) -> Result<(u64, u64, Ending), OutOfMemory>
     requires flags { machine.old.flags ≡ settings.now.flags }
     requires empty { lines.old.items ≡ [] }
-    ensures { IfOk result (λ r. RunsTo settings.now.host settings.now.trace place.base place.len settings.now.steps machine.old r.0 machine.new r.1 lines.new.items) }
+    ensures { IfOk result (λ r. RunsTo settings.now.host settings.now.trace settings.now.callees place.base place.len settings.now.steps machine.old r.0 r.1 machine.new r.2 lines.new.items) }
 {
     if settings.trace {
         run_traced(
             alloc,
             settings.host,
+            settings.callees.as_slice(),
             settings.flags,
             machine,
             place,
@@ -73,6 +74,7 @@ fn run_asked<P: Progress>(
     } else {
         run_code(
             settings.host,
+            settings.callees.as_slice(),
             settings.flags,
             machine,
             place,
@@ -102,7 +104,14 @@ fn run_from<P: Progress>(
     let first = machine.integers().clone()?;
     let files = files_of(&machine);
     let before = registers_of(alloc, &machine)?;
-    let (steps, ending) = run_asked(alloc, settings, &mut machine, place, &mut lines, progress)?;
+    let (steps, calls, ending) = run_asked(
+        alloc,
+        settings,
+        &mut machine,
+        place,
+        &mut lines,
+        progress,
+    )?;
     let after = registers_of(alloc, &machine)?;
     let units = unit_lines(alloc, &files, &machine)?;
     let memory = memory_lines(alloc, &first, machine.integers())?;
@@ -110,6 +119,8 @@ fn run_from<P: Progress>(
         flags: settings.flags,
         ending,
         steps,
+        calls,
+        has_callees: settings.callees.len() > 0,
         before,
         after,
         units: List::from_vec(units),
@@ -163,6 +174,11 @@ fn word_text(alloc: Global, given: &Given, cause: BadWord) -> Result<List<u8>, O
         BadWord::Data { index } => listed_text(alloc, given.memory.as_slice(), index),
         BadWord::Register { index } => listed_text(alloc, given.registers.as_slice(), index),
         BadWord::Twice { index } => listed_text(alloc, given.registers.as_slice(), index),
+        BadWord::Callee { index } | BadWord::CalleeTwice { index } => listed_text(
+            alloc,
+            given.callees.as_slice(),
+            index,
+        ),
         BadWord::Setting => given_text(alloc, given.setting),
         BadWord::Answer { index } => listed_text(alloc, given.answers.as_slice(), index),
         BadWord::Unit => given_text(alloc, given.unit),
@@ -290,7 +306,7 @@ fn outcome_of_input<P: Progress>(
 
 /// Writes the text of an outcome, and returns how the call ends.
 fn write_text<K: Sink>(alloc: Global, sink: &mut K, outcome: Outcome) -> Outcome
-    ensures { WritesText outcome (K.taken sink.old) (K.taken sink.new) (K.faults sink.old) (K.faults sink.new) result }
+    ensures { WritesTo outcome (taken (K.taken sink.old) (K.taken sink.new) (K.faults sink.old) (K.faults sink.new)) result }
 {
     let text = match text_of(alloc, &outcome) {
         Ok(text) => text,
@@ -303,75 +319,95 @@ fn write_text<K: Sink>(alloc: Global, sink: &mut K, outcome: Outcome) -> Outcome
     }
 }
 
+/// Writes what was asked for to the one sink, and why there is none of it to the other.
+fn tell<K: Sink, E: Sink>(alloc: Global, sink: &mut K, errors: &mut E, outcome: Outcome) -> Outcome
+    ensures { WritesText outcome (taken (K.taken sink.old) (K.taken sink.new) (K.faults sink.old) (K.faults sink.new)) (taken (E.taken errors.old) (E.taken errors.new) (E.faults errors.old) (E.faults errors.new)) result }
+{
+    if outcome.is_asked() {
+        write_text(alloc, sink, outcome)
+    } else {
+        write_text(alloc, errors, outcome)
+    }
+}
+
 // Runs what the words and the input give, and writes the text of the outcome.
-fn run_given<S: Source, K: Sink, P: Progress>(
+fn run_given<S: Source, K: Sink, E: Sink, P: Progress>(
     alloc: Global,
     given: &Given,
     settings: &Settings,
     source: &mut S,
     sink: &mut K,
+    errors: &mut E,
     progress: &mut P,
 ) -> Outcome
-    ensures { (words : Words) → Asked words given.now settings.now → Ended (call words (S.left source.old) (S.left source.new) (S.faults source.old) (S.faults source.new) (K.taken sink.old) (K.taken sink.new) (K.faults sink.old) (K.faults sink.new)) result }
+    ensures { (words : Words) → Asked words given.now settings.now → Ended (call words (S.left source.old) (S.left source.new) (S.faults source.old) (S.faults source.new) (taken (K.taken sink.old) (K.taken sink.new) (K.faults sink.old) (K.faults sink.new)) (taken (E.taken errors.old) (E.taken errors.new) (E.faults errors.old) (E.faults errors.new))) result }
 {
     let input = match read_all(alloc, source) {
         Ok(input) => input,
         Err(ReadAllError::Failed) => return Outcome::ReadFault,
-        Err(ReadAllError::TooLong) => return write_text(alloc, sink, Outcome::TooLong),
+        Err(ReadAllError::TooLong) => return tell(alloc, sink, errors, Outcome::TooLong),
         Err(ReadAllError::OutOfMemory) => return Outcome::OutOfMemory,
     };
     match outcome_of_input(alloc, given, settings, &input, progress) {
-        Ok(outcome) => write_text(alloc, sink, outcome),
+        Ok(outcome) => tell(alloc, sink, errors, outcome),
         Err(OutOfMemory) => Outcome::OutOfMemory,
     }
 }
 
 // Does what the words ask for.
-fn run_words<S: Source, K: Sink, P: Progress>(
+fn run_words<S: Source, K: Sink, E: Sink, P: Progress>(
     alloc: Global,
     words: &[String],
     source: &mut S,
     sink: &mut K,
+    errors: &mut E,
     progress: &mut P,
 ) -> Outcome
     ensures unread { ¬ AskRun (map string_bytes words.now) → source.new ≡ source.old }
-    ensures ended { Ended (call (map string_bytes words.now) (S.left source.old) (S.left source.new) (S.faults source.old) (S.faults source.new) (K.taken sink.old) (K.taken sink.new) (K.faults sink.old) (K.faults sink.new)) result }
+    ensures ended { Ended (call (map string_bytes words.now) (S.left source.old) (S.left source.new) (S.faults source.old) (S.faults source.new) (taken (K.taken sink.old) (K.taken sink.new) (K.faults sink.old) (K.faults sink.new)) (taken (E.taken errors.old) (E.taken errors.new) (E.faults errors.old) (E.faults errors.new))) result }
 {
     let given = match read_words(alloc, words) {
         Ok(given) => given,
-        Err(WordsError::Help { text }) => return write_text(alloc, sink, Outcome::Help { text }),
-        Err(WordsError::Version { text }) => return write_text(
+        Err(WordsError::Help { text }) => return tell(alloc, sink, errors, Outcome::Help { text }),
+        Err(WordsError::Version { text }) => return tell(
             alloc,
             sink,
+            errors,
             Outcome::Version { text },
         ),
-        Err(WordsError::Wrong { text }) => return write_text(alloc, sink, Outcome::Usage { text }),
+        Err(WordsError::Wrong { text }) => return tell(
+            alloc,
+            sink,
+            errors,
+            Outcome::Usage { text },
+        ),
         Err(WordsError::OutOfMemory) => return Outcome::OutOfMemory,
     };
     let cause = match settings_of(alloc, &given) {
-        Ok(settings) => return run_given(alloc, &given, &settings, source, sink, progress),
+        Ok(settings) => return run_given(alloc, &given, &settings, source, sink, errors, progress),
         Err(SettingsError::Bad { word }) => word,
         Err(SettingsError::OutOfMemory) => return Outcome::OutOfMemory,
     };
     match word_text(alloc, &given, cause) {
-        Ok(word) => write_text(alloc, sink, Outcome::BadWord { cause, word }),
+        Ok(word) => tell(alloc, sink, errors, Outcome::BadWord { cause, word }),
         Err(OutOfMemory) => Outcome::OutOfMemory,
     }
 }
 
-/// Runs the code that the input gives, as the words ask for, and writes how the run ended, how many steps it had, and the
-/// registers and the memory that it changed; or what else the words ask for, or one line that says why there is no run. The words are
-/// those after the program's name. Of a long run it ticks the progress now and then.
-pub fn run<S: Source, K: Sink, P: Progress>(
+/// Runs the code that the input gives, as the words ask for, and writes to the sink how the run ended, how many steps it had, and the
+/// registers and the memory that it changed, or what else the words ask for; or it writes to the sink of errors why there is no run. The
+/// words are those after the program's name. Of a long run it ticks the progress now and then.
+pub fn run<S: Source, K: Sink, E: Sink, P: Progress>(
     alloc: Global,
     words: &[String],
     source: &mut S,
     sink: &mut K,
+    errors: &mut E,
     progress: &mut P,
 ) -> Outcome
     ensures unread { ¬ AskRun (map string_bytes words.now) → source.new ≡ source.old }
-    ensures ended { Ended (call (map string_bytes words.now) (S.left source.old) (S.left source.new) (S.faults source.old) (S.faults source.new) (K.taken sink.old) (K.taken sink.new) (K.faults sink.old) (K.faults sink.new)) result }
-    ensures settled { IsSettled (call (map string_bytes words.now) (S.left source.old) (S.left source.new) (S.faults source.old) (S.faults source.new) (K.taken sink.old) (K.taken sink.new) (K.faults sink.old) (K.faults sink.new)) result }
+    ensures ended { Ended (call (map string_bytes words.now) (S.left source.old) (S.left source.new) (S.faults source.old) (S.faults source.new) (taken (K.taken sink.old) (K.taken sink.new) (K.faults sink.old) (K.faults sink.new)) (taken (E.taken errors.old) (E.taken errors.new) (E.faults errors.old) (E.faults errors.new))) result }
+    ensures settled { IsSettled (call (map string_bytes words.now) (S.left source.old) (S.left source.new) (S.faults source.old) (S.faults source.new) (taken (K.taken sink.old) (K.taken sink.new) (K.faults sink.old) (K.faults sink.new)) (taken (E.taken errors.old) (E.taken errors.new) (E.faults errors.old) (E.faults errors.new))) result }
 {
-    run_words(alloc, words, source, sink, progress)
+    run_words(alloc, words, source, sink, errors, progress)
 }

@@ -1,5 +1,5 @@
 -- A run of the integer machine, where no unit goes on at its end, is the run of the machine with all units.
-use Rattle.std.proofs.Common.{◌≡◌, ℕ, zero, suc, ◌+◌, ◌-◌, ◌<◌, Bool, true, false, Option, refl, sym, ap, ◌∙◌, subst, arith}
+use Rattle.std.proofs.Common.{◌≡◌, ℕ, zero, suc, ◌+◌, ◌-◌, ◌<◌, Bool, true, false, [], Option, refl, sym, ap, ◌∙◌, subst, arith}
 use Rattle.std.specs.Prelude.{Some, None, is_some, if◌then◌else◌, ◌==◌, ◌%◌, ◌&&◌, nat_eq}
 use Rattle.std.specs.Option.{option_map_or}
 use Rattle.rv_base.specs.declared.flags.IsaFlags.{IsaFlags}
@@ -13,9 +13,10 @@ use Rattle.rv_machine.specs.Steps.{fetch, istep, iter, then_step}
 use Rattle.rv_full.specs.Units.{FullState, FullValues, put, values_of}
 use Rattle.rv_full.specs.Rows.{Absent}
 use Rattle.rv_full.specs.UnitRows.{row_of}
-use Rattle.rv_full.specs.Steps.{Next, Halts, fnext, fiter, next_by, row_next, unit_on, unit_next}
+use Rattle.rv_full.specs.Steps.{Next, Halts, fnext, fiter, then_fstep, next_by, row_next, unit_on, unit_next}
 use Rattle.rv_steps.specs.Running.{Runs, ending_by, is_break, is_break_op, offset_in, stop_of, word_at}
-use Rattle.rv_steps.specs.FullRunning.{FullRuns, IsIntegerEnd, full_ending_of, full_ending_by, stop_by}
+use Rattle.rv_steps.specs.Callees.{RunsFor, steps_with, then_step_with, call_in, calls_in}
+use Rattle.rv_steps.specs.FullRunning.{IsIntegerEnd, full_ending_of, full_ending_by, stop_by}
 use Rattle.rv_steps.specs.declared.ending.Ending.{Ending}
 use Rattle.rv_steps.specs.declared.ending.Ending.TheVariants.{Limit, Break, NoOperation}
 
@@ -135,15 +136,36 @@ earlier flags j k s t lt e =
 same_full : (b c : FullState) → Some b ≡ Some c → b ≡ c
 same_full b c e = cc
 
+-- without callees each step is the machine's
+pub own_steps : (flags : IsaFlags) (k : ℕ) (b : FullState) → steps_with [] flags k b ≡ fiter flags k b
+unfolding steps_with fiter
+own_steps flags zero b = refl
+own_steps flags (suc k) b = ap (then_step_with [] flags) (own_steps flags k b) ∙ own_step flags (fiter flags k b)
+  where
+    own_step : (flags : IsaFlags) (o : Option FullState) → then_step_with [] flags o ≡ then_fstep flags o
+    own_step flags None = refl
+    own_step flags (Some b) = refl
+
+no_call : (o : Option FullState) → call_in [] o ≡ 0
+no_call None = refl
+no_call (Some b) = refl
+
+pub no_calls : (flags : IsaFlags) (k : ℕ) (b : FullState) → calls_in [] flags k b ≡ 0
+no_calls flags zero b = refl
+no_calls flags (suc k) b = λ j. no_calls flags k b j + no_call (steps_with [] flags k b) j
+
+own_law : IntegerLaw → (flags : IsaFlags) (k : ℕ) (t : State) (b : FullState) → iter flags k b.state ≡ Some t → steps_with [] flags k b ≡ Some (put t b)
+own_law law flags k t b e = own_steps flags k b ∙ law flags k t b e
+
 integer_run : (law : IntegerLaw) (flags : IsaFlags) (base len limit : ℕ) (b : FullState) (k : ℕ) (t : State) (ending : Ending) → Runs flags base len limit b.state k t ending
-    → IsIntegerEnd flags (put t b) ending → FullRuns flags base len limit b k (put t b) ending
+    → IsIntegerEnd flags (put t b) ending → RunsFor [] flags base len limit b k (put t b) ending
 integer_run law flags base len limit b k t ending ran end = record {
-  steps = law flags k t b ran.steps;
+  steps = own_law law flags k t b ran.steps;
   ends = by_offset flags limit k (put t b) ending (offset_in base len t.pc) ran.ends end;
   on = λ j c lt reached.
       let before = earlier flags j k b.state t lt ran.steps in
       let r = before.0 in
-      let is : put r b ≡ c = same_full (put r b) c (sym (law flags j r b before.1) ∙ reached) in
+      let is : put r b ≡ c = same_full (put r b) c (sym (own_law law flags j r b before.1) ∙ reached) in
       subst (λ (x : FullState). full_ending_of flags base len limit j x ≡ None) is
       (still_by flags limit j (put r b) (offset_in base len r.pc) (ran.on j r lt before.1));
 }
@@ -157,7 +179,7 @@ same_ending : (o : Option Ending) (e f : Ending) → o ≡ Some e → o ≡ Some
 same_ending o e f a b = cc
 
 module _ (flags : IsaFlags) (base len limit : ℕ) (first : FullState) (j : ℕ) (c : FullState) (e : Ending) (k : ℕ) (d : FullState) (f : Ending)
-    (one : FullRuns flags base len limit first j c e) (other : FullRuns flags base len limit first k d f) where
+    (one : RunsFor [] flags base len limit first j c e) (other : RunsFor [] flags base len limit first k d f) where
   not_before : j < k → ⊥
   not_before lt = not_both (full_ending_of flags base len limit j c) e (other.on j c lt one.steps) one.ends
 
@@ -168,13 +190,13 @@ module _ (flags : IsaFlags) (base len limit : ℕ) (first : FullState) (j : ℕ)
   as_many = omega (arith, not_before, not_after)
 
 pub as_integer : (law : IntegerLaw) (flags : IsaFlags) (base len limit : ℕ) (first : FullState) (j : ℕ) (last : FullState) (ending : Ending)
-    → FullRuns flags base len limit first j last ending
+    → RunsFor [] flags base len limit first j last ending
     → (k : ℕ) (t : State) (other : Ending) → Runs flags base len limit first.state k t other → IsIntegerEnd flags (put t first) other
     → (j ≡ k) × (last ≡ put t first) × (ending ≡ other)
 as_integer law flags base len limit first j last ending ran k t other integer end =
     let run = integer_run law flags base len limit first k t other integer end in
     let many : j ≡ k = as_many flags base len limit first j last ending k (put t first) other ran run in
-    let states : last ≡ put t first = same_full last (put t first) (sym ran.steps ∙ ap (λ n. fiter flags n first) many ∙ run.steps) in (
+    let states : last ≡ put t first = same_full last (put t first) (sym ran.steps ∙ ap (λ n. steps_with [] flags n first) many ∙ run.steps) in (
       many,
       states,
       same_ending (full_ending_of flags base len limit j last) ending other ran.ends

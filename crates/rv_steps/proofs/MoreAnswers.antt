@@ -1,20 +1,26 @@
 -- More answers, after those that are left, change no run that goes on without them.
 use Rattle.std.proofs.Common.{◌≡◌, ℕ, zero, suc, ◌+◌, ◌-◌, ◌<◌, Bool, true, false, List, [], ◌∷◌, ◌++◌, Option, refl, sym, ap, ◌∙◌, subst, arith}
-use Rattle.std.specs.Prelude.{Some, None, if◌then◌else◌, ◌==◌, ◌%◌, nat_eq}
+use Rattle.std.specs.Prelude.{Some, None, if◌then◌else◌, ◌*◌, ◌/◌, ◌==◌, ◌%◌, nat_eq}
 use Rattle.rv_base.specs.declared.flags.IsaFlags.{IsaFlags}
 use Rattle.rv_machine.specs.declared.decoding.Decoded.{Decoded}
 use Rattle.rv_machine.specs.Decode.{decode}
-use Rattle.rv_machine.specs.State.{State, wrap}
+use Rattle.rv_machine.specs.State.{State, at, reg, wrap}
 use Rattle.rv_machine.specs.Steps.{fetch, istep}
 use Rattle.rv_full.specs.declared.answer.Answer.{Answer}
-use Rattle.rv_full.specs.Units.{FullState, FullValues, full_at, values_of}
+use Rattle.rv_full.specs.Units.{FullState, FullValues, full_at, put, values_of}
 use Rattle.rv_full.specs.Rows.{Kind, Row, Absent, Does, Takes, fits, first, rest}
 use Rattle.rv_full.specs.UnitRows.{unit_row}
-use Rattle.rv_full.specs.Steps.{Next, Goes, Asks, Halts, taken, row_next, unit_on, next_by, fnext, fstep, fiter, then_fstep, stepped}
+use Rattle.rv_full.specs.Steps.{Next, Goes, Asks, Halts, taken, row_next, unit_on, next_by, fnext, fstep, stepped}
+use Rattle.rv_load.specs.declared.callees.Callee.{Callee}
+use Rattle.rv_load.specs.declared.settings.RegisterValue.{RegisterValue}
+use Rattle.rv_base.specs.declared.regs.RegClass.{RegClass}
+use Rattle.rv_base.specs.declared.regs.RegClass.TheVariants.{Int, Float, Vector}
 use Rattle.rv_steps.specs.declared.ending.Ending.{Ending}
 use Rattle.rv_steps.specs.declared.ending.Ending.TheVariants.{Left, Limit, Break, NoOperation, NeedsAnswer}
 use Rattle.rv_steps.specs.Computed.{with_more}
-use Rattle.rv_steps.specs.FullRunning.{IsIntegerEnd, full_ending_by, full_ending_of, stop_by}
+use Rattle.rv_steps.specs.Callees.{callee_at, ending_at, ending_with, returned, step_at, step_with, steps_with, then_step_with}
+use Rattle.rv_steps.specs.FullRunning.{IsIntegerEnd, full_ending_by, stop_by}
+use Rattle.rv_steps.specs.Starting.{set_register, set_registers}
 use Rattle.rv_steps.specs.Running.{offset_in}
 use Rattle.rv_steps.proofs.Going.{Going}
 
@@ -66,22 +72,43 @@ stepped_alike more (Goes b) n c alike e = ap stepped alike ∙ ap (λ o. some_mo
 stepped_alike more Asks n c alike e = absurd (cc)
 stepped_alike more Halts n c alike e = absurd (cc)
 
-step_more : (flags : IsaFlags) (more : List Answer) (b c : FullState) → fstep flags b ≡ Some c → fstep flags (with_more more b) ≡ Some (with_more more c)
-step_more flags more b c e = stepped_alike more (fnext flags b) (fnext flags (with_more more b)) c (next_alike flags b more) e
+own_step_more : (flags : IsaFlags) (more : List Answer) (b c : FullState) → fstep flags b ≡ Some c → fstep flags (with_more more b) ≡ Some (with_more more c)
+own_step_more flags more b c e = stepped_alike more (fnext flags b) (fnext flags (with_more more b)) c (next_alike flags b more) e
 
-pub run_more : (flags : IsaFlags) (more : List Answer) (k : ℕ) (b c : FullState) → fiter flags k b ≡ Some c → fiter flags k (with_more more b) ≡ Some (with_more more c)
-unfolding fiter
-run_more flags more zero b c e = ap (λ o. some_more o) e
+-- a callee's
+set_more : (class : RegClass) (n x : ℕ) (more : List Answer) (b : FullState) → set_register (with_more more b) class n x ≡ with_more more (set_register b class n x)
+set_more Int n x more b = refl
+set_more Float n x more b = refl
+set_more Vector n x more b = refl
+
+sets_more : (rs : List RegisterValue) (more : List Answer) (b : FullState) → set_registers (with_more more b) rs ≡ with_more more (set_registers b rs)
+sets_more [] more b = refl
+sets_more (r ∷ rs) more b =
+    ap (λ c. set_registers c rs) (set_more r.register.class r.register.number r.value more b) ∙ sets_more rs more (set_register b r.register.class r.register.number r.value)
+
+returned_more : (c : Callee) (more : List Answer) (b : FullState) → returned c (with_more more b) ≡ with_more more (returned c b)
+returned_more c more b = sets_more c.registers more (put (at (reg b.state.values 1 / 2 * 2) b.state.values) b)
+
+step_at_more : (o : Option Callee) (flags : IsaFlags) (more : List Answer) (b c : FullState) → step_at o flags b ≡ Some c → step_at o flags (with_more more b) ≡ Some (with_more more c)
+step_at_more None flags more b c e = own_step_more flags more b c e
+step_at_more (Some callee) flags more b c e = let same : returned callee b ≡ c = cc in ap Some (returned_more callee more b ∙ ap (with_more more) same)
+
+step_more : (callees : List Callee) (flags : IsaFlags) (more : List Answer) (b c : FullState) → step_with callees flags b ≡ Some c → step_with callees flags (with_more more b) ≡ Some (with_more more c)
+step_more callees flags more b c e = step_at_more (callee_at callees b.state.pc) flags more b c e
+
+pub run_more : (callees : List Callee) (flags : IsaFlags) (more : List Answer) (k : ℕ) (b c : FullState) → steps_with callees flags k b ≡ Some c → steps_with callees flags k (with_more more b) ≡ Some (with_more more c)
+unfolding steps_with
+run_more callees flags more zero b c e = ap (λ o. some_more o) e
   where
     some_more : Option FullState → Option FullState
     some_more None = None
     some_more (Some s) = Some (with_more more s)
-run_more flags more (suc k) b c e = after (fiter flags k b) e (λ r is. run_more flags more k b r is)
+run_more callees flags more (suc k) b c e = after (steps_with callees flags k b) e (λ r is. run_more callees flags more k b r is)
   where
-    after : (o : Option FullState) → then_fstep flags o ≡ Some c → ((r : FullState) → o ≡ Some r → fiter flags k (with_more more b) ≡ Some (with_more more r))
-        → then_fstep flags (fiter flags k (with_more more b)) ≡ Some (with_more more c)
+    after : (o : Option FullState) → then_step_with callees flags o ≡ Some c → ((r : FullState) → o ≡ Some r → steps_with callees flags k (with_more more b) ≡ Some (with_more more r))
+        → then_step_with callees flags (steps_with callees flags k (with_more more b)) ≡ Some (with_more more c)
     after None e first = absurd (cc)
-    after (Some r) e first = ap (then_fstep flags) (first r refl) ∙ step_more flags more r c e
+    after (Some r) e first = ap (then_step_with callees flags) (first r refl) ∙ step_more callees flags more r c e
 
 -- ---- why a run goes no further
 
@@ -99,8 +126,13 @@ by_more : (flags : IsaFlags) (limit k : ℕ) (more : List Answer) (b : FullState
 by_more flags limit k more b None e = absurd (cc)
 by_more flags limit k more b (Some offset) e = inside_more flags offset more b (k == limit) e
 
-still_more : (flags : IsaFlags) (base len limit k : ℕ) (more : List Answer) (b : FullState) → full_ending_of flags base len limit k b ≡ None → full_ending_of flags base len limit k (with_more more b) ≡ None
-still_more flags base len limit k more b e = by_more flags limit k more b (offset_in base len b.state.pc) e
+still_at : (o : Option Callee) (flags : IsaFlags) (base len limit k : ℕ) (more : List Answer) (b : FullState) → ending_at o flags base len limit k b ≡ None → ending_at o flags base len limit k (with_more more b) ≡ None
+still_at None flags base len limit k more b e = by_more flags limit k more b (offset_in base len b.state.pc) e
+still_at (Some c) flags base len limit k more b e = e
+
+still_more : (callees : List Callee) (flags : IsaFlags) (base len limit k : ℕ) (more : List Answer) (b : FullState) → ending_with callees flags base len limit k b ≡ None
+    → ending_with callees flags base len limit k (with_more more b) ≡ None
+still_more callees flags base len limit k more b e = still_at (callee_at callees b.state.pc) flags base len limit k more b e
 
 -- no unit goes on with more answers where none has an operation
 halts_alike : (more : List Answer) (m n : Next) → IsAlike more m n → m ≡ Halts → n ≡ Halts
@@ -117,12 +149,12 @@ integer_end_more flags more b (NeedsAnswer offset word) end = end
 
 -- ---- a run on its way
 
-none_after : (flags : IsaFlags) (n j : ℕ) (b : FullState) → fiter flags j b ≡ None → fiter flags (n + j) b ≡ None
-unfolding fiter
-none_after flags zero j b e = let same : 0 + j ≡ j = omega arith in ap (λ k. fiter flags k b) same ∙ e
-none_after flags (suc n) j b e =
+none_after : (callees : List Callee) (flags : IsaFlags) (n j : ℕ) (b : FullState) → steps_with callees flags j b ≡ None → steps_with callees flags (n + j) b ≡ None
+unfolding steps_with
+none_after callees flags zero j b e = let same : 0 + j ≡ j = omega arith in ap (λ k. steps_with callees flags k b) same ∙ e
+none_after callees flags (suc n) j b e =
     let same : suc n + j ≡ suc (n + j) = omega arith in
-    ap (λ k. fiter flags k b) same ∙ ap (then_fstep flags) (none_after flags n j b e)
+    ap (λ k. steps_with callees flags k b) same ∙ ap (then_step_with callees flags) (none_after callees flags n j b e)
 
 not_none : (o : Option FullState) (c : FullState) → o ≡ None → o ≡ Some c → ⊥
 not_none o c e f = absurd (cc)
@@ -130,18 +162,18 @@ not_none o c e f = absurd (cc)
 some_first : (b c : FullState) → Some b ≡ Some c → b ≡ c
 some_first b c e = cc
 
-module _ (flags : IsaFlags) (base len limit : ℕ) (first : FullState) (k : ℕ) (last : FullState) (more : List Answer) (going : Going flags base len limit first k last) where
-  on_more : (j : ℕ) → j < k → (b : FullState) → (o : Option FullState) → fiter flags j first ≡ o → fiter flags j (with_more more first) ≡ Some b → full_ending_of flags base len limit j b ≡ None
+module _ (callees : List Callee) (flags : IsaFlags) (base len limit : ℕ) (first : FullState) (k : ℕ) (last : FullState) (more : List Answer) (going : Going callees flags base len limit first k last) where
+  on_more : (j : ℕ) → j < k → (b : FullState) → (o : Option FullState) → steps_with callees flags j first ≡ o → steps_with callees flags j (with_more more first) ≡ Some b → ending_with callees flags base len limit j b ≡ None
   on_more j lt b None before e =
       let same : (k - j) + j ≡ k = omega (arith, lt) in
-      absurd (not_none (fiter flags k first) last (ap (λ n. fiter flags n first) (sym same) ∙ none_after flags (k - j) j first before) going.steps)
+      absurd (not_none (steps_with callees flags k first) last (ap (λ n. steps_with callees flags n first) (sym same) ∙ none_after callees flags (k - j) j first before) going.steps)
   on_more j lt b (Some r) before e =
-      subst (λ c. full_ending_of flags base len limit j c ≡ None) (some_first (with_more more r) b (sym (run_more flags more j first r before) ∙ e))
-      (still_more flags base len limit j more r (going.on j lt r before))
+      subst (λ c. ending_with callees flags base len limit j c ≡ None) (some_first (with_more more r) b (sym (run_more callees flags more j first r before) ∙ e))
+      (still_more callees flags base len limit j more r (going.on j lt r before))
 
-pub going_with : (flags : IsaFlags) (base len limit : ℕ) (first : FullState) (k : ℕ) (last : FullState) (more : List Answer) → Going flags base len limit first k last
-    → Going flags base len limit (with_more more first) k (with_more more last)
-going_with flags base len limit first k last more going = record {
-  steps = run_more flags more k first last going.steps;
-  on = λ j lt b e. on_more flags base len limit first k last more going j lt b (fiter flags j first) refl e;
+pub going_with : (callees : List Callee) (flags : IsaFlags) (base len limit : ℕ) (first : FullState) (k : ℕ) (last : FullState) (more : List Answer) → Going callees flags base len limit first k last
+    → Going callees flags base len limit (with_more more first) k (with_more more last)
+going_with callees flags base len limit first k last more going = record {
+  steps = run_more callees flags more k first last going.steps;
+  on = λ j lt b e. on_more callees flags base len limit first k last more going j lt b (steps_with callees flags j first) refl e;
 }

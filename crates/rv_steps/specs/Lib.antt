@@ -1,5 +1,6 @@
-pub mod Files
+pub mod Callees
 pub mod Computed
+pub mod Files
 pub mod FullRunning
 pub mod Running
 pub mod Starting

@@ -1,13 +1,13 @@
 -- The machine that a run begins with.
-use Rattle.std.specs.Prelude.{ℕ, ◌+◌, ◌%◌, ◌^◌, List, [], ◌∷◌, ◌++◌, length, find, Option, Some, None, Result, Ok, Err, option_map, nat_lt, ◌==◌, if◌then◌else◌}
+use Rattle.std.specs.Prelude.{ℕ, ◌+◌, ◌%◌, ◌^◌, List, [], ◌∷◌, ◌++◌, length, find, Option, Some, None, Result, Ok, Err, option_map, nat_le, nat_lt, ◌==◌, if◌then◌else◌}
 use Rattle.rv_inst.specs.declared.code.LineSpan.{LineSpan}
-use Rattle.rv_machine.specs.State.{wrap}
+use Rattle.rv_machine.specs.State.{wrap, at, set_reg}
 use Rattle.rv_base.specs.declared.regs.RegClass.{RegClass}
 use Rattle.rv_base.specs.declared.regs.RegClass.TheVariants.{Int, Float, Vector}
 use Rattle.rv_full.specs.declared.answer.Answer.{Answer}
 use Rattle.rv_full.specs.declared.units.Setting.{Setting}
-use Rattle.rv_full.specs.Units.{set_freg, set_setting}
-use Rattle.rv_full.specs.Steps.{Machine, with_reg, with_bytes, with_own, with_answers}
+use Rattle.rv_full.specs.Units.{FullState, put, set_freg, set_setting, with_units}
+use Rattle.rv_full.specs.Steps.{Machine, with_reg, with_bytes, with_full, with_own, with_answers}
 use Rattle.rv_full.specs.View.{zero_full}
 use Rattle.rv_load.specs.declared.program.Program.{Program}
 use Rattle.rv_load.specs.declared.settings.Settings.{Settings}
@@ -44,14 +44,18 @@ abbrev pub with_memory_of : Machine → List Bytes → Machine
 with_memory_of m [] = m
 with_memory_of m (d ∷ ds) = with_memory_of (with_bytes m d.address d.bytes) ds
 
-abbrev pub with_register : Machine → RegClass → ℕ → ℕ → Machine
-with_register m Int n x = with_reg m n x
-with_register m Float n x = with_own m (set_freg m.full.units n x)
-with_register m Vector n x = m
+-- registers of either file set, one after the other
+abbrev pub set_register : FullState → RegClass → ℕ → ℕ → FullState
+set_register b Int n x = put (at b.state.pc (set_reg b.state.values n x)) b
+set_register b Float n x = with_units b (set_freg b.units n x)
+set_register b Vector n x = b
+
+abbrev pub set_registers : FullState → List RegisterValue → FullState
+set_registers b [] = b
+set_registers b (r ∷ rs) = set_registers (set_register b r.register.class r.register.number r.value) rs
 
 abbrev pub with_registers_of : Machine → List RegisterValue → Machine
-with_registers_of m [] = m
-with_registers_of m (r ∷ rs) = with_registers_of (with_register m r.register.class r.register.number r.value) rs
+with_registers_of m rs = with_full m (set_registers m.full rs)
 
 -- a vector setting, whose length is below 32
 abbrev pub with_setting : Machine → Setting → Machine
@@ -71,9 +75,9 @@ abbrev pub first_machine : Settings → Program → ℕ → Machine
 first_machine s p offset =
     with_answers_of (with_setting (with_registers_of (with_memory_of (with_bytes (bare_machine s offset) s.base p.bytes) s.memory) s.registers) s.setting) s.answers
 
--- the code ends below 2^64
+-- the code ends at 2^64 or below it
 abbrev pub fits : Settings → Program → Result ℕ BadWord
-fits s p = if nat_lt (s.base + length p.bytes) (2 ^ 64) then Ok s.base else Err bad.Base
+fits s p = if nat_le (s.base + length p.bytes) (2 ^ 64) then Ok s.base else Err bad.Base
 
 -- the machine that a run begins with, or the word that doesn't fit the program
 abbrev pub begin : Settings → Program → Result Machine BadWord

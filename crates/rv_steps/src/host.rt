@@ -10,6 +10,7 @@ use crate::running::{turn, word_at};
 use rv_base::{IsaFlags, OutOfMemory};
 use rv_full::{Answer, FullMachine};
 use rv_host::{Operands, answer_of};
+use rv_load::Callee;
 use rv_machine::{Decoded, decode};
 
 // The registers that an operation may read.
@@ -80,6 +81,7 @@ fn is_wanting(stop: Option<Ending>) -> bool
 /// One step, with what the host answers where that is wanted, or why there is none; after so many steps, fewer than the limit.
 pub(crate) fn host_turn(
     host: bool,
+    callees: &[Callee],
     flags: IsaFlags,
     machine: &mut FullMachine,
     place: Place,
@@ -88,16 +90,16 @@ pub(crate) fn host_turn(
 ) -> Result<Option<Ending>, OutOfMemory>
     requires below { done < limit }
     requires flags { machine.old.flags ≡ flags }
-    ensures { IfOk result (Turns host place.base place.len limit done machine.old machine.new) }
+    ensures { IfOk result (Turns host callees.now place.base place.len limit done machine.old machine.new) }
 {
-    let stop = turn(flags, machine, place, limit, done)?;
+    let stop = turn(callees, flags, machine, place, limit, done)?;
     if !is_wanting(stop) {
         return Ok(stop);
     }
     match computed(host, flags, machine) {
         Some(answer) => {
             machine.give(answer)?;
-            turn(flags, machine, place, limit, done)
+            turn(callees, flags, machine, place, limit, done)
         }
         None => Ok(stop),
     }

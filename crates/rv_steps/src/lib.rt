@@ -1,6 +1,7 @@
 //! Steps of the project's machine with all units: from a start to an end, and the text of a step.
 #![tactic(auto)]
 
+mod callees;
 mod ending;
 mod files;
 mod host;

@@ -4,14 +4,16 @@ ghost use Rattle.std.specs.Prelude.{◌≡◌, ◌<◌, IfOk, Some, None, ℕ, B
 ghost use Rattle.rv_base.specs.declared.flags.IsaFlags.{IsaFlags as Flags};
 ghost use Rattle.rv_steps.specs.Running.{offset_in, word_at, is_break_base, is_break_op, is_break, stop_of};
 ghost use Rattle.rv_full.specs.Units.{FullState};
-ghost use Rattle.rv_steps.specs.FullRunning.{full_ending_of, StepOrEnding};
+ghost use Rattle.rv_steps.specs.Callees.{StepOrEnding, ending_with};
 ghost use Rattle.rv_steps.specs.Computed.{IsUnanswered, RunsTo};
 
+use crate::callees::{call_at, callee_at, return_from};
 use crate::ending::{Ending, Place};
 use crate::host::host_turn;
 use crate::progress::{Progress, note_steps};
 use rv_base::{IsaFlags, OutOfMemory};
 use rv_full::{FullMachine, FullStep};
+use rv_load::Callee;
 use rv_machine::{BaseOp, MOp, int_decode};
 
 fn offset_in(place: Place, address: u64) -> Option<u64>
@@ -92,8 +94,8 @@ fn stop_of(flags: IsaFlags, machine: &FullMachine, offset: u64) -> Ending
     }
 }
 
-// One step, or why there is none; after so many steps, fewer than the limit.
-pub(crate) fn turn(
+// One step of the machine, or why there is none; after so many steps, fewer than the limit.
+fn own_turn(
     flags: IsaFlags,
     machine: &mut FullMachine,
     place: Place,
@@ -102,7 +104,7 @@ pub(crate) fn turn(
 ) -> Result<Option<Ending>, OutOfMemory>
     requires below { done < limit }
     requires flags { machine.old.flags ≡ flags }
-    ensures { IfOk result (StepOrEnding place.base place.len limit done machine.old machine.new) }
+    ensures { IfOk result (StepOrEnding [] place.base place.len limit done machine.old machine.new) }
 {
     let Some(offset) = offset_in(place, machine.pc()) else {
         return Ok(Some(Ending::Left {
@@ -119,9 +121,41 @@ pub(crate) fn turn(
     }
 }
 
+// One step, which is a callee's where one stands at the program counter, or why there is none.
+pub(crate) fn turn(
+    callees: &[Callee],
+    flags: IsaFlags,
+    machine: &mut FullMachine,
+    place: Place,
+    limit: u64,
+    done: u64,
+) -> Result<Option<Ending>, OutOfMemory>
+    requires below { done < limit }
+    requires flags { machine.old.flags ≡ flags }
+    ensures { IfOk result (StepOrEnding callees.now place.base place.len limit done machine.old machine.new) }
+{
+    match callee_at(callees, machine.pc()) {
+        Some(callee) => {
+            return_from(machine, callee);
+            Ok(None)
+        }
+        None => own_turn(flags, machine, place, limit, done),
+    }
+}
+
 // Why a run goes no further after as many steps as it may have.
-pub(crate) fn last_ending(machine: &FullMachine, place: Place) -> Ending
-    ensures ends { (flags : Flags) (limit : ℕ) → full_ending_of flags place.base place.len limit limit machine.now.full ≡ Some result }
+pub(crate) fn last_ending(callees: &[Callee], machine: &FullMachine, place: Place) -> Ending
+    ensures ends { (flags : Flags) (limit : ℕ) → ending_with callees.now flags place.base place.len limit limit machine.now.full ≡ Some result }
+    ensures unanswered { (host : Bool) (flags : Flags) (last : FullState) → IsUnanswered host flags last result }
+{
+    match callee_at(callees, machine.pc()) {
+        Some(_) => Ending::Limit,
+        None => own_last_ending(machine, place),
+    }
+}
+
+fn own_last_ending(machine: &FullMachine, place: Place) -> Ending
+    ensures ends { (flags : Flags) (limit : ℕ) → ending_with [] flags place.base place.len limit limit machine.now.full ≡ Some result }
     ensures unanswered { (host : Bool) (flags : Flags) (last : FullState) → IsUnanswered host flags last result }
 {
     match offset_in(place, machine.pc()) {
@@ -132,24 +166,28 @@ pub(crate) fn last_ending(machine: &FullMachine, place: Place) -> Ending
     }
 }
 
-/// Runs the code at its place, with at most so many steps, and with what the host answers where it is to. Returns how many were done, and why it went no further.
+/// Runs the code at its place among callees, with at most so many steps of both, and with what the host answers where it is to. Returns how
+/// many steps of its own it had, how many of the callees, and why it went no further.
 pub fn run_code<P: Progress>(
     host: bool,
+    callees: &[Callee],
     flags: IsaFlags,
     machine: &mut FullMachine,
     place: Place,
     limit: u64,
     progress: &mut P,
-) -> Result<(u64, Ending), OutOfMemory>
+) -> Result<(u64, u64, Ending), OutOfMemory>
     requires { machine.old.flags ≡ flags }
-    ensures { IfOk result (λ r. RunsTo host false place.base place.len limit machine.old r.0 machine.new r.1 []) }
+    ensures { IfOk result (λ r. RunsTo host false callees.now place.base place.len limit machine.old r.0 r.1 machine.new r.2 []) }
 {
+    let mut calls = 0u64;
     for done in 0..limit {
         note_steps(progress, done);
-        match host_turn(host, flags, machine, place, limit, done)? {
-            None => {}
-            Some(ending) => return Ok((done, ending)),
+        let call = call_at(callees, machine);
+        match host_turn(host, callees, flags, machine, place, limit, done)? {
+            None => calls += call,
+            Some(ending) => return Ok((done - calls, calls, ending)),
         }
     }
-    Ok((limit, last_ending(machine, place)))
+    Ok((limit - calls, calls, last_ending(callees, machine, place)))
 }

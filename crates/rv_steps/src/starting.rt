@@ -1,8 +1,9 @@
 //! The machine that a run begins with.
 
-ghost use Rattle.std.specs.Prelude.{◌≡◌, OnOk, IfOk};
+ghost use Rattle.std.specs.Prelude.{◌≡◌, ◌+◌, ◌^◌, nat_le, OnOk, IfOk};
+ghost use Rattle.rv_full.specs.Steps.{with_full};
 ghost use Rattle.rv_load.specs.Words.{Reads};
-ghost use Rattle.rv_steps.specs.Starting.{outside, line_start, start_offset, start_word, with_memory_of, with_register, with_registers_of, with_setting, with_answers_of, first_machine, begin};
+ghost use Rattle.rv_steps.specs.Starting.{outside, line_start, start_offset, start_word, with_memory_of, set_register, with_registers_of, with_setting, with_answers_of, first_machine, begin};
 
 use rv_base::{List, OutOfMemory, RegClass};
 use rv_full::{Answer, FullMachine, Setting};
@@ -57,7 +58,7 @@ fn put_memory(machine: &mut FullMachine, memory: &[Data]) -> Result<(), OutOfMem
 }
 
 fn put_register(machine: &mut FullMachine, register: RegisterValue)
-    ensures put { machine.new ≡ with_register machine.old register.register.class register.register.number register.value }
+    ensures put { machine.new ≡ with_full machine.old (set_register machine.old.full register.register.class register.register.number register.value) }
     ensures flags { machine.new.flags ≡ machine.old.flags }
 {
     match register.register.class {
@@ -67,7 +68,8 @@ fn put_register(machine: &mut FullMachine, register: RegisterValue)
     }
 }
 
-fn put_registers(machine: &mut FullMachine, registers: &[RegisterValue])
+/// Sets registers, one after the other.
+pub(crate) fn put_registers(machine: &mut FullMachine, registers: &[RegisterValue])
     ensures put { machine.new ≡ with_registers_of machine.old registers.now }
     ensures flags { machine.new.flags ≡ machine.old.flags }
 {
@@ -133,6 +135,13 @@ fn first_machine(
     Ok(machine)
 }
 
+// Returns whether so many bytes from an address on end at 2^64 or below it.
+fn fits(base: u64, len: u64) -> bool
+    ensures { result ≡ nat_le (base + len) (2 ^ 64) }
+{
+    len == 0 || len - 1 <= u64::MAX - base
+}
+
 /// The machine that a run of the program begins with, or the word that doesn't fit the program.
 pub fn begin(
     alloc: Global,
@@ -142,7 +151,7 @@ pub fn begin(
     ensures made { Reads (begin settings.now program.now) result }
     ensures flags { IfOk result (λ machine. machine.flags ≡ settings.now.flags) }
 {
-    if program.bytes.len() as u64 > u64::MAX - settings.base {
+    if !fits(settings.base, program.bytes.len() as u64) {
         return Err(SettingsError::Bad {
             word: BadWord::Base,
         });

@@ -80,8 +80,13 @@ fn written_by(op: MOp) -> Written
     }
 }
 
-// What was written to an integer register, if it is one.
-fn put_integer(alloc: Global, out: &mut Vec<u8>, rd: u8, value: u64) -> Result<(), OutOfMemory>
+/// Puts what was written to an integer register, if it is one.
+pub(crate) fn put_integer(
+    alloc: Global,
+    out: &mut Vec<u8>,
+    rd: u8,
+    value: u64,
+) -> Result<(), OutOfMemory>
     requires { rd < 32 }
     ensures { OnOk result (out.new.items ≡ out.old.items ++ written_text rd value) }
 {

@@ -1,10 +1,6 @@
-//! `rvrun`: runs the code of a report from standard input, and writes what came of it to standard output. Of a long run it
-//! says on standard error, where that is a terminal, how many steps were done.
+//! `rvrun`: runs the code of a report from standard input, and writes what came of it to standard output, or to standard error why there
+//! is no run. Of a long run it says on standard error, where that is a terminal, how many steps were done.
 #![tactic(auto)]
-
-ghost use Rattle.std.specs.Prelude.{◌≡◌};
-ghost use Rattle.std.specs.Process.{exit_status};
-ghost use Rattle.rv_run.specs.Outcomes.{status_of};
 
 mod opening;
 
@@ -13,8 +9,8 @@ use rv_explain::refusal_of;
 use rv_run::{Outcome, run};
 use rv_steps::Progress;
 use rv_stream::{StdSink, StdSource};
-use std::env;
-use std::io::{self, ErrorKind, IsTerminal};
+use rv_words::{WordsFault, command_words};
+use std::io::IsTerminal;
 use std::process::ExitCode;
 use std::time::{Duration, Instant};
 
@@ -54,23 +50,6 @@ impl Progress for Shown<'_> {
     }
 }
 
-// The words after the program's name. One that is not UTF-8 stands there as an empty word.
-fn words(rt: &HostRuntime) -> io::Result<Vec<String>> {
-    let mut words = Vec::new(rt.alloc());
-    match env::args(rt) {
-        Ok(all) => {
-            for word in all.skip(1) {
-                words.push(word)?;
-            }
-        }
-        Err(error) if error.kind() == ErrorKind::InvalidData => words.push(String::new(
-            rt.alloc(),
-        ))?,
-        Err(error) => return Err(error),
-    }
-    Ok(words)
-}
-
 // Says whose refusal the input is, where it is one in place of a report.
 fn pass_on(rt: &HostRuntime, outcome: &Outcome, input: &[u8]) {
     if let (Outcome::NotReport { line: _ }, Some(refusal)) = (outcome, refusal_of(input)) {
@@ -78,24 +57,32 @@ fn pass_on(rt: &HostRuntime, outcome: &Outcome, input: &[u8]) {
     }
 }
 
-fn exit(outcome: &Outcome) -> ExitCode
-    ensures { exit_status result ≡ status_of outcome.now }
-{
-    ExitCode::from(outcome.status())
+fn without_words(rt: &HostRuntime, fault: WordsFault) -> ExitCode {
+    let _ = eprintln!(rt; "rvrun: {fault}");
+    ExitCode::from(fault.status())
 }
 
 fn main(rt: HostRuntime) -> ExitCode {
-    let Ok(words) = words(&rt) else {
-        return ExitCode::from(8);
+    let words = match command_words(&rt) {
+        Ok(words) => words,
+        Err(fault) => return without_words(&rt, fault),
     };
     let mut source = Opening::new(rt.alloc(), StdSource::new(rt.stdin()));
     let mut sink = StdSink::new(rt.stdout());
+    let mut errors = StdSink::new(rt.stderr());
     let mut shown = Shown {
         rt: &rt,
         is_terminal: rt.stderr().is_terminal(),
         last: None,
     };
-    let outcome = run(rt.alloc(), &words, &mut source, &mut sink, &mut shown);
+    let outcome = run(
+        rt.alloc(),
+        &words,
+        &mut source,
+        &mut sink,
+        &mut errors,
+        &mut shown,
+    );
     pass_on(&rt, &outcome, source.kept());
-    exit(&outcome)
+    outcome.exit_code()
 }

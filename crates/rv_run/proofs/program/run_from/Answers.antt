@@ -1,10 +1,13 @@
-use Rattle.std.proofs.Common.{refl, sym, ◌∙◌, ℕ, List, length, subst}
+use Rattle.std.proofs.Common.{refl, sym, ap, ◌∙◌, ◌≡◌, ◌+◌, ℕ, [], List, Some, length, subst}
+use Rattle.std.specs.Prelude.{nat_lt}
 use Rattle.rv_base.specs.declared.flags.IsaFlags.{IsaFlags}
+use Rattle.rv_full.specs.Steps.{fiter}
+use Rattle.rv_load.specs.declared.callees.Callee.{Callee}
 use Rattle.rv_steps.specs.Computed.{HostRuns, with_more}
 use Rattle.rv_steps.specs.Files.{lines_from}
 use Rattle.rv_run.specs.Memory.{memory_lines}
 use Rattle.rv_run.proofs.FullGrows.{unwritten}
-use Rattle.rv_steps.proofs.HostGoing.{as_integer_alone}
+use Rattle.rv_steps.proofs.HostGoing.{as_own, as_integer_run}
 use Rattle.rv_run.proofs.program.run_from.Goals as goal
 
 pub returns : goal.returns
@@ -15,21 +18,26 @@ returns g c =
     let first = c.args.machine in
     let lines = c.run_asked.new.lines.items in
     let size = length program.bytes in
-    let RunsIn : ℕ → Type 0 = λ len. HostRuns settings.host settings.trace first.flags settings.base len settings.steps first.full c.in_ok-steps.steps last.full c.in_ok-steps.ending lines in
-    let RunsUnder : IsaFlags → Type 0 = λ flags. HostRuns settings.host settings.trace flags settings.base size settings.steps first.full c.in_ok-steps.steps last.full c.in_ok-steps.ending lines in
-    let RunsWith : List ℕ → Type 0 = λ text. HostRuns settings.host settings.trace settings.flags settings.base size settings.steps first.full c.in_ok-steps.steps last.full c.in_ok-steps.ending text in
+    let steps = c.in_ok-steps.steps in
+    let calls = c.in_ok-steps.calls in
+    let ending = c.in_ok-steps.ending in
+    let RunsIn : ℕ → Type 0 = λ len. HostRuns settings.host settings.trace settings.callees first.flags settings.base len settings.steps first.full (steps + calls) calls last.full ending lines in
+    let RunsUnder : IsaFlags → Type 0 = λ flags. HostRuns settings.host settings.trace settings.callees flags settings.base size settings.steps first.full (steps + calls) calls last.full ending lines in
+    let RunsWith : List ℕ → Type 0 =
+    λ text. HostRuns settings.host settings.trace settings.callees settings.flags settings.base size settings.steps first.full (steps + calls) calls last.full ending text in
     let ran_in : RunsIn size = subst RunsIn c.len.ensures c.in_ok-steps.ensures.0 in
-    let ran : RunsUnder settings.flags = subst RunsUnder c.requires.flags ran_in in
+    let ran = subst RunsWith (sym c.from_vec-3.ensures) (subst RunsUnder c.requires.flags ran_in) in
     record {
       first = first;
       last = last;
       begins = c.requires.begins;
-      ran = subst RunsWith (sym c.from_vec-3.ensures) ran;
-      integer = λ k t ending runs end.
-          as_integer_alone c.integer_runs.ensures settings.flags settings.base size settings.steps first.full k t ending runs end settings.host ran.more c.in_ok-steps.steps last.full c.in_ok-steps.ending
-          ran.given ran.ran;
-      unwritten = unwritten settings.flags c.in_ok-steps.steps (with_more ran.more first.full) last.full ran.ran.steps;
+      ran = ran;
+      own = λ none. as_own settings.flags settings.base size settings.steps first.full steps calls last.full ending settings.callees none settings.host settings.trace _ ran;
+      integer = λ none. as_integer_run settings.flags settings.base size settings.steps first.full steps calls last.full ending c.integer_runs.ensures settings.callees none settings.host settings.trace
+          _ ran;
+      unwritten = unwritten settings.callees settings.flags (steps + calls) (with_more ran.more first.full) last.full ran.ran.steps;
       flags = refl;
+      has_callees = ap (λ (n : ℕ). nat_lt 0 n) c.len-2.ensures;
       before = c.in_ok-before.ensures.values;
       after = c.in_ok-after.ensures.values;
       units = c.from_vec.ensures ∙ c.in_ok-units.ensures
