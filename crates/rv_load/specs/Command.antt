@@ -40,7 +40,8 @@ abbrev pub with_start : App → App
 with_start app = with_rule (with_rule (with_rule app (option_rule (codes "from"))) (option_rule (codes "at"))) (option_rule (codes "steps"))
 
 abbrev pub with_memory : App → App
-with_memory app = with_rule (with_rule (with_rule (with_rule app (list_rule (codes "data"))) (list_rule (codes "symbol"))) (list_rule (codes "slot"))) (list_rule (codes "callee"))
+with_memory app =
+    with_rule (with_rule (with_rule (with_rule app (list_rule (codes "data"))) (list_rule (codes "symbol"))) (list_rule (codes "slot"))) (list_rule (codes "callee"))
 
 abbrev pub with_units : App → App
 with_units app = with_rule (with_rule (with_rule app (option_rule (codes "setting"))) (list_rule (codes "answer"))) (option_rule (codes "unit"))

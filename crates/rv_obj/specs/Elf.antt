@@ -112,17 +112,57 @@ text_section o = record { name = 1; kind = 1; flags = 6; offset = header_size; s
 
 -- the relocations of section 1, by the symbols of section 3
 abbrev pub rela_section : Object → Section
-rela_section o = record { name = 7; kind = 4; flags = 64; offset = header_size + length (before_relas o); size = length (flat_map rela_entry o.relas); link = 3; info = 1; align = 8; entry = 24 }
+rela_section o = record {
+  name = 7;
+  kind = 4;
+  flags = 64;
+  offset = header_size + length (before_relas o);
+  size = length (flat_map rela_entry o.relas);
+  link = 3;
+  info = 1;
+  align = 8;
+  entry = 24;
+}
 
 -- the symbols, local ones first, by the names of section 4
 abbrev pub symbol_section : Object → Section
-symbol_section o = record { name = 18; kind = 2; flags = 0; offset = header_size + length (before_symbols o); size = length (symbol_table o.symbols); link = 4; info = o.locals; align = 8; entry = 24 }
+symbol_section o = record {
+  name = 18;
+  kind = 2;
+  flags = 0;
+  offset = header_size + length (before_symbols o);
+  size = length (symbol_table o.symbols);
+  link = 4;
+  info = o.locals;
+  align = 8;
+  entry = 24;
+}
 
 abbrev pub string_section : Object → Section
-string_section o = record { name = 26; kind = 3; flags = 0; offset = header_size + length (before_strings o); size = length (string_table o.symbols); link = 0; info = 0; align = 1; entry = 0 }
+string_section o = record {
+  name = 26;
+  kind = 3;
+  flags = 0;
+  offset = header_size + length (before_strings o);
+  size = length (string_table o.symbols);
+  link = 0;
+  info = 0;
+  align = 1;
+  entry = 0;
+}
 
 abbrev pub name_section : Object → Section
-name_section o = record { name = 34; kind = 3; flags = 0; offset = header_size + length (before_names o); size = length section_names; link = 0; info = 0; align = 1; entry = 0 }
+name_section o = record {
+  name = 34;
+  kind = 3;
+  flags = 0;
+  offset = header_size + length (before_names o);
+  size = length section_names;
+  link = 0;
+  info = 0;
+  align = 1;
+  entry = 0;
+}
 
 abbrev pub table_headers : Object → List ℕ
 table_headers o = section_header (symbol_section o) ++ section_header (string_section o) ++ section_header (name_section o)

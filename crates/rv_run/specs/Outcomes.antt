@@ -154,7 +154,8 @@ pub record IsRun (s : Settings) (p : Program) (run : Run) : Type 0 where
   pub first : Machine
   pub last : Machine
   pub begins : begin s p ≡ Ok first
-  pub ran : HostRuns s.host s.trace s.callees s.flags s.base (length p.bytes) s.steps first.full (run.steps + run.calls) run.calls last.full run.ending run.trace
+  pub ran :
+      HostRuns s.host s.trace s.callees s.flags s.base (length p.bytes) s.steps first.full (run.steps + run.calls) run.calls last.full run.ending run.trace
   -- where no callee is given, all steps are the model's
   pub own : s.callees ≡ [] → (run.calls ≡ 0) × (fiter s.flags run.steps (with_more ran.more first.full) ≡ Some last.full)
   -- and then a run of the integer machine is this one, where no unit goes on at its end: as many steps, to the same state and cause, and all else
@@ -309,7 +310,15 @@ pub record Call : Type 0 where
   pub errors : Taken
 
 abbrev pub call : Words → Option (List ℕ) → Option (List ℕ) → ℕ → ℕ → Taken → Taken → Call
-call words left left_after r r_after output errors = record { words = words; left = left; left_after = left_after; read_faults = r; read_faults_after = r_after; output = output; errors = errors }
+call words left left_after r r_after output errors = record {
+  words = words;
+  left = left;
+  left_after = left_after;
+  read_faults = r;
+  read_faults_after = r_after;
+  output = output;
+  errors = errors;
+}
 
 abbrev pub limit : ℕ
 limit = 16777216
@@ -328,7 +337,14 @@ Asks c = AskRun c.words
 
 -- all that was left was read, and it has this outcome
 abbrev pub Read : Call → Outcome → Type 0
-Read c outcome = (g : Given) × (s : Settings) × Asked c.words g s × (input : List ℕ) × IfSome c.left (λ left. input ≡ left) × (length input ≤ limit) × Means g s input outcome
+Read c outcome =
+    (g : Given) ×
+    (s : Settings) ×
+    Asked c.words g s ×
+    (input : List ℕ) ×
+    IfSome c.left (λ left. input ≡ left) ×
+    (length input ≤ limit) ×
+    Means g s input outcome
 
 -- a word says nothing of any run
 abbrev pub IsBadWord : Call → BadWord → List ℕ → Type 0
@@ -380,7 +396,11 @@ Wrote c outcome = Due c outcome × Appends (own outcome c).taken (own outcome c)
 
 -- a front of a text that was due was written to its sink, and nothing to the other
 abbrev pub WroteFront : Call → Type 0
-WroteFront c = (outcome : Outcome) × Due c outcome × TookFront (own outcome c).taken (own outcome c).taken_after (text_of outcome) × IsUntouched (other outcome c)
+WroteFront c =
+    (outcome : Outcome) ×
+    Due c outcome ×
+    TookFront (own outcome c).taken (own outcome c).taken_after (text_of outcome) ×
+    IsUntouched (other outcome c)
 
 -- a fault of a sink
 abbrev pub IsFault : Taken → Type 0

@@ -49,4 +49,11 @@ changes n (x ∷ xs) (y ∷ ys) = (if x == y then [] else register_line n y) ++ 
 
 -- the steps, how the run ended, how many steps it had and how many the callees, and the registers and the memory that changed
 abbrev pub run_text : Run → List ℕ
-run_text r = r.trace ++ ending_line r.flags r.ending ++ steps_line r.steps ++ calls_line r.has_callees r.calls ++ changes 1 r.before r.after ++ r.units ++ r.memory
+run_text r =
+    r.trace ++
+    ending_line r.flags r.ending ++
+    steps_line r.steps ++
+    calls_line r.has_callees r.calls ++
+    changes 1 r.before r.after ++
+    r.units ++
+    r.memory

@@ -45,10 +45,39 @@ IfShort c P = IfSome c.left (λ input. length input ≤ limit → P input)
 -- program with all of them filled, and a run begins from that one where one begins from the program as it is.
 pub record IsSettled (c : Call) (returned : Outcome) : Type 0 where
   pub of_words : ((g : Given) → ¬ Parses c.words (Ok g)) → ¬ WriteFaults c → IsOfWords returned
-  pub bad_word : (g : Given) (cause : BadWord) → Parses c.words (Ok g) → settings_of g ≡ Err cause → ¬ WriteFaults c → IsOrOutOfMemory returned (ends.BadWord cause (word_text g cause))
-  pub too_long : (g : Given) (s : Settings) → Asked c.words g s → NoFault c → IfSome c.left (λ input. limit < length input → IsOrOutOfMemory returned ends.TooLong)
-  pub not_report : (g : Given) (s : Settings) (line : ℕ) → Asked c.words g s → NoFault c → IfShort c (λ input. Loads g.hex input (Err (program_errors.NotReport line)) → IsOrOutOfMemory returned (ends.NotReport line))
-  pub not_hex : (g : Given) (s : Settings) → Asked c.words g s → NoFault c → IfShort c (λ input. Loads g.hex input (Err program_errors.NotHex) → IsOrOutOfMemory returned ends.NotHex)
-  pub not_placed : (g : Given) (s : Settings) (p : Program) (error : PlaceError) → Asked c.words g s → NoFault c → IfShort c (λ input. Loads g.hex input (Ok p) → IsRefused s p error → IsOrOutOfMemory returned (ends.Unplaced error (reloc_of error p.relocs)))
-  pub no_start : (g : Given) (s : Settings) (p : Program) (cause : BadWord) → Asked c.words g s → NoFault c → IfShort c (λ input. Loads g.hex input (Ok p) → IsUnfit s p cause → IsOrOutOfMemory returned (ends.BadWord cause (word_text g cause)))
-  pub complete : (g : Given) (s : Settings) (p : Program) (first : Machine) → Asked c.words g s → NoFault c → IfShort c (λ input. Loads g.hex input (Ok p) → unplaced s p ≡ None → begin s p ≡ Ok first → IsRan returned)
+  pub bad_word :
+      (g : Given) (cause : BadWord) →
+      Parses c.words (Ok g) →
+      settings_of g ≡ Err cause →
+      ¬ WriteFaults c →
+      IsOrOutOfMemory returned (ends.BadWord cause (word_text g cause))
+  pub too_long :
+      (g : Given) (s : Settings) →
+      Asked c.words g s →
+      NoFault c →
+      IfSome c.left (λ input. limit < length input → IsOrOutOfMemory returned ends.TooLong)
+  pub not_report :
+      (g : Given) (s : Settings) (line : ℕ) →
+      Asked c.words g s →
+      NoFault c →
+      IfShort c (λ input. Loads g.hex input (Err (program_errors.NotReport line)) → IsOrOutOfMemory returned (ends.NotReport line))
+  pub not_hex :
+      (g : Given) (s : Settings) →
+      Asked c.words g s →
+      NoFault c →
+      IfShort c (λ input. Loads g.hex input (Err program_errors.NotHex) → IsOrOutOfMemory returned ends.NotHex)
+  pub not_placed :
+      (g : Given) (s : Settings) (p : Program) (error : PlaceError) →
+      Asked c.words g s →
+      NoFault c →
+      IfShort c (λ input. Loads g.hex input (Ok p) → IsRefused s p error → IsOrOutOfMemory returned (ends.Unplaced error (reloc_of error p.relocs)))
+  pub no_start :
+      (g : Given) (s : Settings) (p : Program) (cause : BadWord) →
+      Asked c.words g s →
+      NoFault c →
+      IfShort c (λ input. Loads g.hex input (Ok p) → IsUnfit s p cause → IsOrOutOfMemory returned (ends.BadWord cause (word_text g cause)))
+  pub complete :
+      (g : Given) (s : Settings) (p : Program) (first : Machine) →
+      Asked c.words g s →
+      NoFault c →
+      IfShort c (λ input. Loads g.hex input (Ok p) → unplaced s p ≡ None → begin s p ≡ Ok first → IsRan returned)

@@ -68,7 +68,8 @@ pub record RunsFor (callees : List Callee) (flags : IsaFlags) (base len limit : 
 
 -- one step of a machine, or why there is none
 abbrev pub StepOrEndingAt : Option Callee → ℕ → ℕ → ℕ → ℕ → Machine → Machine → Option Ending → Type 0
-StepOrEndingAt o base len limit k old new None = (ending_at o old.flags base len limit k old.full ≡ None) × (step_at o old.flags old.full ≡ Some new.full) × (new.flags ≡ old.flags)
+StepOrEndingAt o base len limit k old new None =
+    (ending_at o old.flags base len limit k old.full ≡ None) × (step_at o old.flags old.full ≡ Some new.full) × (new.flags ≡ old.flags)
 StepOrEndingAt o base len limit k old new (Some ending) = (ending_at o old.flags base len limit k old.full ≡ Some ending) × (new ≡ old)
 
 abbrev pub StepOrEnding : List Callee → ℕ → ℕ → ℕ → ℕ → Machine → Machine → Option Ending → Type 0

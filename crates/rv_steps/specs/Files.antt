@@ -51,7 +51,10 @@ frm_line old new = if old == new then [] else codes "frm " ++ decimal new ++ cod
 
 -- the vector setting, where it is another: the length, and vtype in hexadecimal digits
 abbrev pub setting_line : Setting → Setting → List ℕ
-setting_line old new = if old.avl == new.avl && old.vtype == new.vtype then [] else codes "setting " ++ decimal new.avl ++ codes ",0x" ++ hex new.vtype ++ codes "\n"
+setting_line old new =
+    if old.avl == new.avl && old.vtype == new.vtype
+    then []
+    else codes "setting " ++ decimal new.avl ++ codes ",0x" ++ hex new.vtype ++ codes "\n"
 
 -- a line for each of these registers of the units that has another value after the run
 abbrev pub lines_from : List ℕ → List ℕ → ℕ → Setting → Units → List ℕ

@@ -29,7 +29,12 @@ Writes g lines code (Err errors.NotReadBack) = reads_dump g.flags g.base lines �
 Writes g lines code (Err errors.OutOfMemory) = Unit {0}
 
 abbrev pub OfReport : Given → List ℕ → Result (List ℕ) MakeError → Type 0
-OfReport g input result = (p : Program) × (marks : List Mark) × (reads_report input ≡ Ok p) × AreMarks input marks × Writes g (dump_text g.flags g.base (map seen marks) p.bytes) p.bytes result
+OfReport g input result =
+    (p : Program) ×
+    (marks : List Mark) ×
+    (reads_report input ≡ Ok p) ×
+    AreMarks input marks ×
+    Writes g (dump_text g.flags g.base (map seen marks) p.bytes) p.bytes result
 
 -- the lines of a report's code with its marks, or the first line that no report has there
 abbrev pub DumpsReport : Given → List ℕ → Result (List ℕ) MakeError → Type 0
