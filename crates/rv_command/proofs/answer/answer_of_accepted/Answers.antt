@@ -12,7 +12,7 @@ pub assemble_checked-requires : goal.assemble_checked-requires
 assemble_checked-requires c =
     let job = c.args.job in
     let same : job_of c.as_slice.result.now job.flags job.frame c.as_slice-2.result.now ≡ job = λ i. job_of (c.as_slice.ensures i) job.flags job.frame (c.as_slice-2.ensures i) in
-    subst (λ (j : Job). refusal j ≡ None) (sym same) c.requires
+    record { accepted = subst (λ (j : Job). refusal j ≡ None) (sym same) c.requires }
 
 pub returns : goal.returns
 returns c =
