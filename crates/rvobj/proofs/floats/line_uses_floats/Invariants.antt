@@ -1,4 +1,4 @@
-use Rattle.std.proofs.Common.{◌-◌, ◌≤◌, ◌^◌}
+use Rattle.std.proofs.Common.{◌+◌, ◌-◌, ◌≤◌, ◌^◌}
 use Rattle.rvobj.proofs.floats.line_uses_floats.Given as goal
 
 abbrev pub invariant-instructions : goal.invariant-instructions
