@@ -2,7 +2,7 @@
 #![tactic(auto)]
 
 use case_files::{Case, CaseError, Cases, blocks_of, expect_text, read, rows_of, run_cases};
-use rv_command::run_explained;
+use rv_command::{Ending, run_explained};
 use rv_stream::{SureSink, SureSource};
 use std::alloc::{AllocError, Global};
 use std::process::ExitCode;
@@ -22,8 +22,8 @@ fn words_of(alloc: Global, command: &str) -> Result<Vec<String>, AllocError> {
 /// What a call with these words over a listing says, and nothing where it says none.
 fn said(alloc: Global, words: &[String], listing: &str) -> Result<String, AllocError> {
     let mut source = SureSource::new(listing.as_bytes());
-    let ending = run_explained(alloc, words, &mut source, &mut SureSink::new(alloc));
-    match ending.note {
+    let Ending { outcome: _, note } = run_explained(alloc, words, &mut source, &mut SureSink::new(alloc));
+    match note {
         Some(note) => Ok(note),
         None => String::from_str(alloc, "nothing"),
     }
