@@ -22,7 +22,12 @@ fn words_of(alloc: Global, command: &str) -> Result<Vec<String>, AllocError> {
 /// What a call with these words over a listing says, and nothing where it says none.
 fn said(alloc: Global, words: &[String], listing: &str) -> Result<String, AllocError> {
     let mut source = SureSource::new(listing.as_bytes());
-    let Ending { outcome: _, note } = run_explained(alloc, words, &mut source, &mut SureSink::new(alloc));
+    let Ending { outcome: _, note } = run_explained(
+        alloc,
+        words,
+        &mut source,
+        &mut SureSink::new(alloc),
+    );
     match note {
         Some(note) => Ok(note),
         None => String::from_str(alloc, "nothing"),
