@@ -46,6 +46,14 @@ pub fn f_reg(enc: usize) -> Reg
     Reg::Real(pf_reg(enc))
 }
 
+/// The vector register v0 to v31 of this number.
+pub fn v_reg(enc: usize) -> Reg
+    requires { enc < 32 }
+    ensures { IsReal result RegClass.Vector enc }
+{
+    Reg::Real(pv_reg(enc))
+}
+
 /// x0, which always reads 0.
 pub fn zero_reg() -> Reg
     ensures { IsReal result RegClass.Int 0 }

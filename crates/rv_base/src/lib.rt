@@ -41,7 +41,7 @@ pub use constraint::Constraint;
 pub use external_name::ExternalName;
 pub use fixed_regs::{
     a0, a1, a2, f_reg, fa1, fp_reg, link_reg, pf_reg, pv_reg, px_reg, spilltmp_reg, spilltmp_reg2,
-    stack_reg, writable_a0, writable_a2, writable_fa1, writable_fp_reg, writable_link_reg,
+    stack_reg, v_reg, writable_a0, writable_a2, writable_fa1, writable_fp_reg, writable_link_reg,
     writable_spilltmp_reg, writable_spilltmp_reg2, writable_stack_reg, writable_zero_reg, x_reg,
     zero_reg,
 };

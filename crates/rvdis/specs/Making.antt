@@ -45,6 +45,10 @@ DumpsReport g input (Err (errors.NotLine line)) = ⊥
 DumpsReport g input (Err errors.NotReadBack) = OfReport g input (Err errors.NotReadBack)
 DumpsReport g input (Err errors.OutOfMemory) = Unit {0}
 
+-- text that is read back to the code of a report
+abbrev pub IsCodeOf : Given → List ℕ → List ℕ → Type 0
+IsCodeOf g report text = (p : Program) × (reads_report report ≡ Ok p) × (reads_dump g.flags g.base text ≡ Ok p.bytes)
+
 -- the lines of the code that hexadecimal digits give
 abbrev pub OfHex : Given → List ℕ → Result (List ℕ) MakeError → Type 0
 OfHex g input result = (bytes : List ℕ) × (reads_hex input ≡ Some bytes) × Writes g (dump_text g.flags g.base [] bytes) bytes result

@@ -22,6 +22,15 @@ pub(crate) enum Failure {
     Flags { word: String },
     #[error("{word}: no address below 2^64")]
     Base { word: String },
+    /// No report has a listing beside it with these words.
+    #[error("--listing stands beside a report; not with --raw or --reasm")]
+    NoReport,
+    /// The listing can't be read, or isn't UTF-8.
+    #[error("{path}: no file that can be read as text")]
+    ListingFile { path: String },
+    /// The first line of the listing, counted from 1, that is no form of a line.
+    #[error("no listing at line {line}")]
+    Listing { line: usize },
     /// The first line of the input, counted from 1, that no report has there.
     #[error("no report at line {line}")]
     NotReport { line: usize },
@@ -59,6 +68,9 @@ impl Failure {
             Failure::NoWords { fault } => fault.status(),
             Failure::Words { text: _ } | Failure::Flags { word: _ } | Failure::Base { word: _ } =>
                 2,
+            Failure::NoReport => 2,
+            Failure::ListingFile { path: _ } => 5,
+            Failure::Listing { line: _ } => 3,
             Failure::NotReport { line: _ } | Failure::Refused { line: _ } => 3,
             Failure::NotHex | Failure::NotLine { line: _ } => 3,
             Failure::NotReadBack => 4,

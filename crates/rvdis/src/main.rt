@@ -6,17 +6,22 @@ ghost use Rattle.std.specs.Process.{exit_status};
 ghost use Rattle.rvdis.specs.Ending.{status_of};
 
 mod failure;
+mod listed;
 mod making;
 mod passed;
 mod words;
 
 use failure::Failure;
-use making::{MakeError, output_of};
+use listed::listed_output;
+use making::{Given, MakeError, output_of};
 use passed::say_passed;
-use rv_base::OutOfMemory;
+use rv_base::{List, OutOfMemory};
 use rv_explain::refusal_of;
+use rv_inst::Job;
+use rv_listing::{ReadError, read_job};
 use rv_stream::{ReadAllError, StdSink, StdSource, WriteError, read_all, write_all};
 use rv_words::command_words;
+use std::fs;
 use std::process::ExitCode;
 use words::given_by;
 
@@ -47,14 +52,41 @@ fn passed_on(rt: &HostRuntime, input: &[u8], error: MakeError) -> Result<Failure
     }
 }
 
+// The job of the listing in a file.
+fn job_in(rt: &HostRuntime, path: String) -> Result<Job, Failure> {
+    let Ok(text) = fs::read_to_string(rt, &path) else {
+        return Err(Failure::ListingFile { path });
+    };
+    match read_job(rt.alloc(), text.as_bytes()) {
+        Ok(job) => Ok(job),
+        Err(ReadError::Syntax { line }) => Err(Failure::Listing { line }),
+        Err(ReadError::OutOfMemory) => Err(Failure::OutOfMemory),
+    }
+}
+
+fn made_of(
+    rt: &HostRuntime,
+    given: &Given,
+    listing: Option<String>,
+    input: &[u8],
+) -> Result<Result<List<u8>, MakeError>, Failure> {
+    match listing {
+        Some(path) => {
+            let job = job_in(rt, path)?;
+            Ok(listed_output(rt.alloc(), given, job.lines.as_slice(), input))
+        }
+        None => Ok(output_of(rt.alloc(), given, input)),
+    }
+}
+
 fn run(rt: &HostRuntime) -> Result<(), Failure> {
     let words = command_words(rt)?;
-    let given = given_by(rt.alloc(), &words)?;
+    let (given, listing) = given_by(rt.alloc(), &words)?;
     let input = input_of(rt)?;
     if given.is_reasm {
         say_passed(rt, &input);
     }
-    match output_of(rt.alloc(), &given, &input) {
+    match made_of(rt, &given, listing, &input)? {
         Ok(bytes) => write(rt, bytes.as_slice()),
         Err(error) => Err(passed_on(rt, &input, error)?),
     }

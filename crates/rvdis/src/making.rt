@@ -61,7 +61,7 @@ fn is_read_back(
 }
 
 // The lines of code, which are read back before they are handed out.
-fn lines_of(
+pub(crate) fn lines_of(
     alloc: Global,
     given: &Given,
     marks: &[Mark],

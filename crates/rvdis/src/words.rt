@@ -46,6 +46,12 @@ fn command<'a>(alloc: Global) -> Result<Command<'a>, OutOfMemory> {
         "NAMES",
         "Extensions of the machine, as zca,zcb",
     );
+    let listing = option(
+        alloc,
+        "listing",
+        "FILE",
+        "The listing of the report: its data stands as data",
+    );
     let command = Command::new(alloc, "rvdis")
         .version("0.1.0")
         .about("Writes code as lines of text, an instruction each; or such lines as code.")
@@ -53,7 +59,8 @@ fn command<'a>(alloc: Global) -> Result<Command<'a>, OutOfMemory> {
         .arg(raw)?
         .arg(reasm)?
         .arg(base)?
-        .arg(flags)?;
+        .arg(flags)?
+        .arg(listing)?;
     Ok(command)
 }
 
@@ -110,17 +117,32 @@ fn is_set(matches: &ArgMatches, name: &str) -> bool {
     matches.get_flag(name)
 }
 
-/// What words give.
-pub(crate) fn given_by(alloc: Global, words: &[String]) -> Result<Given, Failure> {
+// The file of the listing, which stands beside a report alone.
+fn listing_of(alloc: Global, matches: &ArgMatches) -> Result<Option<String>, Failure> {
+    let Some(path) = matches.get_str("listing") else {
+        return Ok(None);
+    };
+    if is_set(matches, "raw") || is_set(matches, "reasm") {
+        return Err(Failure::NoReport);
+    }
+    Ok(Some(copy_of(alloc, path)?))
+}
+
+/// What words give, and the listing's file.
+pub(crate) fn given_by(
+    alloc: Global,
+    words: &[String],
+) -> Result<(Given, Option<String>), Failure> {
     let command = command(alloc)?;
     let matches = match command.try_get_matches_from(words) {
         Ok(matches) => matches,
         Err(error) => return Err(words_failure(alloc, &error)),
     };
-    Ok(Given {
+    let given = Given {
         is_raw: is_set(&matches, "raw"),
         is_reasm: is_set(&matches, "reasm"),
         base: base_of(alloc, matches.get_str("base"))?,
         flags: flags_of(alloc, matches.get_str("flags"))?,
-    })
+    };
+    Ok((given, listing_of(alloc, &matches)?))
 }
