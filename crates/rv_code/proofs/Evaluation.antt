@@ -6,19 +6,23 @@ use Rattle.rv_code.proofs.Words.{IsAt, Site, StandsIn, State, Values, ints, load
 use Rattle.rv_code.proofs.Words.{AreInRange, AreValues, at, between, Bind, Branch, branches, CodeHas, Constant, Copy, Decoded, Do, Equal, holds, IntCC, IsaFlags, IsInRange, IsPlacedAt, IsState, istep, Jump, low64, New, op_of, own_label, Piece, piece_size, reg, Distant}
 use Rattle.rv_code.proofs.Words.{Literal, NameAddress, OfLabel, OfSymbol, Take, Word32, Word64, distant_slots, literal_slots, literal_size, size_of, slots_for}
 use Rattle.rv_code.specs.Evaluation.{label_value, AreShort, distant_value, literal_value, symbol_value, Point, at as points, to, address, is_of_integers, effect, wrote, AllOutside, next, and_then, evaluate, steps_for, steps_on, steps_of, StandIn, IsAtPoint, ComesToPoint}
-use Rattle.{rv_code.{specs.InstRuns.environment, specs.Pieces.{Rrr, Rri, Frr, Go, Jalr, GoNowhere, IsNoLabel, Load, LoadFrom, Lui, Name, Note, Store}, specs.Slots.{AddressOf, SlotOf}}, rv_inst.{proofs.PlainInsts.not_true, specs.Addresses.inline_size, specs.Meaning.Environment}}
+use Rattle.{rv_code.{specs.InstRuns.environment, specs.Pieces.{Rrr, Rri, Frr, Fence, Amo, Go, Jalr, GoNowhere, IsNoLabel, Load, LoadFrom, Lui, Name, Note, Store}, specs.Slots.{AddressOf, SlotOf}}, rv_inst.{proofs.PlainInsts.not_true, specs.Addresses.inline_size, specs.Meaning.Environment}}
 use Rattle.{rv_machine.specs.Steps.iter, rv_ops.specs.declared.memory.LoadOP.TheVariants.Ld}
 use Rattle.std.proofs.Common.{◌≡◌, ◌⊎◌, ⊎_elim, inl, inr, ℕ, zero, suc, ◌+◌, ◌*◌, ◌%◌, ◌^◌, ◌<◌, ◌≤◌, ℤ, Bool, true, false, nat_eq, [], ◌∷◌, List, length, Option, Some, None, arith, refl, sym, ap, subst, ◌∙◌, lit<, lit≤, eqb-true, if◌then◌else◌, rules}
 
 pub action_sized : (flags : IsaFlags) (a : Action) → HasSize (op_of flags a)
 action_sized flags (Copy width rd rs) = record { even = refl; some = lit< tt; few = lit≤ tt }
 action_sized flags (Frr op width rd rs) = record { even = refl; some = lit< tt; few = lit≤ tt }
+action_sized flags (Fence pred succ) = record { even = refl; some = lit< tt; few = lit≤ tt }
+action_sized flags (Amo op amo rd addr src) = record { even = refl; some = lit< tt; few = lit≤ tt }
 action_sized flags _ = search (rules, rrr_sized, rri_sized, lui_sized, load_sized, store_sized)
 
 -- one of integers, in whatever form it stands
 action_acts : (flags : IsaFlags) (a : Action) (s : State) → is_of_integers a ≡ true → IsInRange a → IsState s → act (op_of flags a) s ≡ Some (at (wrap (s.pc + (op_of flags a).len)) (effect a s.values))
 action_acts flags (Copy width rd rs) s e h is = absurd (cc)
 action_acts flags (Frr op width rd rs) s e h is = absurd (cc)
+action_acts flags (Amo op amo rd addr src) s e h is = absurd (cc)
+action_acts flags (Fence pred succ) s e h is = refl
 action_acts flags (Rrr op rd a b) s e h is = (short_rrr_does flags op rd a b).acts s is.values
 action_acts flags (Rri op rd rs imm) s e h is = rri_acts flags op rd rs imm s h.1 is
 action_acts flags (Lui rd imm) s e h is = (short_lui_does flags rd imm).acts s is.values

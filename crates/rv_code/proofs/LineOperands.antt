@@ -244,9 +244,9 @@ jump_sum context inst info is = ap (inst_sum context) is ∙ omega arith
 
 -- ---- words of units, and sequences.
 
-unit_fine : (w : UnitWord) → list_any is_virtual (registers_in w.places) ≡ false → list_any is_out_of_place w.places ≡ false → not w.rounding ≡ false → not w.width ≡ false → IsFineUnit w
+unit_fine : (w : UnitWord) → list_any is_virtual (registers_in w.places) ≡ false → (list_any is_out_of_place w.places || not w.aside) ≡ false → not w.rounding ≡ false → not w.width ≡ false → IsFineUnit w
 unit_fine w real placed rounded wide =
-    (by_none is_virtual AreReal tt (λ r rs one others. (is_real r one, others)) (registers_in w.places) real, by_none is_out_of_place AreOfClass tt (λ p ps one others. (sym (one_class (class_of p.reg) p.class one), others)) w.places placed, not_false w.rounding rounded, not_false w.width wide)
+    (by_none is_virtual AreReal tt (λ r rs one others. (is_real r one, others)) (registers_in w.places) real, by_none is_out_of_place AreOfClass tt (λ p ps one others. (sym (one_class (class_of p.reg) p.class one), others)) w.places (or_left (list_any is_out_of_place w.places) (not w.aside) placed), not_false w.rounding rounded, not_false w.width wide, not_false w.aside (or_right (list_any is_out_of_place w.places) (not w.aside) placed))
 
 -- what the word of a unit asks
 pub word_fine : (inst : Inst) → Keeps inst → IfSome (unit_word inst) (λ (w : UnitWord). IsFineUnit w)

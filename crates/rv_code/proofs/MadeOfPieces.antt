@@ -6,11 +6,12 @@ use Rattle.rv_code.proofs.Words.{Symbol, Take, Word32, Word64, address_event, li
 use Rattle.rv_code.proofs.Words.{backward_of, Bind, bits_of, Branch, canonical_type, choice_pieces, class_of, complement_of, Context, Do, Exactly, extend_pieces, forward_of, GoNowhere, here_at, I64, Inst, inst_constant, inst_records, inst_size, Int, IntCC, IntegerCompare, IrType, is_byte, IsaFlags}
 use Rattle.rv_code.proofs.Words.{IsBoundIn, IsBoundNear, IsOfSize, Jal20, Jump, jump_kind, LabelUse, move_action, move_op, move_pieces, move_size, moves_then, named_by, names_of, New, number_of, op_of, own_labels, Piece, piece_most, piece_size, pieces_most, pieces_size, PReg, records_of, Reg, RegClass}
 use Rattle.rv_code.{proofs.Words.{request_of, right_shift, Rri, RVCJump, same_numbers, select_pieces, SelectInfo, size_of}, specs.Pieces.{Go, Jalr, LoadFrom, Name}, specs.Probes.{probe_pieces, probe_turn}, specs.Sequences.{pieces_by, sequence_pieces, zeros_pieces}, specs.Traps.trap_if_pieces}
-use Rattle.{rv_code.{proofs.Forgetting.{either, pieces_forget, slots_forget}, specs.Forgetting.slot_forgets, specs.InstParts.{parts_of, slots_alone}, specs.declared.state.EmitVState.EmitVState}, rv_inst.specs.Descriptions.{Gives, described, facts_in, facts_of, given, most_words, none_is_some, recorded_in, recorded_of}}
+use Rattle.{rv_code.{proofs.Forgetting.{either, pieces_forget, slots_forget}, specs.Forgetting.slot_forgets, specs.InstParts.{parts_of, slots_alone}, specs.Accesses.{atomic_load_pieces, atomic_store_pieces}, specs.declared.state.EmitVState.EmitVState}, rv_inst.specs.Descriptions.{Gives, described, load_for, store_for, facts_in, facts_of, given, most_words, none_is_some, recorded_in, recorded_of}}
 use Rattle.rv_inst.{specs.declared.sequence.Computation.Computation, specs.declared.sequence.Computation.TheVariants.Zeros, specs.declared.sequence.Sequence.Sequence, specs.Limits.sequence_limit, specs.Operands.inst_ways}
 use Rattle.rv_inst.{specs.Records.{Recorded, Nothing, TrapAfter, SlotInParts, AddressInParts, AddressLast}, specs.Sizes.most_bytes, specs.declared.units.Facts.Facts}
-use Rattle.rv_inst.specs.declared.inst.Inst.TheVariants.{Auipc, Extend, LabelAddress, LoadExtNameFar, LoadExtNameGot, LoadExtNameNear, LoadInlineConst, Mov, MovFromPReg, Select, StackProbeLoop, TrapIf, Udf}
+use Rattle.rv_inst.specs.declared.inst.Inst.TheVariants.{AtomicLoad, AtomicStore, Auipc, Extend, Fence, LabelAddress, LoadExtNameFar, LoadExtNameGot, LoadExtNameNear, LoadInlineConst, Mov, MovFromPReg, Select, StackProbeLoop, TrapIf, Udf}
 use Rattle.std.{proofs.Common.{rules, ◌≡◌, ℕ, ℤ, ◌+◌, ◌≤◌, Bool, true, false, nat_eq, [], ◌∷◌, List, length, Option, Some, None, is_some, unwrap_or, zero, ◌&&◌, arith, refl, lit≤, sym, subst, ap, lit<, suc, ◌*◌, ◌<◌, ◌++◌, map, pos, ◌∙◌, ◌-◌, if◌then◌else◌, ⊎_elim, ◌%◌, ◌^◌, inl, inr, ◌⊎◌}, proofs.lemmas.Option.same_Some, specs.List.list_any, specs.Prelude.{not, ◌==◌, ◌||◌}}
+use Rattle.rv_code.specs.Pieces as piece
 use mathlib.Core.Bool.{or-false, or_self}
 use borrow.Author.Count.{below_more, below_none}
 
@@ -177,7 +178,7 @@ actions_most [] = refl
 actions_most (a ∷ actions) = let e = actions_most actions in omega arith
 
 -- they make an instruction of which there may be so many, and which has no uses, labels and records, and names no constant
-actions_made : (context : Context) (inst : Inst) (actions : List Action) → IsOfSize (inst_size context inst) (pieces_size context.flags (map Do actions)) → length actions ≤ 2 → request_of context inst ≡ None → ((start end : ℕ) → [] ≡ uses_in context start end inst) → ((start end : ℕ) → [] ≡ inst_records context start end inst) → inst_constant inst ≡ None → IsMadeOf context inst (map Do actions)
+actions_made : (context : Context) (inst : Inst) (actions : List Action) → IsOfSize (inst_size context inst) (pieces_size context.flags (map Do actions)) → length actions ≤ 3 → request_of context inst ≡ None → ((start end : ℕ) → [] ≡ uses_in context start end inst) → ((start end : ℕ) → [] ≡ inst_records context start end inst) → inst_constant inst ≡ None → IsMadeOf context inst (map Do actions)
 actions_made context inst actions fits few asks uses records name =
     let most = actions_most actions in
     let none = actions_keep (λ ps. own_labels ps ≡ 0) actions (λ a ps e. e) refl in
@@ -391,6 +392,14 @@ given_code context setting (StackProbeLoop guard_size probe_count tmp) e = given
 given_code context setting (LoadExtNameGot rd name) e = given_by _ refl (got_made context rd name) (lit≤ tt) refl tt
 given_code context setting (LoadExtNameNear rd name offset) e = given_by _ refl (near_made context rd name offset) (lit≤ tt) refl tt
 given_code context setting (LoadExtNameFar rd name offset) e = given_by _ refl (far_made context rd name offset) (omega (arith, least_few context.flags)) (or-false _) tt
+given_code context setting (Fence pred succ) e =
+    given_by _ refl (actions_made context (Fence pred succ) (piece.Fence pred succ ∷ []) (lit≤ tt) (lit≤ tt) refl (λ start end. refl) (λ start end. refl) refl) (lit≤ tt) refl tt
+given_code context setting (AtomicLoad rd type p) e =
+    let pieces = atomic_load_pieces type (number_of rd.reg) (number_of p) in
+    given_by pieces refl (actions_made context (AtomicLoad rd type p) (piece.Fence 3 3 ∷ piece.Load (load_for type) (number_of rd.reg) (number_of p) (pos 0) ∷ piece.Fence 2 3 ∷ []) (fits_most context.flags pieces (lit≤ tt)) (lit≤ tt) refl (λ start end. refl) (λ start end. refl) refl) (lit≤ tt) refl tt
+given_code context setting (AtomicStore src type p) e =
+    let pieces = atomic_store_pieces type (number_of src) (number_of p) in
+    given_by pieces refl (actions_made context (AtomicStore src type p) (piece.Fence 3 1 ∷ piece.Store (store_for type) (number_of p) (number_of src) (pos 0) ∷ []) (fits_most context.flags pieces (lit≤ tt)) (lit≤ tt) refl (λ start end. refl) (λ start end. refl) refl) (lit≤ tt) refl tt
 given_code context setting inst e = absurd (none_is_some e)
 
 given_some : {A : Type 0} (o : Option A) (a : A) (e : is_some o ≡ true) → o ≡ Some a → given o e ≡ a

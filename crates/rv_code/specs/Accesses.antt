@@ -2,6 +2,7 @@
 use Rattle.std.specs.Prelude.{ℕ, ◌==◌, ℤ, pos, if◌then◌else◌, List, [], ◌∷◌, ◌++◌, Option, Some, None}
 use Rattle.rv_base.specs.declared.flags.IsaFlags.{IsaFlags}
 use Rattle.rv_base.specs.declared.frame.FrameLayout.{FrameLayout}
+use Rattle.rv_base.specs.declared.ir_type.IrType.{IrType}
 use Rattle.rv_base.specs.declared.trap.TrapCode.{TrapCode}
 use Rattle.rv_ops.specs.declared.alu.AluOPRRR.TheVariants.{Add, Or}
 use Rattle.rv_ops.specs.declared.alu.AluOPRRI.TheVariants.{Addi}
@@ -13,12 +14,13 @@ use Rattle.rv_ops.specs.declared.memory.StoreOP.{StoreOP}
 use Rattle.rv_ops.specs.declared.memory.StoreOP.TheVariants.{Sh}
 use Rattle.rv_machine.specs.State.{low64}
 use Rattle.rv_encode.specs.Operations.{has_load, has_store}
+use Rattle.rv_inst.specs.Descriptions.{load_for, store_for}
 use Rattle.rv_inst.specs.Addresses.{Location, Based, AtLabel, AtConstant, is_near}
 use Rattle.rv_inst.specs.Halves.{high_bits}
 use Rattle.rv_inst.specs.Returns.{StackLoad, restores, frame_above}
 use Rattle.mach_uses.specs.Labels.{constant_label}
 use Rattle.mach_records.specs.declared.records.Event.TheVariants as event
-use Rattle.rv_code.specs.Pieces.{Action, Rrr, Rri, Lui, Load, Store, Frr, Piece, Do, Take, LoadFrom, Note, Name, OfLabel, number_pieces, offset_pieces}
+use Rattle.rv_code.specs.Pieces.{Action, Rrr, Rri, Lui, Load, Store, Frr, Fence, Piece, Do, Take, LoadFrom, Note, Name, OfLabel, number_pieces, offset_pieces}
 
 -- any address; a constant's is that of its label, once the constant is named
 abbrev pub address_pieces : ℕ → Location → List Piece
@@ -48,6 +50,24 @@ abbrev pub load_pieces : LoadOP → ℕ → Option TrapCode → Location → Lis
 load_pieces op rd trap (Based r o) = based_pieces (Load op rd) trap r o
 load_pieces op rd trap (AtLabel l) = LoadFrom op rd trap l ∷ []
 load_pieces op rd trap (AtConstant k) = Name k ∷ LoadFrom op rd trap (constant_label k) ∷ []
+
+-- the sets of accesses of a fence: reads, writes, and both
+abbrev pub reads : ℕ
+reads = 2
+
+abbrev pub writes : ℕ
+writes = 1
+
+abbrev pub reads_and_writes : ℕ
+reads_and_writes = 3
+
+-- an integer that is read after all that was read and written, and before all else
+abbrev pub atomic_load_pieces : IrType → ℕ → ℕ → List Piece
+atomic_load_pieces type rd p = Do (Fence reads_and_writes reads_and_writes) ∷ Do (Load (load_for type) rd p (pos 0)) ∷ Do (Fence reads reads_and_writes) ∷ []
+
+-- one that is written after all that was read and written
+abbrev pub atomic_store_pieces : IrType → ℕ → ℕ → List Piece
+atomic_store_pieces type src p = Do (Fence reads_and_writes writes) ∷ Do (Store (store_for type) p src (pos 0)) ∷ []
 
 -- a store
 abbrev pub store_access : StoreOP → ℕ → Access

@@ -14,7 +14,7 @@ use Rattle.rv_base.specs.declared.label.MachLabel.{MachLabel}
 use Rattle.rv_ops.specs.declared.memory.LoadOP.{LoadOP}
 use Rattle.rv_ops.specs.declared.memory.LoadOP.TheVariants.{Ld}
 use Rattle.rv_code.specs.InstRuns.{environment}
-use Rattle.rv_code.specs.Pieces.{Action, Rrr, Rri, Lui, Load, Store, Copy, Frr, Literal, Word32, Word64, NameAddress, Distant, OfLabel, OfSymbol, Piece, Do, Constant, Take, LoadFrom, Note, Name, Branch, Jump, New, Bind, Go, Call, Jalr, Trap, after, slots_of, pieces_size, AreInRange, GoNowhere}
+use Rattle.rv_code.specs.Pieces.{Action, Rrr, Rri, Lui, Load, Store, Copy, Frr, Fence, Amo, Literal, Word32, Word64, NameAddress, Distant, OfLabel, OfSymbol, Piece, Do, Constant, Take, LoadFrom, Note, Name, Branch, Jump, New, Bind, Go, Call, Jalr, Trap, after, slots_of, pieces_size, AreInRange, GoNowhere}
 use Rattle.rv_code.specs.Sites.{Site, StandsIn}
 use Rattle.rv_code.specs.Slots.{Symbol, AddressOf, SlotOf}
 
@@ -33,6 +33,8 @@ is_of_integers (Load op rd base offset) = not (is_float_load op)
 is_of_integers (Store op base src offset) = not (is_float_store op)
 is_of_integers (Copy width rd rs) = false
 is_of_integers (Frr op width rd rs) = false
+is_of_integers (Fence pred succ) = true
+is_of_integers (Amo op amo rd addr src) = false
 
 -- what an operation makes of the values
 abbrev pub effect : Action → Values → Values
@@ -43,6 +45,8 @@ effect (Load op rd base offset) v = set_reg v rd (load_result (load_op op) v.mem
 effect (Store op base src offset) v = put_bytes v (address v base offset) (store_bytes (store_op op) (reg v src))
 effect (Copy width rd rs) v = v
 effect (Frr op width rd rs) v = v
+effect (Fence pred succ) v = v
+effect (Amo op amo rd addr src) v = v
 
 -- the addresses that were written, store by store, once it writes its own
 abbrev pub wrote : Action → Values → List (List ℕ) → List (List ℕ)
@@ -53,6 +57,8 @@ wrote (Load op rd base offset) v m = m
 wrote (Store op base src offset) v m = addresses_from (address v base offset) (length (store_bytes (store_op op) (reg v src))) ∷ m
 wrote (Copy width rd rs) v m = m
 wrote (Frr op width rd rs) v m = m
+wrote (Fence pred succ) v m = m
+wrote (Amo op amo rd addr src) v m = m
 
 -- what a literal loads
 abbrev pub literal_value : Environment → Literal → ℕ

@@ -27,7 +27,7 @@ use Rattle.rv_inst.specs.Limits.{table_space}
 use Rattle.rv_inst.specs.Sizes.{fall, results_space}
 use Rattle.rv_inst.specs.Descriptions.{Description, UnitWord, Word, Computes, Gives, description_of, is_made, none_is_some}
 use Rattle.rv_inst.specs.declared.inst.Inst.{Inst}
-use Rattle.rv_inst.specs.declared.inst.Inst.TheVariants.{Nop0, Nop4, EBreak, SequencePoint, Args, Rets, DummyUse, EmitIsland, RawData, Lui, Auipc, LoadInlineConst, AluRRR, AluRRImm12, Mov, MovFromPReg, Extend, Select, Load, Store, LoadAddr, LabelAddress, Ret, TrapIf, Jal, CondBr, BrTable, Udf, Jalr, StackProbeLoop, LoadExtNameGot, LoadExtNameNear, LoadExtNameFar, Call, CallInd, ReturnCall, ReturnCallInd, Unwind}
+use Rattle.rv_inst.specs.declared.inst.Inst.TheVariants.{Nop0, Nop4, EBreak, SequencePoint, Args, Rets, DummyUse, EmitIsland, RawData, Lui, Auipc, LoadInlineConst, AluRRR, AluRRImm12, Mov, MovFromPReg, Extend, Select, Load, Store, LoadAddr, LabelAddress, Ret, TrapIf, Jal, CondBr, BrTable, Udf, Jalr, StackProbeLoop, LoadExtNameGot, LoadExtNameNear, LoadExtNameFar, Call, CallInd, ReturnCall, ReturnCallInd, Unwind, Fence, AtomicLoad, AtomicStore}
 use Rattle.rv_inst.specs.declared.inst.CondBrTarget.{CondBrTarget}
 use Rattle.rv_inst.specs.declared.inst.CondBrTarget.TheVariants.{Label as ToLabel, Fallthrough}
 use Rattle.rv_inst.specs.declared.label_use.LabelUse.TheVariants.{Jal20, B12}
@@ -46,7 +46,7 @@ use Rattle.rv_code.specs.Choices.{extend_pieces, move_pieces, select_pieces}
 use Rattle.rv_code.specs.Sequences.{sequence_pieces}
 use Rattle.rv_code.specs.Calls.{call_ind_pieces, call_pieces, t0_pieces, tail_pieces, try_pieces}
 pub use Rattle.rv_code.specs.Pieces.{access_slots, call_to, label_base, label_load_slots, label_slots, literal_slots, load_over, symbol_slots, trap_bytes, trap_slots, upper_at}
-use Rattle.rv_code.specs.Accesses.{address_pieces, boxing_pieces, far_pieces, load_pieces, far_step_pieces, return_pieces, stack_load_pieces, stack_step_pieces, store_access, store_pieces, half_load_pieces, half_store_pieces, load_line_pieces, store_line_pieces}
+use Rattle.rv_code.specs.Accesses.{address_pieces, atomic_load_pieces, atomic_store_pieces, boxing_pieces, far_pieces, load_pieces, far_step_pieces, return_pieces, stack_load_pieces, stack_step_pieces, store_access, store_pieces, half_load_pieces, half_store_pieces, load_line_pieces, store_line_pieces}
 use Rattle.rv_code.specs.Pieces as piece
 use Rattle.rv_code.specs.Pieces.{Do, Rrr, Rri, Go, Note, Trap, Literal, Word32, Word64, NameAddress, OfLabel, OfSymbol, Constant, Take, Piece}
 use Rattle.rv_code.specs.Pieces.{immediate_pieces, lower_pieces, number_pieces, offset_pieces, slots_of}
@@ -273,5 +273,8 @@ parts_of context setting (ReturnCallInd info) =
     Ask (return_size context.flags context.frame info.new_stack_arg_size + 4) ∷
     Slots (t0_slots context.flags context.frame info.new_stack_arg_size) ∷
     []
+parts_of context setting (Fence pred succ) = slots_alone (slots_of context.flags (Do (piece.Fence pred succ) ∷ []))
+parts_of context setting (AtomicLoad rd type p) = slots_alone (slots_of context.flags (atomic_load_pieces type (number_of rd.reg) (number_of p)))
+parts_of context setting (AtomicStore src type p) = slots_alone (slots_of context.flags (atomic_store_pieces type (number_of src) (number_of p)))
 parts_of context setting (Unwind inst) = slots_alone (slots_of context.flags (Note (event.Unwind inst) ∷ []))
 parts_of context setting inst = described_parts context.flags (description_of inst refl) refl

@@ -18,3 +18,4 @@ pub mod Chains
 pub mod Immediates
 pub mod FullValues
 pub mod UnitRuns
+pub mod UnitWrites

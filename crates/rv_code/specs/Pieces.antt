@@ -10,6 +10,8 @@ use Rattle.rv_base.specs.declared.trap.TrapCode.{TrapCode}
 use Rattle.rv_ops.specs.declared.alu.AluOPRRR.{AluOPRRR}
 use Rattle.rv_ops.specs.declared.alu.AluOPRRI.{AluOPRRI}
 use Rattle.rv_ops.specs.declared.alu.AluOPRRI.TheVariants.{Addi}
+use Rattle.rv_ops.specs.declared.atomic.AMO.{AMO}
+use Rattle.rv_ops.specs.declared.atomic.AtomicOP.{AtomicOP}
 use Rattle.rv_ops.specs.declared.float_fields.FRM.TheVariants.{RNE}
 use Rattle.rv_ops.specs.declared.float_fields.FpuOPWidth.{FpuOPWidth}
 use Rattle.rv_ops.specs.declared.fpu.FpuOPRRR.TheVariants.{Fsgnj}
@@ -24,7 +26,7 @@ use Rattle.rv_machine.specs.declared.decoding.Decoded.{Decoded}
 use Rattle.rv_machine.specs.declared.ops.MOp.TheVariants.{Base}
 use Rattle.rv_machine.specs.declared.ops.BaseOp.TheVariants.{Auipc}
 use Rattle.rv_machine.specs.State.{low64}
-use Rattle.rv_encode.specs.Operations.{decoded, decoded_load, branch_op, decoded_fpu_rr, decoded_fpu_rrr}
+use Rattle.rv_encode.specs.Operations.{decoded, decoded_atomic, decoded_fence, decoded_load, branch_op, decoded_fpu_rr, decoded_fpu_rrr}
 use Rattle.rv_inst.specs.Addresses.{inline_size, is_splittable}
 use Rattle.rv_inst.specs.Forms.{jump_kind, short_rrr, short_rri, short_lui, short_load, short_store, short_jalr}
 use Rattle.rv_inst.specs.LabelUse.{marks_of}
@@ -37,8 +39,9 @@ use Rattle.rv_code.specs.Operations.{decoded_addi, decoded_jalr, short_jump, jum
 use Rattle.rv_code.specs.Slots.{Symbol, AddressOf, SlotOf, Slot, Label, Own, Op, Fixup, Data, Records, Names, Allocate, Here, RelocPair, Address, CallTo}
 
 -- an operation of the machine after which the next one is done: of two registers, or of a register and an immediate; an upper immediate
--- in a register; a load or a store, at a register plus an offset; the move of a floating-point register, of a number of some width; or a
--- float operation of one source, which rounds to nearest where it rounds
+-- in a register; a load or a store, at a register plus an offset; the move of a floating-point register, of a number of some width; a
+-- float operation of one source, which rounds to nearest where it rounds; a fence between two sets of accesses; or an atomic operation with
+-- its ordering, of a register, the one with the address, and a source
 pub data Action : Type 0 where
   Rrr : AluOPRRR → ℕ → ℕ → ℕ → Action
   Rri : AluOPRRI → ℕ → ℕ → ℤ → Action
@@ -47,6 +50,8 @@ pub data Action : Type 0 where
   Store : StoreOP → ℕ → ℕ → ℤ → Action
   Copy : FpuOPWidth → ℕ → ℕ → Action
   Frr : FpuOPRR → FpuOPWidth → ℕ → ℕ → Action
+  Fence : ℕ → ℕ → Action
+  Amo : AtomicOP → AMO → ℕ → ℕ → ℕ → Action
 
 -- what stands among the code: a number of 32 bits, one of 64 bits, or a symbol's address plus a number, which a linker fills
 pub data Literal : Type 0 where
@@ -90,6 +95,8 @@ op_of flags (Load op rd base offset) = short_load flags op rd base offset
 op_of flags (Store op base src offset) = short_store flags op base src offset
 op_of flags (Copy width rd rs) = decoded_fpu_rrr Fsgnj width RNE rd rs rs
 op_of flags (Frr op width rd rs) = decoded_fpu_rr op width RNE rd rs
+op_of flags (Fence pred succ) = decoded_fence pred succ
+op_of flags (Amo op amo rd addr src) = decoded_atomic op amo rd addr src
 
 -- the branch by a distance, where two registers compare so
 abbrev pub branches : IntCC → ℕ → ℕ → ℤ → Decoded
@@ -245,6 +252,8 @@ IsInRange (Load op rd base offset) = rd < 32
 IsInRange (Store op base src offset) = Unit {0}
 IsInRange (Copy width rd rs) = rd < 32
 IsInRange (Frr op width rd rs) = rd < 32
+IsInRange (Fence pred succ) = Unit {0}
+IsInRange (Amo op amo rd addr src) = rd < 32
 
 abbrev pub AreInRange : List Piece → Type 0
 AreInRange [] = Unit {0}

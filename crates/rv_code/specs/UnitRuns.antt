@@ -1,5 +1,5 @@
 -- What it is for a unit's operation to do the same on the machine and on values of the listing: links of the proof.
-use Rattle.std.specs.Prelude.{◌≡◌, ℕ, ◌+◌, ◌<◌, true, List, [], ◌∷◌, ◌++◌, Some, None}
+use Rattle.std.specs.Prelude.{◌≡◌, ℕ, ◌+◌, ◌<◌, true, List, [], ◌∷◌, ◌++◌, length, Some, None}
 use Rattle.std.specs.List.{AllByRecursion}
 use Rattle.rv_base.specs.declared.regs.RegClass.{RegClass}
 use Rattle.rv_base.specs.declared.regs.RegClass.TheVariants.{Int, Float, Vector}
@@ -9,6 +9,7 @@ use Rattle.rv_machine.specs.declared.ops.CsrOp.{CsrOp}
 use Rattle.rv_machine.specs.declared.ops.CsrOp.TheVariants.{Csrrw, Csrrs, Csrrc, Csrrwi, Csrrsi, Csrrci}
 use Rattle.rv_machine.specs.State.{AreValues, wrap}
 use Rattle.rv_inst.specs.declared.units.PlacedReg.{PlacedReg}
+use Rattle.rv_inst.specs.Meaning.{AreOutside}
 use Rattle.rv_full.specs.declared.answer.Answer.{Answer}
 use Rattle.rv_full.specs.declared.shapes.Sources.{Sources}
 use Rattle.rv_full.specs.declared.shapes.Sources.TheVariants as sources
@@ -22,26 +23,28 @@ use Rattle.rv_full.specs.Units.{FullState, FullValues, IsFullState, AreUnits, An
 use Rattle.rv_code.specs.FullValues.{SameFull, SameFullBut}
 use Rattle.rv_code.specs.Sites.{Site, IsPlacedAt}
 
--- the listing's values and the machine's after an operation that left these of the machine's as they were: the memory and the setting
-pub record Agree (w x y : FullValues) : Type 0 where
+-- The listing's values and the machine's after an operation that left the machine's setting as it was, and all code that isn't at one of
+-- these addresses.
+pub record Agree (written : List ℕ) (w x y : FullValues) : Type 0 where
   pub same : SameFull x y
-  pub mem : y.ints.mem ≡ w.ints.mem
+  pub placed : (site : Site) → AreOutside site.base (length site.bytes) written → IsPlacedAt site w.ints.mem → IsPlacedAt site y.ints.mem
   pub setting : y.units.setting ≡ w.units.setting
   pub are_values : AreValues x.ints
   pub is_values : AreValues y.ints
   pub units : AreUnits y.units
 
--- from the machine's values w, rows that do something, or take the same kind of answer, and agree with each
-abbrev pub RowsAgree : FullValues → Row → Row → Type 0
-RowsAgree w Absent Absent = ⊥
-RowsAgree w Absent (Does y) = ⊥
-RowsAgree w Absent (Takes l g) = ⊥
-RowsAgree w (Does x) Absent = ⊥
-RowsAgree w (Does x) (Does y) = Agree w x y
-RowsAgree w (Does x) (Takes l g) = ⊥
-RowsAgree w (Takes k f) Absent = ⊥
-RowsAgree w (Takes k f) (Does y) = ⊥
-RowsAgree w (Takes k f) (Takes l g) = (k ≡ l) × ((a : Answer) → fits k a ≡ true → AnswerFits a → Agree w (f a) (g a))
+-- from the machine's values w, rows that do something, or take the same kind of answer, and agree with each, where they write so with the
+-- answers that they take
+abbrev pub RowsAgree : (List Answer → List ℕ) → FullValues → Row → Row → Type 0
+RowsAgree writes w Absent Absent = ⊥
+RowsAgree writes w Absent (Does y) = ⊥
+RowsAgree writes w Absent (Takes l g) = ⊥
+RowsAgree writes w (Does x) Absent = ⊥
+RowsAgree writes w (Does x) (Does y) = Agree (writes []) w x y
+RowsAgree writes w (Does x) (Takes l g) = ⊥
+RowsAgree writes w (Takes k f) Absent = ⊥
+RowsAgree writes w (Takes k f) (Does y) = ⊥
+RowsAgree writes w (Takes k f) (Takes l g) = (k ≡ l) × ((a : Answer) → fits k a ≡ true → AnswerFits a → Agree (writes (a ∷ [])) w (f a) (g a))
 
 -- an integer register that is read, or written, is below x30
 abbrev pub IsUsableSource : Sources → Decoded → Type 0
@@ -84,7 +87,7 @@ IsUsableCsr Csrrci d = (d.rd < 30) × Unit {0}
 
 -- With the answers that are left the machine goes on to an address, with values that agree with those that the listing's row gives with the
 -- answers that were taken.
-pub record RowGoes (pc : ℕ) (w : FullValues) (x y : Row) (answers : List Answer) : Type 0 where
+pub record RowGoes (writes : List Answer → List ℕ) (pc : ℕ) (w : FullValues) (x y : Row) (answers : List Answer) : Type 0 where
   pub took : List Answer
   pub left : List Answer
   pub made : FullValues
@@ -92,7 +95,7 @@ pub record RowGoes (pc : ℕ) (w : FullValues) (x y : Row) (answers : List Answe
   pub parted : answers ≡ took ++ left
   pub takes : row_takes x took ≡ Some (made, [])
   pub next : row_next pc y answers ≡ Goes (full_at pc after left)
-  pub agree : Agree w made after
+  pub agree : Agree (writes took) w made after
   pub fit : AllByRecursion AnswerFits left
 
 -- Or it asks for an answer, since the listing's row takes one, and those that are left don't begin with one of its kind.

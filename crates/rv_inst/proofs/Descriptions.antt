@@ -1,5 +1,5 @@
 -- What holds of every instruction that is described, since all tables over instructions go by its description.
-use Rattle.std.proofs.Common.{◌≡◌, false, List, [], ◌∷◌, Some, refl, ap}
+use Rattle.std.proofs.Common.{◌≡◌, false, List, [], ◌∷◌, None, Some, refl, ap}
 use Rattle.std.specs.Prelude.{◌||◌, option_map}
 use Rattle.std.specs.List.{list_any}
 use Rattle.rv_inst.specs.Context.{Context}
@@ -11,7 +11,7 @@ use Rattle.rv_inst.specs.RegisterTests.{place_test, test_of}
 use Rattle.rv_inst.specs.Faults.{is_misplaced}
 use Rattle.rv_inst.specs.Rules.{faults_of, unit_faults}
 use Rattle.rv_inst.specs.Sizes.{inst_code, unit_code}
-use Rattle.rv_inst.specs.Descriptions.{UnitWord, all_replaced, described_regs, given, places_in, registers_in, replaced_by, sequence_of, unit_word, with_registers, with_sequence}
+use Rattle.rv_inst.specs.Descriptions.{Computes, Gives, UnitWord, Word, all_replaced, described, described_regs, facts_in, facts_of, given, in_order, is_idle_in, places_in, registers_in, regs_in, replaced_by, sequence_of, unit_word, word_in, with_registers, with_sequence}
 use Rattle.rv_inst.specs.declared.inst.Family.TheVariants.{Float}
 use Rattle.rv_inst.specs.declared.inst.Inst.{Inst}
 use Rattle.rv_inst.specs.declared.inst.Inst.TheVariants.{Nop0}
@@ -30,9 +30,13 @@ pub unit_registers : (inst : Inst) → family_of inst ≡ Float → registers_in
 unit_registers Nop0 e = absurd (cc)
 unit_registers inst e = cc
 
-pub unit_misplaced : (inst : Inst) → family_of inst ≡ Float → list_any (place_test OutOfPlace) (places_in (unit_word inst)) ≡ is_misplaced inst
+pub unit_misplaced : (inst : Inst) → family_of inst ≡ Float → (list_any (place_test OutOfPlace) (places_in (unit_word inst)) || is_idle_in (unit_word inst)) ≡ is_misplaced inst
 unit_misplaced Nop0 e = absurd (cc)
 unit_misplaced inst e = cc
+
+-- one of which no facts are given has a unit's registers, or none
+pub regs_without_facts : (inst : Inst) → facts_of inst ≡ None → in_order (registers_in (places_in (unit_word inst))) ≡ described_regs inst
+regs_without_facts inst none = (elim (described inst) as (λ d. facts_in d ≡ None → in_order (registers_in (places_in (word_in d))) ≡ regs_in d) [ None ↦ λ e. refl | Some (Word w) ↦ λ e. refl | Some (Computes s with) ↦ λ e. refl | Some (Gives g) ↦ λ e. absurd (cc) ]) none
 
 -- one of no family of the integer core: it goes on to the next line, and has no temporaries
 pub record IsUnit (inst : Inst) : Type 0 where

@@ -2,7 +2,7 @@
 -- machine has not; others compute one register of another by a sequence of words with a loop; and of others, of integer registers, the row
 -- itself gives what they mean and their code. All tables over instructions have one row for all of these, which goes by
 -- `description_of`. So an instruction that is neither here nor in a table has no row there, and fails to check.
-use Rattle.std.specs.Prelude.{◌≡◌, ℕ, Bool, true, false, is_some, not, ◌&&◌, nat_le, if◌then◌else◌, List, [], ◌∷◌, ◌++◌, ◌+◌, ◌*◌, ◌==◌, ◌^◌, Option, Some, None, map, option_map, slice_get, unwrap_or}
+use Rattle.std.specs.Prelude.{◌≡◌, ℕ, Bool, true, false, is_some, not, ◌&&◌, ◌||◌, nat_le, nat_lt, if◌then◌else◌, List, [], ◌∷◌, ◌++◌, ◌+◌, ◌*◌, ◌==◌, ◌^◌, Option, Some, None, length, map, option_map, slice_get, unwrap_or}
 use Rattle.std.proofs.Common.{cond, subst}
 use Rattle.rv_base.specs.Regs.{class_of, number_of}
 use Rattle.rv_base.specs.declared.regs.Reg.{Reg}
@@ -14,30 +14,37 @@ use Rattle.rv_base.specs.declared.trap.TrapCode.TheVariants.{BadConversionToInte
 use Rattle.rv_machine.specs.declared.decoding.Decoded.{Decoded}
 use Rattle.rv_ops.specs.FloatFields.{is_width, takes_frm}
 use Rattle.rv_ops.specs.Fpu.{fpu_rr_files, fpu_rr_numbers, fpu_rr_widths, fpu_rrr_numbers, fpu_rrr_result, is_to_integer, takes_width}
-use Rattle.rv_encode.specs.Operations.{decoded_csr_imm, decoded_csr_reg, decoded_fli, decoded_fpu_rr, decoded_fpu_rrr, decoded_fpu_rrrr}
+use Rattle.rv_encode.specs.Operations.{decoded_atomic, decoded_csr_imm, decoded_csr_reg, decoded_fence, decoded_fli, decoded_fpu_rr, decoded_fpu_rrr, decoded_fpu_rrrr}
 use Rattle.rv_encode.specs.Registers.{IsRealRegister}
-use Rattle.rv_encode.specs.Operations.{decoded, load_op}
+use Rattle.rv_encode.specs.Operations.{decoded, load_op, store_op}
 use Rattle.rv_inst.specs.Addresses.{inline_size}
 use Rattle.rv_base.specs.IrType.{bits_of}
+use Rattle.rv_base.specs.declared.ir_type.IrType.{IrType}
 use Rattle.rv_inst.specs.Bits.{extended}
-use Rattle.rv_inst.specs.Classes.{is_word_type}
+use Rattle.rv_inst.specs.Classes.{is_int_type, is_word_type}
 use Rattle.rv_machine.specs.declared.ops.MOp.TheVariants.{Base}
 use Rattle.rv_machine.specs.declared.ops.BaseOp.TheVariants.{Auipc as AuipcOp}
 use Rattle.rv_inst.specs.Context.{Context}
-use Rattle.rv_inst.specs.Effects.{Environment, Meaning, Next, Trap, compares, constant_of, goes, probes_of, symbol_at, zero_bytes}
+use Rattle.rv_inst.specs.Effects.{Environment, Meaning, Next, Trap, addresses_from, compares, constant_of, goes, probes_of, put_bytes, symbol_at, zero_bytes}
 use Rattle.rv_inst.specs.InstCode.{AtMost, Exactly, InstCode, extend_operation, one_word, trap_size, words}
 use Rattle.rv_inst.specs.Limits.{number_limit}
 use Rattle.rv_inst.specs.Records.{Recorded, Nothing, TrapAfter, SlotInParts, AddressInParts, AddressLast}
 use Rattle.rv_machine.specs.Arithmetic.{low_word}
-use Rattle.rv_machine.specs.Memory.{load_result}
+use Rattle.rv_machine.specs.Memory.{load_result, store_bytes}
 use Rattle.rv_machine.specs.State.{Values, reg, set_reg, wrap, low64}
+use Rattle.rv_machine.specs.UnitDecode.{is_source}
+use Rattle.rv_ops.specs.Atomic.{atomic_op}
+use Rattle.rv_ops.specs.Memory.{load_of, store_of}
+use Rattle.rv_ops.specs.declared.memory.LoadOP.{LoadOP}
 use Rattle.rv_ops.specs.declared.memory.LoadOP.TheVariants.{Ld}
+use Rattle.rv_ops.specs.declared.memory.StoreOP.{StoreOP}
+use Rattle.rv_ops.specs.declared.memory.StoreOP.TheVariants.{Sd}
 use Rattle.rv_inst.specs.declared.inst.Brev8Info.{Brev8Info}
 use Rattle.rv_inst.specs.declared.inst.CountInfo.{CountInfo}
 use Rattle.rv_inst.specs.declared.inst.Family.{Family}
 use Rattle.rv_inst.specs.declared.inst.Family.TheVariants.{Integer, Memory, Control, Symbols, Float}
 use Rattle.rv_inst.specs.declared.inst.Inst.{Inst}
-use Rattle.rv_inst.specs.declared.inst.Inst.TheVariants.{Nop0, Nop4, EBreak, SequencePoint, Args, Rets, DummyUse, Unwind, EmitIsland, RawData, Lui, Auipc, LoadInlineConst, AluRRR, AluRRImm12, Mov, MovFromPReg, Extend, Select, Load, Store, LoadAddr, LabelAddress, Ret, TrapIf, Jal, CondBr, BrTable, Udf, Jalr, Popcnt, Cltz, Brev8, StackProbeLoop, LoadExtNameGot, LoadExtNameNear, LoadExtNameFar, Call, CallInd, ReturnCall, ReturnCallInd, Fli, FpuRR, FpuRRR, FpuRRRR, CsrReg, CsrImm}
+use Rattle.rv_inst.specs.declared.inst.Inst.TheVariants.{Nop0, Nop4, EBreak, SequencePoint, Args, Rets, DummyUse, Unwind, EmitIsland, RawData, Lui, Auipc, LoadInlineConst, AluRRR, AluRRImm12, Mov, MovFromPReg, Extend, Select, Load, Store, LoadAddr, LabelAddress, Ret, TrapIf, Jal, CondBr, BrTable, Udf, Jalr, Popcnt, Cltz, Brev8, StackProbeLoop, LoadExtNameGot, LoadExtNameNear, LoadExtNameFar, Call, CallInd, ReturnCall, ReturnCallInd, Fli, FpuRR, FpuRRR, FpuRRRR, CsrReg, CsrImm, Fence, AtomicLoad, AtomicStore, Atomic}
 use Rattle.rv_inst.specs.declared.sequence.Computation.{Computation}
 use Rattle.rv_inst.specs.declared.sequence.Computation.TheVariants.{Ones, Zeros, ReversedBytes}
 use Rattle.rv_inst.specs.declared.sequence.Sequence.{Sequence}
@@ -49,7 +56,7 @@ use Rattle.rv_inst.specs.declared.units.Facts.{Facts}
 
 -- its family; the operation that the machine decodes; its registers, in the order of its fields, each with the class that its place asks;
 -- the instruction with other registers, where these are given; whether its rounding mode, and its format, are ones that the operation
--- takes; and the trap that it may take, which is recorded at its word
+-- takes; whether a register that the operation doesn't read is x0; and the trap that it may take, which is recorded at its word
 pub record UnitWord : Type 0 where
   pub family : Family
   pub operation : Decoded
@@ -57,14 +64,15 @@ pub record UnitWord : Type 0 where
   pub with_registers : InstRegs → Inst
   pub rounding : Bool
   pub width : Bool
+  pub aside : Bool
   pub trap : Option TrapCode
 
 abbrev pub place : RegClass → Reg → PlacedReg
 place class reg = record { class = class; reg = reg }
 
--- of floating-point numbers, or of their control register
-abbrev pub float_word : Decoded → List PlacedReg → (InstRegs → Inst) → UnitWord
-float_word d places with = record { family = Float; operation = d; places = places; with_registers = with; rounding = true; width = true; trap = None }
+-- one whose fields are all taken, and which doesn't trap
+abbrev pub word_with : Decoded → List PlacedReg → (InstRegs → Inst) → UnitWord
+word_with d places with = record { family = Float; operation = d; places = places; with_registers = with; rounding = true; width = true; aside = true; trap = None }
 
 -- a number that no integer of the type asked for is near to
 abbrev pub conversion_trap : Bool → Option TrapCode
@@ -120,6 +128,21 @@ stepwise rd = record (only_regs (regs (Some rd) None None None)) { in_steps = tr
 abbrev pub sets : Values → Writable Reg → ℕ → Meaning
 sets v rd n = goes Next (set_reg v (number_of rd.reg) n)
 
+-- it puts bytes at an address and goes on
+abbrev pub puts : Values → ℕ → List ℕ → Meaning
+puts v a bytes = record (goes Next (put_bytes v a bytes)) { writes = addresses_from a (length bytes) }
+
+-- the address in a register
+abbrev pub address_in : Reg → Values → ℕ
+address_in p v = wrap (reg v (number_of p))
+
+-- the load and the store of an integer type; others have none here
+abbrev pub load_for : IrType → LoadOP
+load_for type = unwrap_or (load_of type) Ld
+
+abbrev pub store_for : IrType → StoreOP
+store_for type = unwrap_or (store_of type) Sd
+
 -- it puts a byte 0 at each of these addresses and goes on
 abbrev pub zeroes : Values → List ℕ → Meaning
 zeroes v addresses = record (goes Next (zero_bytes v addresses)) { writes = addresses }
@@ -133,25 +156,27 @@ pub data Description : Type 0 where
   Gives : Given → Description
 
 abbrev pub described : Inst → Option Description
-described (Fli width imm rd) = Some (Word (record (float_word (decoded_fli width (number_of rd.reg) imm.value) (place FloatReg rd.reg ∷ [])
+described (Fli width imm rd) = Some (Word (record (word_with (decoded_fli width (number_of rd.reg) imm.value) (place FloatReg rd.reg ∷ [])
     (λ (r : InstRegs). Fli width imm (unwrap_or r.rd rd))) { width = is_width width }))
-described (FpuRR op width frm rd rs) = Some (Word (record (float_word (decoded_fpu_rr op width frm (number_of rd.reg) (number_of rs)) (place (fpu_rr_files op).result rd.reg ∷ place (fpu_rr_files op).source rs ∷ [])
+described (FpuRR op width frm rd rs) = Some (Word (record (word_with (decoded_fpu_rr op width frm (number_of rd.reg) (number_of rs)) (place (fpu_rr_files op).result rd.reg ∷ place (fpu_rr_files op).source rs ∷ [])
     (λ (r : InstRegs). FpuRR op width frm (unwrap_or r.rd rd) (unwrap_or r.rs1 rs))) {
       rounding = takes_frm (fpu_rr_numbers op).rounding frm;
       width = takes_width (fpu_rr_widths op) width;
       trap = conversion_trap (is_to_integer op);
     }))
-described (FpuRRR op width frm rd rs1 rs2) = Some (Word (record (float_word (decoded_fpu_rrr op width frm (number_of rd.reg) (number_of rs1) (number_of rs2)) (place (fpu_rrr_result op) rd.reg ∷ place FloatReg rs1 ∷ place FloatReg rs2 ∷ [])
+described (FpuRRR op width frm rd rs1 rs2) = Some (Word (record (word_with (decoded_fpu_rrr op width frm (number_of rd.reg) (number_of rs1) (number_of rs2)) (place (fpu_rrr_result op) rd.reg ∷ place FloatReg rs1 ∷ place FloatReg rs2 ∷ [])
     (λ (r : InstRegs). FpuRRR op width frm (unwrap_or r.rd rd) (unwrap_or r.rs1 rs1) (unwrap_or r.rs2 rs2))) {
       rounding = takes_frm (fpu_rrr_numbers op).rounding frm;
       width = is_width width;
     }))
-described (FpuRRRR op width frm rd rs1 rs2 rs3) = Some (Word (record (float_word (decoded_fpu_rrrr op width frm (number_of rd.reg) (number_of rs1) (number_of rs2) (number_of rs3)) (place FloatReg rd.reg ∷ place FloatReg rs1 ∷ place FloatReg rs2 ∷ place FloatReg rs3 ∷ [])
+described (FpuRRRR op width frm rd rs1 rs2 rs3) = Some (Word (record (word_with (decoded_fpu_rrrr op width frm (number_of rd.reg) (number_of rs1) (number_of rs2) (number_of rs3)) (place FloatReg rd.reg ∷ place FloatReg rs1 ∷ place FloatReg rs2 ∷ place FloatReg rs3 ∷ [])
     (λ (r : InstRegs). FpuRRRR op width frm (unwrap_or r.rd rd) (unwrap_or r.rs1 rs1) (unwrap_or r.rs2 rs2) (unwrap_or r.rs3 rs3))) { width = is_width width }))
-described (CsrReg op rd rs csr) = Some (Word (float_word (decoded_csr_reg op (number_of rd.reg) (number_of rs)) (place Int rd.reg ∷ place Int rs ∷ [])
+described (CsrReg op rd rs csr) = Some (Word (word_with (decoded_csr_reg op (number_of rd.reg) (number_of rs)) (place Int rd.reg ∷ place Int rs ∷ [])
     (λ (r : InstRegs). CsrReg op (unwrap_or r.rd rd) (unwrap_or r.rs1 rs) csr)))
-described (CsrImm op rd csr imm) = Some (Word (float_word (decoded_csr_imm op (number_of rd.reg) imm.value) (place Int rd.reg ∷ [])
+described (CsrImm op rd csr imm) = Some (Word (word_with (decoded_csr_imm op (number_of rd.reg) imm.value) (place Int rd.reg ∷ [])
     (λ (r : InstRegs). CsrImm op (unwrap_or r.rd rd) csr imm)))
+described (Atomic op rd addr src amo) = Some (Word (record (word_with (decoded_atomic op amo (number_of rd.reg) (number_of addr) (number_of src)) (place Int rd.reg ∷ place Int addr ∷ place Int src ∷ [])
+    (λ (r : InstRegs). Atomic op (unwrap_or r.rd rd) (unwrap_or r.rs1 addr) (unwrap_or r.rs2 src) amo)) { aside = is_source (atomic_op op) (number_of src) }))
 described Nop0 = None
 described Nop4 = None
 described EBreak = None
@@ -252,6 +277,30 @@ described (LoadExtNameFar rd name offset) = Some (Gives (record {
   code = λ context. words (Exactly (inline_size context.flags 8));
   records = AddressLast name offset;
 }))
+described (Fence pred succ) = Some (Gives (record {
+  family = Memory;
+  facts = record (only_regs (regs None None None None)) { beyond = nat_lt 15 pred || nat_lt 15 succ };
+  with_registers = λ (r : InstRegs). Fence pred succ;
+  meaning = λ env v. goes Next v;
+  code = λ context. one_word (decoded_fence pred succ);
+  records = Nothing;
+}))
+described (AtomicLoad rd type p) = Some (Gives (record {
+  family = Memory;
+  facts = record (only_regs (regs (Some rd) (Some p) None None)) { mistyped = not (is_int_type type) };
+  with_registers = λ (r : InstRegs). AtomicLoad (unwrap_or r.rd rd) type (unwrap_or r.rs1 p);
+  meaning = λ env v. sets v rd (load_result (load_op (load_for type)) v.mem (address_in p v));
+  code = λ context. words (AtMost 12);
+  records = Nothing;
+}))
+described (AtomicStore src type p) = Some (Gives (record {
+  family = Memory;
+  facts = record (only_regs (regs None (Some src) (Some p) None)) { mistyped = not (is_int_type type) };
+  with_registers = λ (r : InstRegs). AtomicStore (unwrap_or r.rs1 src) type (unwrap_or r.rs2 p);
+  meaning = λ env v. puts v (address_in p v) (store_bytes (store_op (store_for type)) (reg v (number_of src)));
+  code = λ context. words (AtMost 8);
+  records = Nothing;
+}))
 described (Call info) = None
 described (CallInd info) = None
 described (ReturnCall info) = None
@@ -292,6 +341,11 @@ registers_in places = map (λ (p : PlacedReg). p.reg) places
 abbrev pub places_in : Option UnitWord → List PlacedReg
 places_in None = []
 places_in (Some w) = w.places
+
+-- whether a register that the operation doesn't read isn't x0
+abbrev pub is_idle_in : Option UnitWord → Bool
+is_idle_in None = false
+is_idle_in (Some w) = not w.aside
 
 abbrev pub trap_in : Option UnitWord → Option TrapCode
 trap_in None = None
@@ -344,7 +398,7 @@ AreOfClass [] = Unit {0}
 AreOfClass (p ∷ places) = (class_of p.reg ≡ p.class) × AreOfClass places
 
 abbrev pub IsFineUnit : UnitWord → Type 0
-IsFineUnit w = AreReal (registers_in w.places) × AreOfClass w.places × (w.rounding ≡ true) × (w.width ≡ true)
+IsFineUnit w = AreReal (registers_in w.places) × AreOfClass w.places × (w.rounding ≡ true) × (w.width ≡ true) × (w.aside ≡ true)
 
 -- ---- what a sequence computes, and of which registers
 

@@ -56,6 +56,11 @@ pub record Meaning : Type 0 where
 abbrev pub goes : Exit → Values → Meaning
 goes exit v = record { effect = v; writes = []; exit = exit }
 
+-- so many addresses, one after the other, from one on
+abbrev pub addresses_from : ℕ → ℕ → List ℕ
+addresses_from a zero = []
+addresses_from a (suc n) = a ∷ addresses_from (wrap (a + 1)) n
+
 -- bytes go to an address
 abbrev pub put_bytes : Values → ℕ → List ℕ → Values
 put_bytes v a bytes = record { regs = v.regs; mem = store v.mem a bytes }

@@ -17,7 +17,7 @@ use Rattle.rv_encode.specs.Operations.{load_op, store_op}
 use Rattle.rv_inst.specs.Addresses.{Location, Based, AtLabel, AtConstant, location_of}
 use Rattle.rv_ops.specs.Memory.{is_float_load, is_float_store, store_size}
 use Rattle.rv_inst.specs.Bits.{computed}
-pub use Rattle.rv_inst.specs.Effects.{constant_of, Environment, Exit, Next, To, Leave, Break, Trap, Data, Meaning, compares, goes, probes_from, probes_of, put_bytes, symbol_at, zero_bytes}
+pub use Rattle.rv_inst.specs.Effects.{addresses_from, constant_of, Environment, Exit, Next, To, Leave, Break, Trap, Data, Meaning, compares, goes, probes_from, probes_of, put_bytes, symbol_at, zero_bytes}
 use Rattle.rv_inst.specs.Operands.{all_of, written_in, Return, inst_temporaries, try_call_of, return_of}
 use Rattle.rv_inst.specs.Returns.{StackLoad, restores, frame_above}
 use Rattle.rv_inst.specs.Descriptions.{Description, UnitWord, Word, Computes, Gives, description_of}
@@ -51,11 +51,6 @@ address_at env v (AtConstant k) = env.constant k.number
 -- the address of a load or a store
 abbrev pub address_of : Environment → AMode → Values → ℕ
 address_of env mode v = address_at env v (location_of env.frame mode)
-
--- so many addresses, one after the other, from one on
-abbrev pub addresses_from : ℕ → ℕ → List ℕ
-addresses_from a zero = []
-addresses_from a (suc n) = a ∷ addresses_from (wrap (a + 1)) n
 
 -- registers, by their numbers, get values, each its own
 abbrev pub set_regs : Values → List ℕ → List ℕ → Values

@@ -266,9 +266,9 @@ sequence_faults s = record (has_other_class (list_any is_other_class (sequence_r
   type = not (is_int_type s.ty);
 }
 
--- of a unit's word: its places ask classes of their own
+-- of a unit's word: its places ask classes of their own, and a place that isn't read asks x0
 abbrev pub unit_faults : UnitWord → Faults
-unit_faults w = record (has_other_class (list_any is_out_of_place w.places)) { rounding = not w.rounding; width = not w.width }
+unit_faults w = record (has_other_class (list_any is_out_of_place w.places || not w.aside)) { rounding = not w.rounding; width = not w.width }
 
 -- of one whose description gives it: its registers are integer ones; a result that is computed in steps isn't x0, nor is a temporary, which
 -- isn't sp either

@@ -9,8 +9,8 @@ use rv_base::{
 };
 use rv_imms::{Imm12, Imm20, UImm5};
 use rv_ops::{
-    AluOPRRI, AluOPRRR, CSR, CsrImmOP, CsrRegOP, FRM, FliConstant, FpuOPRR, FpuOPRRR, FpuOPRRRR,
-    FpuOPWidth, IntegerCompare, LoadOP, StoreOP,
+    AMO, AluOPRRI, AluOPRRR, AtomicOP, CSR, CsrImmOP, CsrRegOP, FRM, FliConstant, FpuOPRR,
+    FpuOPRRR, FpuOPRRRR, FpuOPWidth, IntegerCompare, LoadOP, StoreOP,
 };
 use std::fmt;
 
@@ -365,6 +365,36 @@ pub enum Inst {
         csr: CSR,
         imm: UImm5,
     },
+    /// The accesses before it that are in `pred` come before those after it that are in `succ`: sets of at most four bits, 8 for device
+    /// input, 4 for device output, 2 for reads of memory and 1 for writes ("2.7 Memory Ordering Instructions"). 4 bytes.
+    Fence {
+        pred: u8,
+        succ: u8,
+    },
+    /// `rd` is the integer of the type at the address in `p`, sign-extended to 64 bits, read between a fence of all reads and writes and
+    /// one of reads before all. At most 12 bytes.
+    AtomicLoad {
+        rd: WritableReg,
+        ty: IrType,
+        p: Reg,
+    },
+    /// The low bytes of `src` go to the address in `p`, as many as the integer type has, after a fence of all reads and writes before
+    /// writes. At most 8 bytes.
+    AtomicStore {
+        src: Reg,
+        ty: IrType,
+        p: Reg,
+    },
+    /// `rd` is what a word or a doubleword at the address in `addr` was, which gets the operation of that and of `src`; or it is
+    /// reserved; or `src` is stored there if it still is, and `rd` is 0, or else 1 (the chapter "A"). A load-reserved has x0 as its `src`.
+    /// 4 bytes.
+    Atomic {
+        op: AtomicOP,
+        rd: WritableReg,
+        addr: Reg,
+        src: Reg,
+        amo: AMO,
+    },
 }
 
 /// `Nop0`, which does nothing.
@@ -396,7 +426,8 @@ pub enum Family {
     Symbols,
     /// Those that call a function, or give their own function's place to another.
     Calls,
-    /// Those that compute with floating-point numbers, or read and write their control register.
+    /// Those that are one word of a unit of the machine: they compute with floating-point numbers, read and write their control
+    /// register, or change memory atomically.
     Float,
 }
 
@@ -430,7 +461,10 @@ impl Inst {
             | Inst::Store { .. }
             | Inst::LoadAddr { .. }
             | Inst::LabelAddress { .. }
-            | Inst::StackProbeLoop { .. } => Family::Memory,
+            | Inst::StackProbeLoop { .. }
+            | Inst::Fence { .. }
+            | Inst::AtomicLoad { .. }
+            | Inst::AtomicStore { .. } => Family::Memory,
             Inst::Ret
             | Inst::TrapIf { .. }
             | Inst::Jal { label: _ }
@@ -451,7 +485,8 @@ impl Inst {
             | Inst::FpuRRR { .. }
             | Inst::FpuRRRR { .. }
             | Inst::CsrReg { .. }
-            | Inst::CsrImm { .. } => Family::Float,
+            | Inst::CsrImm { .. }
+            | Inst::Atomic { .. } => Family::Float,
         }
     }
 }

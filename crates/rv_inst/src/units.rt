@@ -9,17 +9,18 @@ ghost use Rattle.rv_inst.specs.Faults.{has_bad_rounding, has_bad_width, is_mispl
 ghost use Rattle.rv_inst.specs.Operands.{family_of, inst_registers};
 ghost use Rattle.rv_inst.specs.RegisterTests.{test_of, place_test};
 ghost use Rattle.rv_inst.specs.Rules.{facts_faults, is_not_of, is_zero};
-ghost use Rattle.rv_inst.specs.Descriptions.{IsFineUnit, UnitWord, all_in, all_replaced, asked_of, conversion_trap, described_regs, facts_of, facts_registers, only_regs, place, places_in, registers_in, regs, result_in, source_in, stepwise, trap_in, unit_word, with_registers};
+ghost use Rattle.rv_inst.specs.Descriptions.{IsFineUnit, UnitWord, all_in, all_replaced, asked_of, conversion_trap, described_regs, facts_of, facts_registers, in_order, is_idle_in, only_regs, place, places_in, registers_in, regs, result_in, source_in, stepwise, trap_in, unit_word, with_registers};
 ghost use Rattle.rv_inst.specs.declared.inst.Family.TheVariants.{Float};
 
 use crate::clashes::{any_is_zero, is_stack, same_class};
 use crate::inst::Inst;
-use crate::ranges::is_word_type;
+use crate::ranges::{is_int_type, is_word_type};
 use crate::registers::{RegisterTest, any_of, holds};
 use crate::targets::Targets;
 use rv_base::{Reg, RegClass, TrapCode, WritableReg};
 use rv_encode::{
-    encode_csr_imm, encode_csr_reg, encode_fli, encode_fp_rr, encode_fp_rrr, encode_fp_rrrr,
+    encode_atomic, encode_csr_imm, encode_csr_reg, encode_fli, encode_fp_rr, encode_fp_rrr,
+    encode_fp_rrrr, number_of,
 };
 use rv_ops::IntegerCompare;
 
@@ -141,6 +142,24 @@ fn any_place_has(test: PlaceTest, inst: &Inst) -> bool
             &[placed(RegClass::Int, rd.reg), placed(RegClass::Int, *rs)],
         ),
         Inst::CsrImm { rd, .. } => any_has(test, &[placed(RegClass::Int, rd.reg)]),
+        Inst::Atomic { rd, addr, src, .. } => any_has(
+            test,
+            &[
+                placed(RegClass::Int, rd.reg),
+                placed(RegClass::Int, *addr),
+                placed(RegClass::Int, *src),
+            ],
+        ),
+        _ => false,
+    }
+}
+
+/// Returns whether the instruction names a register that its operation doesn't read, and which isn't x0: the source of a load-reserved.
+fn has_idle_source(inst: &Inst) -> bool
+    ensures { result ≡ is_idle_in (unit_word inst.now) }
+{
+    match inst {
+        Inst::Atomic { op, src, .. } => op.is_load() && number_of(*src) != 0,
         _ => false,
     }
 }
@@ -152,11 +171,11 @@ pub fn unit_has(test: RegisterTest, inst: &Inst) -> bool
     any_place_has(PlaceTest::Register(test), inst)
 }
 
-/// Returns whether a register of an instruction of a unit has another class than its place asks.
+/// Returns whether a register of an instruction of a unit has another class than its place asks, or isn't x0 where it isn't read.
 pub fn unit_misplaced(inst: &Inst) -> bool
     ensures { family_of inst.now ≡ Float → result ≡ is_misplaced inst.now }
 {
-    any_place_has(PlaceTest::OutOfPlace, inst)
+    any_place_has(PlaceTest::OutOfPlace, inst) || has_idle_source(inst)
 }
 
 /// Returns whether the instruction names a rounding mode that its operation doesn't take.
@@ -338,6 +357,18 @@ impl Inst {
                 jumps: true,
                 ..stepwise(*rd)
             }),
+            Inst::Fence { pred, succ } => Some(Facts {
+                beyond: *pred > 15 || *succ > 15,
+                ..only_regs(regs(None, None, None, None))
+            }),
+            Inst::AtomicLoad { rd, ty, p } => Some(Facts {
+                mistyped: !is_int_type(*ty),
+                ..only_regs(regs(Some(*rd), Some(*p), None, None))
+            }),
+            Inst::AtomicStore { src, ty, p } => Some(Facts {
+                mistyped: !is_int_type(*ty),
+                ..only_regs(regs(None, Some(*src), Some(*p), None))
+            }),
             _ => None,
         }
     }
@@ -397,13 +428,31 @@ impl Inst {
             } => encode_fp_rrrr(*alu_op, *width, *frm, *rd, *rs1, *rs2, *rs3),
             Inst::CsrReg { op, rd, rs, csr } => encode_csr_reg(*op, *rd, *rs, *csr),
             Inst::CsrImm { op, rd, csr, imm } => encode_csr_imm(*op, *rd, *csr, *imm),
+            Inst::Atomic {
+                op,
+                rd,
+                addr,
+                src,
+                amo,
+            } => encode_atomic(*op, *rd, *addr, *src, *amo),
             _ => 0,
         }
     }
 
     /// The registers of an instruction that is described by them; any other has none of these.
+    #[tactic(auto, using(crate::proofs::Descriptions::regs_without_facts))]
     pub fn described_regs(&self) -> InstRegs
         ensures { result ≡ described_regs self.now }
+    {
+        match self.facts() {
+            Some(facts) => facts.regs,
+            None => self.unit_regs(),
+        }
+    }
+
+    /// The registers of an instruction of a unit; any other has none of these.
+    fn unit_regs(&self) -> InstRegs
+        ensures { result ≡ in_order (registers_in (places_in (unit_word self.now))) }
     {
         match self {
             Inst::Fli { rd, .. } => regs(Some(*rd), None, None, None),
@@ -418,10 +467,8 @@ impl Inst {
             } => regs(Some(*rd), Some(*rs1), Some(*rs2), Some(*rs3)),
             Inst::CsrReg { rd, rs, .. } => regs(Some(*rd), Some(*rs), None, None),
             Inst::CsrImm { rd, .. } => regs(Some(*rd), None, None, None),
-            _ => match self.facts() {
-                Some(facts) => facts.regs,
-                None => regs(None, None, None, None),
-            },
+            Inst::Atomic { rd, addr, src, .. } => regs(Some(*rd), Some(*addr), Some(*src), None),
+            _ => regs(None, None, None, None),
         }
     }
 
@@ -495,6 +542,19 @@ impl Inst {
                 csr,
                 imm,
             },
+            Inst::Atomic {
+                op,
+                rd,
+                addr,
+                src,
+                amo,
+            } => Inst::Atomic {
+                op,
+                rd: registers.rd.unwrap_or(rd),
+                addr: registers.rs1.unwrap_or(addr),
+                src: registers.rs2.unwrap_or(src),
+                amo,
+            },
             Inst::Extend {
                 rd,
                 rn,
@@ -542,6 +602,16 @@ impl Inst {
                 rd: registers.rd.unwrap_or(rd),
                 name,
                 offset,
+            },
+            Inst::AtomicLoad { rd, ty, p } => Inst::AtomicLoad {
+                rd: registers.rd.unwrap_or(rd),
+                ty,
+                p: registers.rs1.unwrap_or(p),
+            },
+            Inst::AtomicStore { src, ty, p } => Inst::AtomicStore {
+                src: registers.rs1.unwrap_or(src),
+                ty,
+                p: registers.rs2.unwrap_or(p),
             },
             other => other,
         }
