@@ -6,7 +6,7 @@ use Rattle.rv_runs.proofs.Words.{AMode, Answer, AreOutside, AtStart, EmitVState,
 use Rattle.rv_runs.proofs.Words.{Next, PartsStand, Put, Reg, Resumes, Return, SameFull, Site, StoreOP, TailCall, Writable, addresses_from, and_parts, answers_of, code_limit, context_by, environment, family_of, fiter_after}
 use Rattle.rv_runs.proofs.Words.{format_bytes, inst_effect, inst_exit, inst_meaning, inst_rule, inst_temporaries, inst_writes, integer_run, is_bad_frame_for, is_float, is_integer, is_integer_family, is_integer_in, is_unit, keeps, load_format, location_of, meaning_by}
 use Rattle.rv_runs.{proofs.Words.{move_row, not_true, number_of, of_float_move, of_integers, operands_of, operation_of, operation_row, parts_of, put, restores_float, return_of, row_takes, store_format, tail_call_of, to, try_call_of, try_exit, values_of}, specs.Entries.{AtReturn, Entry}}
-use Rattle.rv_runs.{specs.FullInstRuns.{FullyOut, RunsFully, WritesElsewhere}, specs.FullMeaning.{call_returned, call_started, float_loaded, float_stored, full_left, full_resumed, of_access, of_call, of_choice, of_float_load, of_float_store, of_integer, of_memory, of_unit, with_ints}}
+use Rattle.rv_runs.{specs.FullInstRuns.{FullyOut, RunsFully, WritesElsewhere}, specs.FullMeaning.{call_returned, call_started, float_loaded, float_stored, full_left, full_resumed, of_access, of_call, of_choice, of_float_load, of_float_store, of_integer, of_memory, of_unit, operation_writes, with_ints}}
 use Rattle.std.{proofs.Common.{Bool, List, None, Option, Some, [], ap, arith, false, if◌then◌else◌, inl, inr, is_some, length, not, refl, subst, sym, true, ℕ, ⊎_elim, ◌%◌, ◌&&◌, ◌+◌, ◌<◌, ◌∙◌, ◌≡◌, ◌≤◌}, proofs.lemmas.Bool.not-false}
 use Rattle.rv_inst.specs.declared.inst.Inst.TheVariants.{Call, CallInd, Load, Mov, Nop0, ReturnCall, ReturnCallInd, Select, Store}
 
@@ -98,7 +98,7 @@ module _ {e f : Environment} (v : FullValues) where
   call_same AtReturn inst a = record { takes = λ answers. (λ i. Some (call_returned (return_of (a.flags i) inst) v, answers)); writes = λ answers. refl; own = refl }
 
   unit_same : (entry : Entry) (inst : Inst) → AgreeOn (named_labels (Put inst)) e f → MeansSame (of_unit entry inst) e f v
-  unit_same AtStart inst a = record { takes = λ answers. ap (λ o. row_takes (operation_row o v) answers) (operation_same inst a); writes = λ answers. refl; own = ap (λ o. answers_of (operation_row o v)) (operation_same inst a) }
+  unit_same AtStart inst a = record { takes = λ answers. ap (λ o. row_takes (operation_row o v) answers) (operation_same inst a); writes = λ answers. ap (λ o. operation_writes o v answers) (operation_same inst a); own = ap (λ o. answers_of (operation_row o v)) (operation_same inst a) }
   unit_same AtReturn inst a = record { takes = λ answers. refl; writes = λ answers. refl; own = refl }
 
   by_family : (family : Family) (entry : Entry) (inst : Inst) → AgreeOn (named_labels (Put inst)) e f → MeansSame (meaning_by family entry inst) e f v
@@ -204,7 +204,7 @@ module _ (site : Site) (start after : ℕ) (v : FullValues) (b : FullState) (set
   floating : (inst : Inst) → Begins inst → is_integer_family (family_of inst) ≡ true → is_integer inst ≡ false → Comes inst
   floating (Load rd op flags from) h family other = let f = format_in (load_format op) other in inl (load_out rd op flags from f.0 f.1 h)
   floating (Store src op flags to) h family other = let f = format_in (store_format op) other in inl (store_out to op flags src f.0 f.1 h)
-  floating (Mov rd rm type) h family other = move_runs setting rd rm type h.enters same full (not-false (is_float rd.reg) other)
+  floating (Mov rd rm type) h family other = move_runs setting rd rm type h.enters same full (not-false (is_float rd.reg) other) h.clear
   floating (Select info) h family other = inl (exact (Select info) (of_choice info) (ap (λ c. if c then of_choice info else of_integers AtStart (Put (Select info))) (not-false _ other)) (full_select setting info (keeps site.context (Select info) h.rule) h.enters same.units full) refl refl)
   floating (Call info) h family other = inl (call_out (Call info) _ refl h)
   floating (CallInd info) h family other = inl (call_out (CallInd info) _ refl h)
@@ -215,7 +215,7 @@ module _ (site : Site) (start after : ℕ) (v : FullValues) (b : FullState) (set
   begun inst h true restores family core e f = inl (integers_out inst h core)
   begun inst h false true family other e f = (elim (tail_call_of inst) as (λ o. tail_call_of inst ≡ o → restores_float site.context.frame o ≡ true → Comes inst) [ None ↦ λ is some. absurd (cc) | Some tail ↦ λ is some. inl (tail_out inst tail is h) ]) refl e
   begun inst h false false true other e f = floating inst h f (subst (λ c. (not c && is_integer inst) ≡ false) e other)
-  begun inst h false false false other e f = unit_runs setting inst (is_unit inst f) h.rule h.enters same full
+  begun inst h false false false other e f = unit_runs setting inst (is_unit inst f) h.rule h.enters same full h.clear
 
 pub inst_full_runs : {site : Site} {start after : ℕ} {v : FullValues} {b : FullState} (setting : EmitVState) (inst : Inst) → inst_rule site.context inst ≡ None → is_bad_frame_for site.context.frame (tail_call_of inst) ≡ false → Enters site start after (parts_of site.context setting inst) b.state v.ints → SameFull v (values_of b) → IsFullState b → WritesElsewhere site.base (length site.bytes) (inst_meaning AtStart inst) (environment site start after) v b.answers → ComesAsMeant site start after inst v b
 inst_full_runs {site} {start} {after} {v} {b} setting inst rule restores e same full clear = begun site start after v b setting same full inst (record { rule = rule; restores = restores; enters = e; clear = clear }) _ _ _ refl refl refl

@@ -1,9 +1,9 @@
 -- Every instruction of the integer core that breaks no rule runs as it means.
 use Rattle.{rv_base.specs.IrType.bits_of, rv_code.{proofs.OperationActs.{short_ebreak_is, ebreak_sized}, proofs.LineOperands.{load_addr_kept, load_kept, store_kept}, specs.Evaluation.literal_value, specs.InstParts.{literal_of, trap_slots}, specs.InstRuns.{environment, RunsIn}}}
-use Rattle.rv_code.{specs.Pieces.{NameAddress, OfLabel, OfSymbol, Word32, Word64}, specs.Slots.{AddressOf, SlotOf}, proofs.Operands.{all_integers, are_usable, is_count, is_scratch, is_reversal, is_table, move_usable, not_zero, or_left, preg_usable, reversal_of, some_in_64}, proofs.Registers.count_of}
+use Rattle.rv_code.{specs.Pieces.{NameAddress, OfLabel, OfSymbol, Word32, Word64}, specs.Slots.{AddressOf, SlotOf}, proofs.Operands.{all_integers, not_false, are_usable, is_count, is_scratch, is_reversal, is_table, move_usable, not_zero, or_left, preg_usable, reversal_of, some_in_64}, proofs.Registers.count_of}
 use Rattle.rv_inst.{specs.Descriptions.{counts, sequence_registers}, specs.Meaning.{Environment, constant_of}, specs.declared.sequence.Computation.TheVariants.{Ones, Zeros}, specs.Forms.short_ebreak, specs.Rules.is_zero}
-use Rattle.rv_inst.specs.declared.inst.Inst.TheVariants.{Args, BrTable, Brev8, Cltz, DummyUse, EmitIsland, Jal, LabelAddress, LoadExtNameNear, Popcnt, RawData, Rets, SequencePoint, StackProbeLoop, TrapIf, Udf, Unwind, AluRRImm12, AluRRR, Auipc, Call, CallInd, CondBr, EBreak, Extend, Jalr, Load, LoadAddr, LoadExtNameFar}
-use Rattle.{rv_inst.specs.declared.inst.Inst.TheVariants.{LoadExtNameGot, LoadInlineConst, Lui, Mov, MovFromPReg, Nop0, Nop4, Ret, ReturnCall, ReturnCallInd, Select, Store}, rv_machine.specs.Arithmetic.extend_word, rv_runs.{proofs.ProbeRuns.probe_out, proofs.ReverseRuns.reverse_out}}
+use Rattle.rv_inst.specs.declared.inst.Inst.TheVariants.{Args, AtomicLoad, AtomicStore, Fence, BrTable, Brev8, Cltz, DummyUse, EmitIsland, Jal, LabelAddress, LoadExtNameNear, Popcnt, RawData, Rets, SequencePoint, StackProbeLoop, TrapIf, Udf, Unwind, AluRRImm12, AluRRR, Auipc, Call, CallInd, CondBr, EBreak, Extend, Jalr, Load, LoadAddr, LoadExtNameFar}
+use Rattle.{rv_inst.specs.declared.inst.Inst.TheVariants.{LoadExtNameGot, LoadInlineConst, Lui, Mov, MovFromPReg, Nop0, Nop4, Ret, ReturnCall, ReturnCallInd, Select, Store}, rv_machine.specs.Arithmetic.extend_word, rv_inst.specs.Classes.is_int_type, rv_runs.{proofs.FenceRuns.{atomic_load_out, atomic_store_out, fence_out}, proofs.ProbeRuns.probe_out, proofs.ReverseRuns.reverse_out}}
 use Rattle.rv_runs.{proofs.SelectRuns.{extend_out, select_runs}, proofs.TableRuns.table_out, proofs.CallRuns.{call_ind_out, call_out, return_call_ind_runs, return_call_runs}}
 use Rattle.rv_runs.proofs.Words.{ComesOut, IrType, Next, set_reg, wrap, EmitVState, FrameLayout, GapIn, Inst, Keeps, Label, Op, Site, State, Values, and_parts, call_usable, compares, decoded_addi, goes_none, inst_rule, is_bad_frame_for, is_float_load, is_float_store, is_integer, is_integer_in, jump_to}
 use Rattle.rv_runs.{proofs.Words.{keeps, location_of, low_word, not_true, number_of, reg, restores, restores_float, signed, tail_call_of, target_fine, to, window_some}, proofs.CountRuns.{popcnt_out, zeros_out}, proofs.Exits.{RunsHere, break_out, comes_out, gap_out, starts_at, starts_beside, trap_out, trap_some}}
@@ -62,6 +62,9 @@ module _ (site : Site) (setting : EmitVState) (start after : ℕ) (s : State) (v
   kept_out (ReturnCall info) core k r e clear = return_call_runs site setting start after s v info (none_restored site.context.frame (ReturnCall info) core) r e clear
   kept_out (ReturnCallInd info) core k r e clear = return_call_ind_runs site setting start after s v info (target_fine info k).1 (none_restored site.context.frame (ReturnCallInd info) core) r e clear
   kept_out (Unwind inst) core k r e clear = nothing_out (let ends = e.stands.2 in omega arith) e
+  kept_out (Fence pred succ) core k r e clear = fence_out pred succ e
+  kept_out (AtomicLoad rd type p) core k r e clear = let all = are_usable (rd.reg ∷ p ∷ []) k.real k.placed k.free in atomic_load_out type (number_of rd.reg) (number_of p) (not_false (is_int_type type) k.typed) all.0.1 all.1.0.1 e
+  kept_out (AtomicStore src type p) core k r e clear = let all = are_usable (src ∷ p ∷ []) k.real k.placed k.free in atomic_store_out type (number_of src) (number_of p) (not_false (is_int_type type) k.typed) all.0.1 all.1.0.1 e clear
   kept_out inst core k r e clear = absurd (cc)
 
 -- where a frame that it takes away can be restored

@@ -1,6 +1,8 @@
+pub mod AtomicRows
 pub mod CallRuns
 pub mod CountRuns
 pub mod Exits
+pub mod FenceRuns
 pub mod FloatMemory
 pub mod FullCallRuns
 pub mod FullChoices

@@ -1,14 +1,14 @@
 -- Instructions that become one operation, on either machine.
-use Rattle.rv_code.{proofs.LineSlots.access_is, proofs.Operands.are_usable_in, proofs.OperationActs.{Does, short_ebreak_is, short_jalr_does, short_load_does, short_lui_does, short_rri_does, short_rrr_does, short_store_does}, specs.Accesses.access_pieces, specs.Pieces.Action}
-use Rattle.rv_inst.{proofs.Descriptions.IsUnit, specs.Rules.Faults, specs.Sizes.{address_operation, load_operation, move_op, move_operation, store_operation}, specs.declared.inst.Inst.TheVariants.{AluRRImm12, AluRRR, Auipc, EBreak, Extend, Jalr, Load, LoadAddr, Lui, Mov, MovFromPReg, Nop4, Ret, Store}}
+use Rattle.rv_code.{proofs.LineSlots.access_is, proofs.Operands.{are_usable_in, or_left}, proofs.OperationActs.{Does, short_ebreak_is, short_jalr_does, short_load_does, short_lui_does, short_rri_does, short_rrr_does, short_store_does}, specs.Accesses.access_pieces, specs.Pieces.Action, specs.UnitWrites.unit_writes}
+use Rattle.rv_inst.{proofs.Descriptions.IsUnit, specs.Rules.{Faults, is_out_of_place}, specs.Meaning.AreOutside, specs.Sizes.{address_operation, load_operation, move_op, move_operation, store_operation}, specs.declared.inst.Inst.TheVariants.{Fence, AluRRImm12, AluRRR, Auipc, EBreak, Extend, Jalr, Load, LoadAddr, Lui, Mov, MovFromPReg, Nop4, Ret, Store}}
 use Rattle.{rv_machine.{proofs.States.zero_state, proofs.UnitOperations.acts_integer, specs.Decode.{decode, int_decode}, specs.Steps.zero_at}, rv_ops.{specs.FloatFields.width_of, specs.declared.float_fields.FpuOPWidth.TheVariants.D}, rv_runs.proofs.Exits.{comes_out, same_but}}
 use Rattle.rv_runs.{proofs.FullCallRuns.ends_at_once, proofs.PlainRuns.nothing_out, proofs.UnitRuns.{fiter_one, parts_are, row_comes, shape_agrees, unit_next_at, unit_operation}}
 use Rattle.rv_runs.proofs.Words.{Addi, Andi, Answer, AreUsableIn, AtStart, Based, CodeHas, Context, Decoded, Do, EmitVState, EndsAsMeant, Enters, Environment, Exit, Float, FullComesOut, FullEnds, FullMeaning, FullState, FullValues, Inst, IrType, IsAt, IsFullState, IsIntegerLoad, IsIntegerStore}
 use Rattle.rv_runs.proofs.Words.{IsPlacedAt, IsaFlags, LoadOP, Location, Memory, Next, Op, Part, PartsStand, Piece, Put, Reg, RegClass, Row, RowAsks, RowGoes, RowsAgree, Rri, SameFull, Sign, Site, State, StoreOP, TrapCode, Writable, access_slots, act, address_slots, answers_of, class_of, context_by}
 use Rattle.rv_runs.proofs.Words.{environment, family_of, fetch, fiter_none, format_of, full_at, goes_none, has_load, has_store, inst_exit, inst_meaning, inst_rule, inst_temporaries, integer_decodes, is_byte, is_float, is_float_class, is_float_load, is_float_store, is_integer, is_integer_family}
 use Rattle.rv_runs.proofs.Words.{is_integer_op, is_near, is_reserved, is_unit, is_virtual, keeps, list_any, load_slots, location_of, meaning_by, move_action, move_pieces, move_row, not_true, number_below, number_of, of_float_move, of_integers, op_of, operands_of, operation_of, operation_row, parts_of}
-use Rattle.rv_runs.{proofs.Words.{row_takes, same_Some, slots_alone, slots_of, store_slots, unit_row, values_of, wrap}, specs.FullInstRuns.FullyAsks}
-use Rattle.std.proofs.Common.{Bool, List, None, Option, Some, [], ap, arith, false, if◌then◌else◌, inl, inr, lit<, nat_eq, not, pos, refl, rules, subst, sym, true, unwrap_or, ℕ, ⊎_elim, ◌&&◌, ◌*◌, ◌++◌, ◌+◌, ◌<◌, ◌∙◌, ◌∷◌, ◌≡◌, ◌⊎◌}
+use Rattle.rv_runs.{proofs.Words.{row_takes, same_Some, slots_alone, slots_of, store_slots, unit_row, values_of, wrap}, specs.FullInstRuns.{FullyAsks, WritesElsewhere}, specs.FullMeaning.operation_writes}
+use Rattle.std.proofs.Common.{Bool, List, None, Option, Some, [], ap, arith, false, if◌then◌else◌, inl, inr, length, lit<, nat_eq, not, pos, refl, rules, subst, sym, true, unwrap_or, ℕ, ⊎_elim, ◌&&◌, ◌*◌, ◌++◌, ◌+◌, ◌<◌, ◌∙◌, ◌∷◌, ◌≡◌, ◌⊎◌}
 use Rattle.rv_code.specs.Pieces as piece
 
 -- An instruction of one machine word becomes one operation, which is read where it starts.
@@ -63,6 +63,7 @@ of_integer_family context setting Nop4 d family e = alone _ refl e
 of_integer_family context setting EBreak d family e = alone _ (ap is_integer_op (short_ebreak_is context.flags)) e
 of_integer_family context setting (Lui rd imm) d family e = alone _ (does_integer (short_lui_does context.flags (number_of rd.reg) imm.value)) e
 of_integer_family context setting (Auipc rd imm) d family e = alone _ refl e
+of_integer_family context setting (Fence pred succ) d family e = alone _ refl e
 of_integer_family context setting (AluRRR op rd rs1 rs2) d family e = alone _ (does_integer (short_rrr_does context.flags op (number_of rd.reg) (number_of rs1) (number_of rs2))) e
 of_integer_family context setting (AluRRImm12 op rd rs imm) d family e = alone _ (does_integer (short_rri_does context.flags op (number_of rd.reg) (number_of rs) imm.value)) e
 of_integer_family context setting (Mov rd rm type) d family e = moves context.flags (class_of rd.reg) type (number_of rd.reg) (number_of rm) e
@@ -130,18 +131,20 @@ out_at_end {site} {after} {made} {took} {b} start inst v g exit takes = record {
 
 -- ---- rows
 
--- an instruction that means what a row does
-abbrev of_row : (Environment → FullValues → Row) → FullMeaning
-of_row row = record { takes = λ env v answers. row_takes (row env v) answers; writes = λ env v answers. []; own_answers = λ env v. answers_of (row env v); own_of = λ took. took; asks_once = true }
+-- an instruction that means what an operation's row does
+abbrev of_row : (Environment → FullValues → Row) → (Environment → FullValues → List Answer → List ℕ) → FullMeaning
+of_row row writes = record { takes = λ env v answers. row_takes (row env v) answers; writes = writes; own_answers = λ env v. answers_of (row env v); own_of = λ took. took; asks_once = true }
 
--- The operation is all of the instruction's code, none of integers, and its rows agree; the instruction means its row, and goes on.
+-- The operation is all of the instruction's code, none of integers, and its rows agree; the instruction means its row, writes what that
+-- writes, which is elsewhere, and goes on.
 record IsRow (site : Site) (start after : ℕ) (inst : Inst) (d : Decoded) (v : FullValues) (b : FullState) : Type 0 where
   has : CodeHas site start (d ∷ [])
   long : d.len ≡ 4
   ends : start + 4 ≡ after
   none : act d b.state ≡ None
-  agree : RowsAgree (values_of b) (unit_row d v) (unit_row d (values_of b))
-  means : inst_meaning AtStart inst ≡ of_row (λ env v. unit_row d v)
+  agree : RowsAgree (unit_writes d v) (values_of b) (unit_row d v) (unit_row d (values_of b))
+  means : inst_meaning AtStart inst ≡ of_row (λ env v. unit_row d v) (λ env v. unit_writes d v)
+  clear : WritesElsewhere site.base (length site.bytes) (inst_meaning AtStart inst) (environment site start after) v b.answers
   temporaries : inst_temporaries inst ≡ []
   exit : inst_exit (environment site start after) inst v.ints ≡ Next
 
@@ -155,7 +158,9 @@ module _ {site : Site} {start after : ℕ} {parts : List Part} (inst : Inst) {v 
       let is_at : IsAt site start 4 b.state = record { even = e.even; room = let w = e.within in let ends = h.ends in omega arith; placed = e.placed; pc = e.pc } in
       let next = unit_next_at b d [] h.none is_at (lit< tt) h.has in
       ⊎_elim
-      (λ (g : RowGoes (pc_after d b) (values_of b) (unit_row d v) (unit_row d (values_of b)) b.answers). inl (out_at_end start inst v (subst (λ free. FullComesOut site after free g.made g.took b) (sym h.temporaries) (record {
+      (λ (g : RowGoes (unit_writes d v) (pc_after d b) (values_of b) (unit_row d v) (unit_row d (values_of b)) b.answers).
+      let takes = subst (λ (m : FullMeaning). m.takes (environment site start after) v (m.own_of g.took) ≡ Some (g.made, [])) (sym h.means) g.takes in
+      inl (out_at_end start inst v (subst (λ free. FullComesOut site after free g.made g.took b) (sym h.temporaries) (record {
         steps = 1;
         state = full_at (pc_after d b) g.after g.left;
         ran = fiter_one site.context.flags b (full_at (pc_after d b) g.after g.left) (next ∙ g.next);
@@ -165,8 +170,8 @@ module _ {site : Site} {start after : ℕ} {parts : List Part} (inst : Inst) {v 
         is_state = record { state = record { pc = omega arith; values = g.agree.is_values }; units = g.agree.units; answers = g.fit };
         answers = g.parted;
         setting = g.agree.setting;
-        placed = subst (IsPlacedAt site) (sym g.agree.mem) e.placed;
-      })) h.exit (subst (λ (m : FullMeaning). m.takes (environment site start after) v (m.own_of g.took) ≡ Some (g.made, [])) (sym h.means) g.takes)))
+        placed = g.agree.placed site (subst (λ (m : FullMeaning). AreOutside site.base (length site.bytes) (m.writes (environment site start after) v (m.own_of g.took))) h.means (h.clear g.took g.left g.made g.parted takes)) e.placed;
+      })) h.exit takes))
       (λ (a : RowAsks (pc_after d b) (unit_row d v) (unit_row d (values_of b)) b.answers). inr (record {
         steps = 0;
         state = b;
@@ -177,31 +182,34 @@ module _ {site : Site} {start after : ℕ} {parts : List Part} (inst : Inst) {v 
         lacks = subst (λ (m : FullMeaning). m.takes (environment site start after) v (m.own_of b.answers) ≡ None) (sym h.means) a.lacks;
         few = subst (λ (m : FullMeaning). 0 < 2 * m.own_answers (environment site start after) v) (sym h.means) (subst (λ (r : Row). 0 < 2 * answers_of r) (sym a.takes) (lit< tt));
       }))
-      (row_comes (pc_after d b) (values_of b) (unit_row d v) (unit_row d (values_of b)) b.answers h.agree full.answers)
+      (row_comes (unit_writes d v) (pc_after d b) (values_of b) (unit_row d v) (unit_row d (values_of b)) b.answers h.agree full.answers)
 
 -- ---- words of units
 
-pub unit_runs : {site : Site} {start after : ℕ} {v : FullValues} {b : FullState} (setting : EmitVState) (inst : Inst) → IsUnit inst → inst_rule site.context inst ≡ None → Enters site start after (parts_of site.context setting inst) b.state v.ints → SameFull v (values_of b) → IsFullState b → ComesAsMeant site start after inst v b
-unit_runs {site} {start} {after} {v} {b} setting inst u rule e same full =
+pub unit_runs : {site : Site} {start after : ℕ} {v : FullValues} {b : FullState} (setting : EmitVState) (inst : Inst) → IsUnit inst → inst_rule site.context inst ≡ None → Enters site start after (parts_of site.context setting inst) b.state v.ints → SameFull v (values_of b) → IsFullState b →
+    WritesElsewhere site.base (length site.bytes) (inst_meaning AtStart inst) (environment site start after) v b.answers → ComesAsMeant site start after inst v b
+unit_runs {site} {start} {after} {v} {b} setting inst u rule e same full clear =
     let operation = unit_operation inst u.word u.is in
     let parts = subst (PartsStand site start after) (parts_are site.context setting inst u.word u.is) e.stands in
     let k = keeps site.context inst rule in
-    let usable : AreUsableIn u.word.places = are_usable_in u.word.places (subst (λ rs. list_any is_virtual rs ≡ false) u.registers k.real) (subst (λ (f : Faults). f.class ≡ false) u.faults k.placed) (subst (λ rs. list_any is_reserved rs ≡ false) u.registers k.free) in
+    let usable : AreUsableIn u.word.places = are_usable_in u.word.places (subst (λ rs. list_any is_virtual rs ≡ false) u.registers k.real) (or_left (list_any is_out_of_place u.word.places) _ (subst (λ (f : Faults). f.class ≡ false) u.faults k.placed)) (subst (λ rs. list_any is_reserved rs ≡ false) u.registers k.free) in
     row_runs inst e full u.word.operation (record {
       has = stands_alone site start u.word.operation u.word.trap after parts;
       long = operation.long;
       ends = (let long = operation.long in elim u.word.trap as (λ trap. PartsStand site start after (slots_alone (access_slots trap ++ Op u.word.operation ∷ [])) → start + 4 ≡ after) [ None ↦ λ p. let e = p.2 in omega arith | Some code ↦ λ p. let e = p.2 in omega arith ]) parts;
       none = operation.none b.state;
       agree = operation.agrees v (values_of b) same e.are_values full.state.values full.units usable;
-      means = ap (λ f. meaning_by f AtStart inst) u.family ∙ (λ k. of_row (λ env v. operation_row (u.code (context_by env.flags env.frame []) k).operation v));
+      means = ap (λ f. meaning_by f AtStart inst) u.family ∙ (λ k. of_row (λ env v. operation_row (u.code (context_by env.flags env.frame []) k).operation v) (λ env v. operation_writes (u.code (context_by env.flags env.frame []) k).operation v));
+      clear = clear;
       temporaries = u.temporaries;
       exit = u.exit (environment site start after) v.ints;
     })
 
 -- ---- moves of a floating-point register
 
-pub move_runs : {site : Site} {start after : ℕ} {v : FullValues} {b : FullState} (setting : EmitVState) (rd : Writable Reg) (rm : Reg) (type : IrType) → Enters site start after (parts_of site.context setting (Mov rd rm type)) b.state v.ints → SameFull v (values_of b) → IsFullState b → is_float rd.reg ≡ true → ComesAsMeant site start after (Mov rd rm type) v b
-move_runs {site} {start} {after} {v} {b} setting rd rm type e same full float =
+pub move_runs : {site : Site} {start after : ℕ} {v : FullValues} {b : FullState} (setting : EmitVState) (rd : Writable Reg) (rm : Reg) (type : IrType) → Enters site start after (parts_of site.context setting (Mov rd rm type)) b.state v.ints → SameFull v (values_of b) → IsFullState b → is_float rd.reg ≡ true →
+    WritesElsewhere site.base (length site.bytes) (inst_meaning AtStart (Mov rd rm type)) (environment site start after) v b.answers → ComesAsMeant site start after (Mov rd rm type) v b
+move_runs {site} {start} {after} {v} {b} setting rd rm type e same full float clear =
     let inst = Mov rd rm type in
     let to = number_of rd.reg in
     let from = number_of rm in
@@ -221,7 +229,8 @@ move_runs {site} {start} {after} {v} {b} setting rd rm type e same full float =
         ends = let ends = p.2 in omega arith;
         none = refl;
         agree = shape_agrees d v (values_of b) same e.are_values full.state.values full.units Sign (format_of (unwrap_or (width_of type) D)) (number_below rd.reg);
-        means = means ∙ (λ k. of_row (λ env v. move_row (if test k then None else Some (move_op env.flags (class k) type to from)) v));
+        means = means ∙ (λ k. of_row (λ env v. move_row (if test k then None else Some (move_op env.flags (class k) type to from)) v) (λ env v answers. []));
+        clear = clear;
         temporaries = refl;
         exit = refl;
       })

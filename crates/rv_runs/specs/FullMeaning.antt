@@ -26,6 +26,7 @@ use Rattle.rv_full.specs.Floats.{format_bytes}
 use Rattle.rv_full.specs.Rows.{Row, Absent, Does, Takes, row_takes}
 use Rattle.rv_full.specs.UnitRows.{unit_row}
 use Rattle.rv_full.specs.Units.{FullValues}
+use Rattle.rv_code.specs.UnitWrites.{unit_writes}
 pub use Rattle.rv_runs.specs.FloatAccesses.{float_loaded, float_stored}
 pub use Rattle.rv_code.specs.FullValues.{SameFull, SameFullBut, chosen}
 pub use Rattle.rv_runs.specs.FullReturns.{full_left, full_resumed, with_ints}
@@ -72,11 +73,20 @@ abbrev pub row_from : Entry → Environment → Inst → FullValues → Row
 row_from AtStart env inst v = operation_row (operation_of (context_by env.flags env.frame []) inst) v
 row_from AtReturn env inst v = Absent
 
--- one operation of a unit, which writes no memory
+-- and what it writes
+abbrev pub operation_writes : Option Decoded → FullValues → List Answer → List ℕ
+operation_writes None v answers = []
+operation_writes (Some d) v answers = unit_writes d v answers
+
+abbrev pub unit_writes_from : Entry → Environment → Inst → FullValues → List Answer → List ℕ
+unit_writes_from AtStart env inst v answers = operation_writes (operation_of (context_by env.flags env.frame []) inst) v answers
+unit_writes_from AtReturn env inst v answers = []
+
+-- one operation of a unit
 abbrev pub of_unit : Entry → Inst → FullMeaning
 of_unit entry inst = record {
   takes = λ env v answers. row_takes (row_from entry env inst v) answers;
-  writes = λ env v answers. [];
+  writes = λ env v answers. unit_writes_from entry env inst v answers;
   own_answers = λ env v. answers_of (row_from entry env inst v);
   own_of = λ took. took;
   asks_once = true;
