@@ -30,10 +30,10 @@ use rv_imms::Imm12;
 use rv_inst::{Family, Inst, LabelUse};
 use rv_ops::AluOPRRI;
 use rv_sequences::{
-    put_address, put_branch, put_bytes, put_computation, put_constant, put_ebreak, put_extend,
-    put_jalr, put_jump, put_label_address, put_load_line, put_lui, put_move, put_probe_loop,
-    put_rri, put_rrr, put_select, put_store_line, put_trap, put_trap_if, put_word,
-    resolved_address,
+    put_address, put_atomic_load, put_atomic_store, put_branch, put_bytes, put_computation,
+    put_constant, put_ebreak, put_extend, put_fence, put_jalr, put_jump, put_label_address,
+    put_load_line, put_lui, put_move, put_probe_loop, put_rri, put_rrr, put_select, put_store_line,
+    put_trap, put_trap_if, put_word, resolved_address,
 };
 
 /// Puts the sequence of an instruction that breaks no rule in its context, with the map given to it.
@@ -226,6 +226,9 @@ fn put_memory(
             probe_count,
             tmp,
         } => put_probe_loop(sink, flags, *guard_size, *probe_count, *tmp),
+        Inst::Fence { pred, succ } => put_fence(sink, flags, *pred, *succ),
+        Inst::AtomicLoad { rd, ty, p } => put_atomic_load(sink, flags, *rd, *ty, *p),
+        Inst::AtomicStore { src, ty, p } => put_atomic_store(sink, flags, *src, *ty, *p),
         _ => Ok(()),
     }
 }

@@ -124,6 +124,8 @@ same_labels {flags} {all} {left} {start} {now} {next_shape} {own} {next} x k lab
 goes_on : {flags : IsaFlags} {all left : List CodePiece} {start now next_shape : Shape LabelUse} {own next : OwnLabels} (x : CodePiece) → start.allocated < inner_count → Putting flags all start (x ∷ left) own now → IsNext own next x now next_shape → Puts flags start.allocated (slots_of flags (shown x)) now next_shape → Putting flags all start left next next_shape
 goes_on (code.Rrr op rd rs1 rs2) few k same put = same_labels (code.Rrr op rd rs1 rs2) k k.labelled tt same put
 goes_on (code.Rri op rd rs imm) few k same put = same_labels (code.Rri op rd rs imm) k k.labelled tt same put
+goes_on (code.Fence pred succ) few k same put = same_labels (code.Fence pred succ) k k.labelled tt same put
+goes_on (code.Load op rd base offset) few k same put = same_labels (code.Load op rd base offset) k k.labelled tt same put
 goes_on (code.Store op base src offset) few k same put = same_labels (code.Store op base src offset) k k.labelled tt same put
 goes_on {flags} (code.Number rd value) few k same put = same_labels (code.Number rd value) k k.labelled (number_plain flags (number_of rd.reg) (cast_signed w64 value)) same put
 goes_on {flags} (code.Move rd rs) few k same put = same_labels (code.Move rd rs) k k.labelled (move_plain flags (nat_eq (number_of rd.reg) (number_of rs)) _) same put

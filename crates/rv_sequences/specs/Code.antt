@@ -1,5 +1,5 @@
 -- The code of an instruction as a value: the pieces that it is, and what these ask of the buffer into which they are put.
-use Rattle.std.specs.Prelude.{◌≡◌, ℕ, ◌+◌, ◌<◌, false, List, [], ◌∷◌, ◌++◌, None}
+use Rattle.std.specs.Prelude.{◌≡◌, ℕ, ◌+◌, ◌<◌, ◌^◌, false, List, [], ◌∷◌, ◌++◌, None}
 use Rattle.std.specs.Int.{cast_signed, w64}
 use Rattle.rv_base.specs.Regs.{class_of, number_of}
 use Rattle.mach_labels.specs.Table.{first_inner}
@@ -13,13 +13,15 @@ use Rattle.rv_sequences.specs.declared.code.OwnLabels.{OwnLabels}
 use Rattle.rv_sequences.specs.declared.code.CodePiece.TheVariants as code
 use Rattle.rv_code.specs.Choices.{move_pieces}
 use Rattle.rv_code.specs.Usable.{IsMove}
-use Rattle.rv_ops.specs.Memory.{is_float_store}
-use Rattle.rv_code.specs.Pieces.{Piece, Rrr, Rri, Store, Do, Branch, Jump, New, Bind, Trap, number_pieces}
+use Rattle.rv_ops.specs.Memory.{is_float_load, is_float_store}
+use Rattle.rv_code.specs.Pieces.{Piece, Rrr, Rri, Fence, Load, Store, Do, Branch, Jump, New, Bind, Trap, number_pieces}
 
 -- the pieces that it is: one, but of a move of a register to itself none, and of a number those that make it
 abbrev pub shown : CodePiece → List Piece
 shown (code.Rrr op rd rs1 rs2) = Do (Rrr op (number_of rd.reg) (number_of rs1) (number_of rs2)) ∷ []
 shown (code.Rri op rd rs imm) = Do (Rri op (number_of rd.reg) (number_of rs) imm.value) ∷ []
+shown (code.Fence pred succ) = Do (Fence pred succ) ∷ []
+shown (code.Load op rd base offset) = Do (Load op (number_of rd.reg) (number_of base) offset.value) ∷ []
 shown (code.Store op base src offset) = Do (Store op (number_of base) (number_of src) offset.value) ∷ []
 shown (code.Number rd value) = number_pieces (number_of rd.reg) (cast_signed w64 value)
 shown (code.Move rd rs) = move_pieces (class_of rd.reg) (canonical_type (class_of rd.reg)) (number_of rd.reg) (number_of rs)
@@ -37,6 +39,8 @@ pieces_of (p ∷ ps) = shown p ++ pieces_of ps
 abbrev pub most_of : CodePiece → ℕ
 most_of (code.Rrr op rd rs1 rs2) = 4
 most_of (code.Rri op rd rs imm) = 4
+most_of (code.Fence pred succ) = 4
+most_of (code.Load op rd base offset) = 4
 most_of (code.Store op base src offset) = 4
 most_of (code.Number rd value) = 20
 most_of (code.Move rd rs) = 4
@@ -50,10 +54,12 @@ abbrev pub code_most : List CodePiece → ℕ
 code_most [] = 0
 code_most (p ∷ ps) = most_of p + code_most ps
 
--- integer registers, a store of integers, and two registers of one class in a move
+-- integer registers, a load or a store of integers, sets of four bits in a fence, and two registers of one class in a move
 abbrev pub IsSound : CodePiece → Type 0
 IsSound (code.Rrr op rd rs1 rs2) = IsIntRegister rd.reg × IsIntRegister rs1 × IsIntRegister rs2
 IsSound (code.Rri op rd rs imm) = IsIntRegister rd.reg × IsIntRegister rs
+IsSound (code.Fence pred succ) = (pred < 2 ^ 4) × (succ < 2 ^ 4)
+IsSound (code.Load op rd base offset) = (is_float_load op ≡ false) × IsIntRegister rd.reg × IsIntRegister base
 IsSound (code.Store op base src offset) = (is_float_store op ≡ false) × IsIntRegister base × IsIntRegister src
 IsSound (code.Number rd value) = IsIntRegister rd.reg
 IsSound (code.Move rd rs) = IsMove rd.reg rs (canonical_type (class_of rd.reg))
@@ -68,6 +74,8 @@ abbrev pub IsLabelled : ℕ → List ℕ → List CodePiece → Type 0
 IsLabelled news bound [] = Unit {0}
 IsLabelled news bound (code.Rrr op rd rs1 rs2 ∷ ps) = IsLabelled news bound ps
 IsLabelled news bound (code.Rri op rd rs imm ∷ ps) = IsLabelled news bound ps
+IsLabelled news bound (code.Fence pred succ ∷ ps) = IsLabelled news bound ps
+IsLabelled news bound (code.Load op rd base offset ∷ ps) = IsLabelled news bound ps
 IsLabelled news bound (code.Store op base src offset ∷ ps) = IsLabelled news bound ps
 IsLabelled news bound (code.Number rd value ∷ ps) = IsLabelled news bound ps
 IsLabelled news bound (code.Move rd rs ∷ ps) = IsLabelled news bound ps
@@ -85,6 +93,8 @@ AreSound (p ∷ ps) = IsSound p × AreSound ps
 abbrev pub IsUsableAt : ℕ → CodePiece → Shape LabelUse → Type 0
 IsUsableAt base (code.Rrr op rd rs1 rs2) s = Unit {0}
 IsUsableAt base (code.Rri op rd rs imm) s = Unit {0}
+IsUsableAt base (code.Fence pred succ) s = Unit {0}
+IsUsableAt base (code.Load op rd register offset) s = Unit {0}
 IsUsableAt base (code.Store op register src offset) s = Unit {0}
 IsUsableAt base (code.Number rd value) s = Unit {0}
 IsUsableAt base (code.Move rd rs) s = Unit {0}
@@ -98,6 +108,8 @@ IsUsableAt base (code.Trap code) s = Unit {0}
 abbrev pub IsBaseFor : ℕ → ℕ → CodePiece → Type 0
 IsBaseFor base allocated (code.Rrr op rd rs1 rs2) = Unit {0}
 IsBaseFor base allocated (code.Rri op rd rs imm) = Unit {0}
+IsBaseFor base allocated (code.Fence pred succ) = Unit {0}
+IsBaseFor base allocated (code.Load op rd register offset) = Unit {0}
 IsBaseFor base allocated (code.Store op register src offset) = Unit {0}
 IsBaseFor base allocated (code.Number rd value) = Unit {0}
 IsBaseFor base allocated (code.Move rd rs) = Unit {0}
@@ -111,6 +123,8 @@ IsBaseFor base allocated (code.Trap code) = Unit {0}
 abbrev pub IsNext : OwnLabels → OwnLabels → CodePiece → Shape LabelUse → Shape LabelUse → Type 0
 IsNext own next (code.Rrr op rd rs1 rs2) s t = next ≡ own
 IsNext own next (code.Rri op rd rs imm) s t = next ≡ own
+IsNext own next (code.Fence pred succ) s t = next ≡ own
+IsNext own next (code.Load op rd base offset) s t = next ≡ own
 IsNext own next (code.Store op base src offset) s t = next ≡ own
 IsNext own next (code.Number rd value) s t = next ≡ own
 IsNext own next (code.Move rd rs) s t = next ≡ own

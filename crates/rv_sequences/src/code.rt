@@ -17,22 +17,23 @@ ghost use Rattle.rv_code.specs.Choices.{move_pieces};
 ghost use Rattle.rv_code.specs.Usable.{IsMove};
 ghost use Rattle.rv_code.specs.InstParts.{jump_to};
 ghost use Rattle.rv_code.specs.Pieces.{slots_of};
-ghost use Rattle.rv_ops.specs.Memory.{is_float_store};
+ghost use Rattle.rv_ops.specs.Memory.{is_float_load, is_float_store};
 ghost use Rattle.rv_sequences.specs.Puts.{Puts};
 ghost use Rattle.rv_code.specs.Slots.{Label};
 ghost use Rattle.rv_sequences.specs.declared.code.CodePiece.TheVariants as code;
 
 use crate::expansions::put_trap;
+use crate::fences::put_fence;
 use crate::moves::put_move;
 use crate::numbers::put_number;
-use crate::shortest::{put_rri, put_rrr, put_store_word};
+use crate::shortest::{put_load_word, put_rri, put_rrr, put_store_word};
 use crate::words::{put_compare, put_wide_jump};
 use mach_buffer::MachBuffer;
 use rv_base::{IsaFlags, MachLabel, OutOfMemory, Reg, TrapCode, WritableReg};
 use rv_encode::encode_cj_type;
 use rv_imms::Imm12;
 use rv_inst::{Inst, LabelUse};
-use rv_ops::{AluOPRRI, AluOPRRR, CjOp, IntegerCompare, StoreOP};
+use rv_ops::{AluOPRRI, AluOPRRR, CjOp, IntegerCompare, LoadOP, StoreOP};
 
 /// A piece of an instruction's code. A label is one of the sequence's own, by its number among those.
 #[derive(Clone, Copy)]
@@ -48,6 +49,17 @@ pub(crate) enum CodePiece {
         rd: WritableReg,
         rs: Reg,
         imm: Imm12,
+    },
+    /// Between two sets of accesses, of four bits each.
+    Fence {
+        pred: u8,
+        succ: u8,
+    },
+    Load {
+        op: LoadOP,
+        rd: WritableReg,
+        base: Reg,
+        offset: Imm12,
     },
     Store {
         op: StoreOP,
@@ -174,6 +186,13 @@ fn put_piece(
     match piece {
         CodePiece::Rrr { op, rd, rs1, rs2 } => put_rrr(sink, flags, op, rd, rs1, rs2),
         CodePiece::Rri { op, rd, rs, imm } => put_rri(sink, flags, op, rd, rs, imm),
+        CodePiece::Fence { pred, succ } => put_fence(sink, flags, pred, succ),
+        CodePiece::Load {
+            op,
+            rd,
+            base,
+            offset,
+        } => put_load_word(sink, flags, op, rd, base, offset),
         CodePiece::Store {
             op,
             base,
@@ -306,6 +325,30 @@ pub(crate) fn rrr(op: AluOPRRR, rd: WritableReg, rs1: Reg, rs2: Reg) -> CodePiec
     ensures sound { IsSound result }
 {
     CodePiece::Rrr { op, rd, rs1, rs2 }
+}
+
+pub(crate) fn fence(pred: u8, succ: u8) -> CodePiece
+    requires pred { pred < 2 ^ 4 }
+    requires succ { succ < 2 ^ 4 }
+    ensures is { result ≡ code.Fence pred succ }
+    ensures sound { IsSound result }
+{
+    CodePiece::Fence { pred, succ }
+}
+
+pub(crate) fn load(op: LoadOP, rd: WritableReg, base: Reg, offset: Imm12) -> CodePiece
+    requires op { is_float_load op ≡ false }
+    requires rd { IsIntRegister rd.reg }
+    requires base { IsIntRegister base }
+    ensures is { result ≡ code.Load op rd base offset }
+    ensures sound { IsSound result }
+{
+    CodePiece::Load {
+        op,
+        rd,
+        base,
+        offset,
+    }
 }
 
 pub(crate) fn store(op: StoreOP, base: Reg, src: Reg, offset: Imm12) -> CodePiece

@@ -5,6 +5,7 @@ mod choices;
 mod code;
 mod counts;
 mod expansions;
+mod fences;
 mod halves;
 mod memory;
 mod moves;
@@ -17,6 +18,7 @@ mod words;
 pub use choices::{put_extend, put_select};
 pub use counts::put_computation;
 pub use expansions::{put_bytes, put_constant, put_load_over, put_trap, put_trap_if};
+pub use fences::{put_atomic_load, put_atomic_store, put_fence};
 pub use halves::{has_load, put_half_load, put_load_line, put_store_line};
 pub use memory::{
     Place, addition_word, load_word, put_access, put_address, put_based_load, put_label_address,

@@ -1,3 +1,8 @@
+use Rattle.std.proofs.lemmas.Bool.{or_parts}
+use Rattle.rv_emit.proofs.Terms.{nat_tests}
+use Rattle.std.specs.Prelude.{nat_lt}
+use Rattle.rv_code.proofs.Operands.{not_false}
+use Rattle.rv_inst.specs.Classes.{is_int_type}
 use Rattle.rv_emit.proofs.{StackMaps.put_as, Terms.arith, Terms.false, Terms.refl, Terms.rules, Terms.ints_kept, Terms.kept, Terms.listed, Terms.load_addr_fine, Terms.load_fine, Terms.store_fine, Terms.number_of, Terms.context_by, Terms.registered_of, Terms.Emits, Terms.address_slots, Terms.load_line_slots, Terms.named_put, Terms.load_line_named, Terms.store_line_named}
 use Rattle.rv_emit.proofs.sequence.put_memory.Goals as goal
 
@@ -48,3 +53,27 @@ returns-in-StackProbeLoop-clause-parts c = λ family. put_as _ (λ i. Emits (con
 
 pub put_probe_loop-requires-clause-tmp : goal.put_probe_loop-requires-clause-tmp
 put_probe_loop-requires-clause-tmp c = (ints_kept c.in-StackProbeLoop.is c.requires.rule refl).0.0
+
+pub returns-in-Fence-clause-parts : goal.returns-in-Fence-clause-parts
+returns-in-Fence-clause-parts c = λ family. put_as _ (λ i. Emits (context_by c.args.flags c.args.frame.now (registered_of c.args.sink.now)) i c.args.sink.now c.put_fence.new.sink) c.in-Fence.is (λ p setting. p) c.put_fence.ensures.slots
+
+pub put_fence-requires : goal.put_fence-requires
+put_fence-requires c =
+    let both = or_parts (nat_lt 15 c.in-Fence.pred) (nat_lt 15 c.in-Fence.succ) (kept c.in-Fence.is c.requires.rule).ranged in
+    record { pred = grind (arith, nat_tests, both.0); succ = grind (arith, nat_tests, both.1); room = omega (arith, c.requires.room); sound = c.requires.sound }
+
+pub returns-in-AtomicLoad-clause-parts : goal.returns-in-AtomicLoad-clause-parts
+returns-in-AtomicLoad-clause-parts c = λ family. put_as _ (λ i. Emits (context_by c.args.flags c.args.frame.now (registered_of c.args.sink.now)) i c.args.sink.now c.put_atomic_load.new.sink) c.in-AtomicLoad.is (λ p setting. p) c.put_atomic_load.ensures.slots
+
+pub put_atomic_load-requires : goal.put_atomic_load-requires
+put_atomic_load-requires c =
+    let all = ints_kept c.in-AtomicLoad.is c.requires.rule refl in
+    record { ty = not_false (is_int_type c.in-AtomicLoad.ty) (kept c.in-AtomicLoad.is c.requires.rule).typed; rd = all.0.0; p = all.1.0.0; few = omega (arith, c.requires.few); room = omega (arith, c.requires.room); sound = c.requires.sound }
+
+pub returns-in-AtomicStore-clause-parts : goal.returns-in-AtomicStore-clause-parts
+returns-in-AtomicStore-clause-parts c = λ family. put_as _ (λ i. Emits (context_by c.args.flags c.args.frame.now (registered_of c.args.sink.now)) i c.args.sink.now c.put_atomic_store.new.sink) c.in-AtomicStore.is (λ p setting. p) c.put_atomic_store.ensures.slots
+
+pub put_atomic_store-requires : goal.put_atomic_store-requires
+put_atomic_store-requires c =
+    let all = ints_kept c.in-AtomicStore.is c.requires.rule refl in
+    record { ty = not_false (is_int_type c.in-AtomicStore.ty) (kept c.in-AtomicStore.is c.requires.rule).typed; src = all.0.0; p = all.1.0.0; few = omega (arith, c.requires.few); room = omega (arith, c.requires.room); sound = c.requires.sound }

@@ -1,0 +1,4 @@
+use Rattle.rv_sequences.proofs.fences.put_atomic_store.Goals as goal
+
+pub returns-clause-slots : goal.returns-clause-slots
+returns-clause-slots c = rw c.atomic_store_code.ensures.pieces at c.put_code.ensures.slots
