@@ -30,7 +30,7 @@ use Rattle.rv_inst.specs.Descriptions.{Description, Word, Computes, Gives, all_i
 use Rattle.rv_inst.specs.declared.sequence.Sequence.{Sequence}
 use Rattle.rv_inst.specs.declared.units.PlacedReg.{PlacedReg}
 use Rattle.rv_operands.specs.Operand.{Operand, reads, reads_at, scratches, writes, writes_at, writes_early, constraint_of}
-use Rattle.rv_operands.specs.Operands.{row_of, operands_of, constraints_of, described_operands, own_operands, result_operand, scratch_operand, unit_operands, use_operand, def_operand, select_operands}
+use Rattle.rv_operands.specs.Operands.{row_of, operands_of, constraints_of, described_misnamed, described_operands, own_operands, result_operand, scratch_operand, unit_operands, use_operand, def_operand, select_operands}
 use Rattle.rv_operands.specs.Meeting.{chosen, definitions, AreDistinct, AreMet, AreFree, ArePlaced, AreOfClasses, HasClasses, HasFree, KeepsRules}
 use Rattle.rv_operands.proofs.ClearRegisters.{quiet, virtual_clear, reserved_clear}
 use Rattle.rv_operands.proofs.Keeping.{either, and_none, or_none, apart, absent, no_clash, same_stack, same_frame, not_other, alike, pairs_alike, args_alike, rets_alike, uses_alike, defs_alike, both_classes, into, call_written, results_placed, no_results_clash}
@@ -171,8 +171,8 @@ scratch_free (Some w) own = (either own.0.not_zero refl, either own.0.not_stack 
 
 -- ---- each by its description
 
-described_class : (d : Description) → AreOfClasses (described_operands d) → AreOfClasses (own_operands d) → (described_faults d).class ≡ false
-described_class (Word w) h own = unit_class w.places h
+described_class : (d : Description) → AreOfClasses (described_operands d) → AreOfClasses (own_operands d) → (described_faults d).class ≡ described_misnamed d
+described_class (Word w) h own = ap (λ c. c || not w.aside) (unit_class w.places h)
 described_class (Computes s with) h own = third_class s s.tmp3 h
 described_class (Gives g) h own = scratch_class g.facts.scratch (all_in g.facts.regs) own (regs_class g.facts.regs.rd (sources_in g.facts.regs) h)
 

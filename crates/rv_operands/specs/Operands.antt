@@ -134,7 +134,7 @@ described_operands (Gives g) = regs_operands g.facts.regs
 
 -- The operands; the registers that the instruction overwrites beside; temporaries of its own that no allocator is asked for, since who
 -- makes the instruction chooses them; registers that it names by itself, and whether one of these is another than its place asks, or values
--- of which one is chosen are of classes that no choice of registers mends; and whether lists of registers differ in length.
+-- of which one is chosen are of classes that no choice of registers mends, or what is not read is not x0; and whether lists of registers differ in length.
 pub record Row : Type 0 where
   pub operands : List Operand
   pub clobbers : List Constraint
@@ -146,8 +146,14 @@ pub record Row : Type 0 where
 abbrev pub row : List Operand → Row
 row operands = record { operands = operands; clobbers = []; own = []; named = []; misnamed = false; uneven = false }
 
+-- a register that a unit's operation doesn't read is x0
+abbrev pub described_misnamed : Description → Bool
+described_misnamed (Word w) = not w.aside
+described_misnamed (Computes s with) = false
+described_misnamed (Gives g) = false
+
 abbrev pub described_row : Description → Row
-described_row d = record (row (described_operands d)) { own = own_operands d }
+described_row d = record (row (described_operands d)) { own = own_operands d; misnamed = described_misnamed d }
 
 abbrev pub row_of : Inst → Row
 row_of Nop0 = row []
