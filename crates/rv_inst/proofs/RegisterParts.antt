@@ -1,6 +1,8 @@
 -- What the instructions of parts of registers make of the values.
-use Rattle.std.proofs.Common.{◌≡◌, ◌≢◌, ℕ, zero, suc, ◌+◌, ◌-◌, ◌*◌, ◌/◌, ◌%◌, ◌^◌, ◌<◌, ◌≤◌, Bool, true, false, List, [], ◌∷◌, ◌++◌, length, refl, sym, ap, ◌∙◌, subst, arith, bit_and, lit<}
+use Rattle.std.proofs.Common.{◌≡◌, ◌≢◌, ℕ, zero, suc, ◌+◌, ◌-◌, ◌*◌, ◌/◌, ◌%◌, ◌^◌, ◌<◌, ◌≤◌, Bool, true, false, List, [], ◌∷◌, ◌++◌, length, refl, sym, ap, ◌∙◌, subst, arith, bit_and, lit<, ℤ, pos, negsuc, ◌≤ℤ◌}
 use Rattle.std.specs.Prelude.{bit_or, bit_xor}
+use lib.Dec.{T_prop}
+use lib.Signed.{le_z}
 use Rattle.std.specs.Int.Bits.{xor_add_and}
 use Rattle.std.proofs.Math.Nat.{mod-eq_of_lt}
 use Rattle.std.proofs.lemmas.List.{get_or-set_other, length-set, set_comm}
@@ -11,6 +13,7 @@ use Rattle.rv_base.specs.declared.regs.Reg.{Reg}
 use Rattle.rv_base.specs.declared.regs.Writable.{Writable}
 use Rattle.rv_base.specs.IrType.{bits_of}
 use Rattle.rv_base.specs.Regs.{number_of}
+use Rattle.rv_imms.specs.declared.imm12.Imm12.{Imm12}
 use Rattle.rv_machine.specs.State.{Values, AreValues, reg, set_reg, wrap}
 use Rattle.rv_ops.specs.declared.alu.AluOPRRR.TheVariants.{And, Or, Sll}
 use Rattle.rv_inst.specs.declared.inst.Inst.{Inst}
@@ -49,6 +52,20 @@ read_back v w (suc n) x f count lt = ap (λ y. set_reg w (suc n) (f y)) (reads_s
 -- a register is written again, with what is computed of it
 again : (v : Values) (n x : ℕ) (f : ℕ → ℕ) → length v.regs ≡ 31 → n < 32 → set_reg (set_reg v n x) n (f (reg (set_reg v n x) n)) ≡ set_reg v n (f x)
 again v n x f count lt = set_twice v n x (f (reg (set_reg v n x) n)) ∙ read_back v v n x f count lt
+
+-- ---- immediates
+
+abbrev imm12 : (z : ℤ) → negsuc 2047 ≤ℤ z → z ≤ℤ pos 2047 → Imm12
+imm12 z low high = record { value = z; low = low; high = high }
+
+same_order : {a b : ℤ} (p q : a ≤ℤ b) → p ≡ q
+same_order {a} {b} p q = λ i. record { le = T_prop (le_z a b) p.le q.le i }
+
+-- an immediate is that of its value
+pub imm12_is : (imm other : Imm12) → imm.value ≡ other.value → imm ≡ other
+imm12_is imm other e =
+    let at : ℤ → Type 0 = λ z. (low : negsuc 2047 ≤ℤ z) (high : z ≤ℤ pos 2047) → imm ≡ imm12 z low high in
+    subst at e (λ low high i. imm12 imm.value (same_order imm.low low i) (same_order imm.high high i)) other.low other.high
 
 -- ---- types
 
