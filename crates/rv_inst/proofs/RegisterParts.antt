@@ -20,7 +20,7 @@ use Rattle.rv_inst.specs.declared.inst.Inst.{Inst}
 use Rattle.rv_inst.specs.declared.inst.Inst.TheVariants.{AluRRR}
 use Rattle.rv_inst.specs.Bits.{extended}
 use Rattle.rv_inst.specs.Classes.{is_int_type}
-use Rattle.rv_inst.specs.Fields.{without_part, with_part, mask_insts, extract_insts, unset_insts, set_insts, merge_insts, not_of, start_of, Computes, ComputesBy, IsNoneOf, Extracts, Unsets, Sets, Merges}
+use Rattle.rv_inst.specs.Fields.{without_part, with_part, mask_insts, extract_insts, unset_insts, set_insts, merge_insts, not_of, start_of, SetsRegisterTo, SetsRegisterBy, IsNoneOf, Extracts, Unsets, Sets, Merges}
 use Rattle.rv_inst.specs.Meaning.{Environment, Next, inst_effect}
 use Rattle.rv_inst.specs.Sequences.{insts_effect, insts_exit, SetsRegister}
 use Rattle.rv_inst.proofs.Parts.{part_cleared, part_put}
@@ -212,7 +212,7 @@ merges rd tmp offset rs ty int some free kept = record { left = put; effect = ef
     apart : IsNoneOf tmp.reg (rd.reg ∷ offset ∷ [])
     apart = (free.0, (free.1.0, tt))
 
-    first : ComputesBy (unset_insts rd tmp offset ty) (number_of tmp.reg) (number_of rd.reg) (λ v. without_part (start_of offset v) (bits_of ty) (reg v (number_of rd.reg)))
+    first : SetsRegisterBy (unset_insts rd tmp offset ty) (number_of tmp.reg) (number_of rd.reg) (λ v. without_part (start_of offset v) (bits_of ty) (reg v (number_of rd.reg)))
     first = unsets rd tmp offset ty int some apart
 
     without : Values → ℕ

@@ -73,12 +73,12 @@ start_of offset v = reg v (number_of offset) % 64
 
 -- Whatever registers and memory hold, a number of these is put into a register, by its number, and nothing else changes; x0 drops it. Then
 -- the next instruction runs.
-pub record Computes (insts : List Inst) (register : ℕ) (n : Values → ℕ) : Type 0 where
+pub record SetsRegisterTo (insts : List Inst) (register : ℕ) (n : Values → ℕ) : Type 0 where
   pub effect : (at : ℕ → Environment) (v : Values) → length v.regs ≡ 31 → insts_effect at insts v ≡ set_reg v register (n v)
   pub onward : (at : ℕ → Environment) (v : Values) → insts_exit at insts v ≡ Next
 
 -- the same, but that a temporary, which that register isn't, is left with some number
-pub record ComputesBy (insts : List Inst) (tmp register : ℕ) (n : Values → ℕ) : Type 0 where
+pub record SetsRegisterBy (insts : List Inst) (tmp register : ℕ) (n : Values → ℕ) : Type 0 where
   pub left : Values → ℕ
   pub effect : (at : ℕ → Environment) (v : Values) → AreValues v → insts_effect at insts v ≡ set_reg (set_reg v tmp (left v)) register (n v)
   pub onward : (at : ℕ → Environment) (v : Values) → insts_exit at insts v ≡ Next
@@ -90,21 +90,21 @@ IsNoneOf r (other ∷ others) = (number_of r ≢ number_of other) × IsNoneOf r 
 
 -- the part is taken out, sign-extended or zero-extended
 abbrev pub Extracts : Bool → Writable Reg → Reg → Reg → IrType → List Inst → Type 0
-Extracts signed rd offset rs ty insts = Computes insts (number_of rd.reg) (λ v. extended signed (bits_of ty) (reg v (number_of rs) / 2 ^ start_of offset v))
+Extracts signed rd offset rs ty insts = SetsRegisterTo insts (number_of rd.reg) (λ v. extended signed (bits_of ty) (reg v (number_of rs) / 2 ^ start_of offset v))
 
 -- it is cleared, as far as the register has it
 abbrev pub Unsets : Writable Reg → Writable Reg → Reg → IrType → List Inst → Type 0
 Unsets rd tmp offset ty insts =
     0 < number_of tmp.reg →
     IsNoneOf tmp.reg (rd.reg ∷ offset ∷ []) →
-    ComputesBy insts (number_of tmp.reg) (number_of rd.reg) (λ v. without_part (start_of offset v) (bits_of ty) (reg v (number_of rd.reg)))
+    SetsRegisterBy insts (number_of tmp.reg) (number_of rd.reg) (λ v. without_part (start_of offset v) (bits_of ty) (reg v (number_of rd.reg)))
 
 -- the low bits of a register are put over it, as far as there is room
 abbrev pub Sets : Writable Reg → Writable Reg → Reg → Reg → IrType → List Inst → Type 0
 Sets rd tmp offset rs ty insts =
     0 < number_of tmp.reg →
     IsNoneOf tmp.reg (rd.reg ∷ offset ∷ []) →
-    ComputesBy insts (number_of tmp.reg) (number_of rd.reg) (λ v. bit_or (reg v (number_of rd.reg)) (wrap (reg v (number_of rs) % 2 ^ bits_of ty * 2 ^ start_of offset v)))
+    SetsRegisterBy insts (number_of tmp.reg) (number_of rd.reg) (λ v. bit_or (reg v (number_of rd.reg)) (wrap (reg v (number_of rs) % 2 ^ bits_of ty * 2 ^ start_of offset v)))
 
 -- the low bits of a register are put in its place, as far as there is room
 abbrev pub Merges : Writable Reg → Writable Reg → Reg → Reg → IrType → List Inst → Type 0
@@ -112,4 +112,4 @@ Merges rd tmp offset rs ty insts =
     0 < number_of tmp.reg →
     IsNoneOf tmp.reg (rd.reg ∷ offset ∷ rs ∷ []) →
     IsNoneOf rd.reg (offset ∷ rs ∷ []) →
-    ComputesBy insts (number_of tmp.reg) (number_of rd.reg) (λ v. wrap (with_part (start_of offset v) (bits_of ty) (reg v (number_of rs)) (reg v (number_of rd.reg))))
+    SetsRegisterBy insts (number_of tmp.reg) (number_of rd.reg) (λ v. wrap (with_part (start_of offset v) (bits_of ty) (reg v (number_of rs)) (reg v (number_of rd.reg))))
