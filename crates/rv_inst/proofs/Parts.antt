@@ -1,7 +1,7 @@
 -- A part of a number, so many bits from a bit on, cleared by a mask and put by a shift, where a register holds 64 bits.
 use Rattle.std.proofs.Common.{◌≡◌, ℕ, ◌+◌, ◌-◌, ◌*◌, ◌/◌, ◌%◌, ◌^◌, ◌<◌, ◌≤◌, ◌⊎◌, inl, inr, arith, sym, ap, ◌∙◌, subst, bit_and}
-use Rattle.std.specs.Prelude.{bit_or}
-use Rattle.std.specs.Int.Bits.{and_zero_r, or_zero_r}
+use Rattle.std.specs.Prelude.{bit_or, bit_xor}
+use Rattle.std.specs.Int.Bits.{and_zero_r, or_zero_r, xor_add_and}
 use Rattle.std.proofs.Math.Nat.{add-mul, div-add-mod', div-eq_of_lt, mod-eq_of_lt, mul_assoc, mul_comm, mul-mod_left}
 use Rattle.std.proofs.lemmas.Bool.{cases_lt}
 use Rattle.std.proofs.lemmas.Nat.{and_block, and_comm, and_mask, or_block, or_shifted, pow_pos, pow-add, shl-shr, shr-shr, mod-pow-add, mod_low, shr_high, shr_below, pow_below, mod_below, mul-add-lt}
@@ -164,6 +164,13 @@ cut c o b x n past lt =
 -- what holds with so many bits above o holds of 64
 of_64 : (P : ℕ → Type 0) (o : ℕ) → o ≤ 64 → ((c : ℕ) → P (c + o)) → P 64
 of_64 P o le each = let sum : (64 - o) + o ≡ 64 = omega arith in subst P sum (each (64 - o))
+
+-- What differs from a number in all 64 bits, as by -1, is its complement.
+pub complemented : (m : ℕ) → m < 2 ^ 64 → bit_xor m (2 ^ 64 - 1) ≡ 2 ^ 64 - 1 - m
+complemented m lt =
+    let sum = xor_add_and m (2 ^ 64 - 1) in
+    let both : bit_and m (2 ^ 64 - 1) ≡ m = and_mask m 64 ∙ mod-eq_of_lt lt in
+    omega (arith, sum, both)
 
 -- The part is cleared by the complement of its mask, also where the mask is cut.
 pub part_cleared : (o b n : ℕ) → o ≤ 64 → n < 2 ^ 64 → bit_and n (2 ^ 64 - 1 - (2 ^ b - 1) * 2 ^ o % 2 ^ 64) ≡ without_part o b n

@@ -3,10 +3,8 @@ use Rattle.std.proofs.Common.{◌≡◌, ◌≢◌, ℕ, zero, suc, ◌+◌, ◌
 use Rattle.std.specs.Prelude.{bit_or, bit_xor}
 use lib.Dec.{T_prop}
 use lib.Signed.{le_z}
-use Rattle.std.specs.Int.Bits.{xor_add_and}
-use Rattle.std.proofs.Math.Nat.{mod-eq_of_lt}
 use Rattle.std.proofs.lemmas.List.{get_or-set_other, length-set, set_comm}
-use Rattle.std.proofs.lemmas.Nat.{and_mask, mod_below}
+use Rattle.std.proofs.lemmas.Nat.{mod_below}
 use Rattle.rv_base.specs.declared.ir_type.IrType.{IrType}
 use Rattle.rv_base.specs.declared.ir_type.IrType.TheVariants.{I8, I16, I32, I64, I128, F16, F32, F64, F128, Vector}
 use Rattle.rv_base.specs.declared.regs.Reg.{Reg}
@@ -20,10 +18,10 @@ use Rattle.rv_inst.specs.declared.inst.Inst.{Inst}
 use Rattle.rv_inst.specs.declared.inst.Inst.TheVariants.{AluRRR}
 use Rattle.rv_inst.specs.Bits.{extended}
 use Rattle.rv_inst.specs.Classes.{is_int_type}
-use Rattle.rv_inst.specs.Fields.{without_part, with_part, mask_insts, extract_insts, unset_insts, set_insts, merge_insts, not_of, start_of, SetsRegisterTo, SetsRegisterBy, IsNoneOf, Extracts, Unsets, Sets, Merges}
+use Rattle.rv_inst.specs.Fields.{without_part, with_part, mask_insts, extract_insts, unset_insts, set_insts, merge_insts, not_of, part_start, SetsRegisterTo, SetsRegisterBy, IsNoneOf, Extracts, Unsets, Sets, Merges}
 use Rattle.rv_inst.specs.Meaning.{Environment, Next, inst_effect}
 use Rattle.rv_inst.specs.Sequences.{insts_effect, insts_exit, SetsRegister}
-use Rattle.rv_inst.proofs.Parts.{part_cleared, part_put}
+use Rattle.rv_inst.proofs.Parts.{complemented, part_cleared, part_put}
 use Rattle.rv_inst.proofs.Sequences.{number_below, set_twice, reads_set}
 
 -- ---- registers
@@ -100,7 +98,7 @@ mask_sets rd ty int = each_int (λ t. SetsRegister (mask_insts rd t) (number_of 
 
 pub extracts : (signed : Bool) (rd : Writable Reg) (offset rs : Reg) (ty : IrType) → Extracts signed rd offset rs ty (extract_insts signed rd offset rs ty)
 extracts signed rd offset rs ty = record {
-  effect = λ at v count. again v (number_of rd.reg) (reg v (number_of rs) / 2 ^ start_of offset v) (extended signed (bits_of ty)) count (number_below rd.reg);
+  effect = λ at v count. again v (number_of rd.reg) (reg v (number_of rs) / 2 ^ part_start offset v) (extended signed (bits_of ty)) count (number_below rd.reg);
   onward = λ at v. refl;
 }
 
@@ -124,13 +122,6 @@ met : (v : Values) (tmp rd y : ℕ) (f : ℕ → ℕ → ℕ) → length v.regs 
 met v tmp rd y f count some lt apart =
     λ i. set_reg (set_reg v tmp y) rd (f (reads_other v tmp rd y (λ e. apart (sym e)) i) (reads_set v tmp y count some lt i))
 
--- -1 differs from a number in all 64 bits
-complemented : (m : ℕ) → m < 2 ^ 64 → bit_xor m (2 ^ 64 - 1) ≡ 2 ^ 64 - 1 - m
-complemented m lt =
-    let sum = xor_add_and m (2 ^ 64 - 1) in
-    let both : bit_and m (2 ^ 64 - 1) ≡ m = and_mask m 64 ∙ mod-eq_of_lt lt in
-    omega (arith, sum, both)
-
 -- what unset leaves in its temporary: zeros where the part is
 kept_mask : ℕ → ℕ → ℕ
 kept_mask o bits = bit_xor (wrap ((2 ^ bits - 1) * 2 ^ o)) (2 ^ 64 - 1)
@@ -142,13 +133,13 @@ masked o bits n le lt = ap (bit_and n) (complemented (wrap ((2 ^ bits - 1) * 2 ^
 -- the three that follow the mask
 cleared : (at : ℕ → Environment) (v : Values) (rd tmp : Writable Reg) (offset : Reg) (bits : ℕ) → AreValues v → 0 < number_of tmp.reg → IsNoneOf tmp.reg (rd.reg ∷ offset ∷ []) →
     insts_effect at (AluRRR Sll tmp tmp.reg offset ∷ not_of tmp tmp.reg ∷ AluRRR And rd rd.reg tmp.reg ∷ []) (set_reg v (number_of tmp.reg) (2 ^ bits - 1))
-    ≡ set_reg (set_reg v (number_of tmp.reg) (kept_mask (start_of offset v) bits)) (number_of rd.reg) (without_part (start_of offset v) bits (reg v (number_of rd.reg)))
+    ≡ set_reg (set_reg v (number_of tmp.reg) (kept_mask (part_start offset v) bits)) (number_of rd.reg) (without_part (part_start offset v) bits (reg v (number_of rd.reg)))
 unfolding kept_mask
 cleared at v rd tmp offset bits vs some apart =
     let t = number_of tmp.reg in
     let r = number_of rd.reg in
     let lt = number_below tmp.reg in
-    let o = start_of offset v in
+    let o = part_start offset v in
     let complement : ℕ → ℕ = λ m. bit_xor m (2 ^ 64 - 1) in
     let low = mod_below (reg v (number_of offset)) 64 (lit< tt) in
     ap (λ w. set_reg (set_reg w t (complement (reg w t))) r (bit_and (reg (set_reg w t (complement (reg w t))) r) (reg (set_reg w t (complement (reg w t))) t))) (moved v t (number_of offset) (2 ^ bits - 1) vs.count lt apart.1.0)
@@ -157,11 +148,11 @@ cleared at v rd tmp offset bits vs some apart =
     ∙ ap (set_reg (set_reg v t (kept_mask o bits)) r) (masked o bits (reg v r) (omega (arith, low)) (vs.fits r))
 
 pub unsets : (rd tmp : Writable Reg) (offset : Reg) (ty : IrType) → is_int_type ty ≡ true → Unsets rd tmp offset ty (unset_insts rd tmp offset ty)
-unsets rd tmp offset ty int some apart = record { left = λ v. kept_mask (start_of offset v) (bits_of ty); effect = effect; onward = onward }
+unsets rd tmp offset ty int some apart = record { left = λ v. kept_mask (part_start offset v) (bits_of ty); effect = effect; onward = onward }
   where
     effect : (at : ℕ → Environment) (v : Values) → AreValues v →
         insts_effect at (unset_insts rd tmp offset ty) v
-        ≡ set_reg (set_reg v (number_of tmp.reg) (kept_mask (start_of offset v) (bits_of ty))) (number_of rd.reg) (without_part (start_of offset v) (bits_of ty) (reg v (number_of rd.reg)))
+        ≡ set_reg (set_reg v (number_of tmp.reg) (kept_mask (part_start offset v) (bits_of ty))) (number_of rd.reg) (without_part (part_start offset v) (bits_of ty) (reg v (number_of rd.reg)))
     effect at v vs =
         let rest = AluRRR Sll tmp tmp.reg offset ∷ not_of tmp tmp.reg ∷ AluRRR And rd rd.reg tmp.reg ∷ [] in
         let after = effect_after at (mask_insts tmp ty) rest v in
@@ -175,18 +166,18 @@ unsets rd tmp offset ty int some apart = record { left = λ v. kept_mask (start_
 -- what set makes, whose temporary holds what it puts
 put_effect : (at : ℕ → Environment) (v : Values) (rd tmp : Writable Reg) (offset rs : Reg) (ty : IrType) → length v.regs ≡ 31 → 0 < number_of tmp.reg → IsNoneOf tmp.reg (rd.reg ∷ offset ∷ []) →
     insts_effect at (set_insts rd tmp offset rs ty) v
-    ≡ set_reg (set_reg v (number_of tmp.reg) (wrap (reg v (number_of rs) % 2 ^ bits_of ty * 2 ^ start_of offset v))) (number_of rd.reg) (bit_or (reg v (number_of rd.reg)) (wrap (reg v (number_of rs) % 2 ^ bits_of ty * 2 ^ start_of offset v)))
+    ≡ set_reg (set_reg v (number_of tmp.reg) (wrap (reg v (number_of rs) % 2 ^ bits_of ty * 2 ^ part_start offset v))) (number_of rd.reg) (bit_or (reg v (number_of rd.reg)) (wrap (reg v (number_of rs) % 2 ^ bits_of ty * 2 ^ part_start offset v)))
 put_effect at v rd tmp offset rs ty count some apart =
     let t = number_of tmp.reg in
     let r = number_of rd.reg in
     let lt = number_below tmp.reg in
     let x = reg v (number_of rs) % 2 ^ bits_of ty in
     ap (λ w. set_reg w r (bit_or (reg w r) (reg w t))) (moved v t (number_of offset) x count lt apart.1.0)
-    ∙ met v t r (wrap (x * 2 ^ start_of offset v)) bit_or count some lt apart.0
+    ∙ met v t r (wrap (x * 2 ^ part_start offset v)) bit_or count some lt apart.0
 
 pub sets : (rd tmp : Writable Reg) (offset rs : Reg) (ty : IrType) → Sets rd tmp offset rs ty (set_insts rd tmp offset rs ty)
 sets rd tmp offset rs ty some apart = record {
-  left = λ v. wrap (reg v (number_of rs) % 2 ^ bits_of ty * 2 ^ start_of offset v);
+  left = λ v. wrap (reg v (number_of rs) % 2 ^ bits_of ty * 2 ^ part_start offset v);
   effect = λ at v vs. put_effect at v rd tmp offset rs ty vs.count some apart;
   onward = λ at v. refl;
 }
@@ -212,14 +203,14 @@ merges rd tmp offset rs ty int some free kept = record { left = put; effect = ef
     apart : IsNoneOf tmp.reg (rd.reg ∷ offset ∷ [])
     apart = (free.0, (free.1.0, tt))
 
-    first : SetsRegisterBy (unset_insts rd tmp offset ty) (number_of tmp.reg) (number_of rd.reg) (λ v. without_part (start_of offset v) (bits_of ty) (reg v (number_of rd.reg)))
+    first : SetsRegisterBy (unset_insts rd tmp offset ty) (number_of tmp.reg) (number_of rd.reg) (λ v. without_part (part_start offset v) (bits_of ty) (reg v (number_of rd.reg)))
     first = unsets rd tmp offset ty int some apart
 
     without : Values → ℕ
-    without v = without_part (start_of offset v) (bits_of ty) (reg v r)
+    without v = without_part (part_start offset v) (bits_of ty) (reg v r)
 
     put : Values → ℕ
-    put v = wrap (reg v (number_of rs) % 2 ^ bits_of ty * 2 ^ start_of offset v)
+    put v = wrap (reg v (number_of rs) % 2 ^ bits_of ty * 2 ^ part_start offset v)
 
     -- the values after the first, with the temporary, and then with the register
     begun : Values → Values
@@ -239,14 +230,14 @@ merges rd tmp offset rs ty int some free kept = record { left = put; effect = ef
     same v = λ i. wrap (unchanged v rs free.1.1.0 kept.1.0 i % 2 ^ bits_of ty * 2 ^ (unchanged v offset free.1.0 kept.0 i % 64))
 
     -- what the second then leaves in the register
-    value : (v : Values) → AreValues v → set_reg (set_reg (between v) t (put v)) r (bit_or (reg (between v) r) (put v)) ≡ set_reg (set_reg (between v) t (put v)) r (wrap (with_part (start_of offset v) (bits_of ty) (reg v (number_of rs)) (reg v r)))
+    value : (v : Values) → AreValues v → set_reg (set_reg (between v) t (put v)) r (bit_or (reg (between v) r) (put v)) ≡ set_reg (set_reg (between v) t (put v)) r (wrap (with_part (part_start offset v) (bits_of ty) (reg v (number_of rs)) (reg v r)))
     value v vs =
         let low = mod_below (reg v (number_of offset)) 64 (lit< tt) in
         read_back (begun v) (set_reg (between v) t (put v)) r (without v) (λ n. bit_or n (put v)) (begun_count v vs.count) (number_below rd.reg)
-        ∙ ap (set_reg (set_reg (between v) t (put v)) r) (part_put (start_of offset v) (bits_of ty) (reg v (number_of rs)) (reg v r) (omega (arith, low)) (vs.fits r))
+        ∙ ap (set_reg (set_reg (between v) t (put v)) r) (part_put (part_start offset v) (bits_of ty) (reg v (number_of rs)) (reg v r) (omega (arith, low)) (vs.fits r))
 
     effect : (at : ℕ → Environment) (v : Values) → AreValues v →
-        insts_effect at (merge_insts rd tmp offset rs ty) v ≡ set_reg (set_reg v t (put v)) r (wrap (with_part (start_of offset v) (bits_of ty) (reg v (number_of rs)) (reg v r)))
+        insts_effect at (merge_insts rd tmp offset rs ty) v ≡ set_reg (set_reg v t (put v)) r (wrap (with_part (part_start offset v) (bits_of ty) (reg v (number_of rs)) (reg v r)))
     effect at v vs =
         let after = effect_after at (unset_insts rd tmp offset ty) (set_insts rd tmp offset rs ty) v in
         let count = count_set (begun v) r (without v) ∙ begun_count v vs.count in
@@ -255,7 +246,7 @@ merges rd tmp offset rs ty int some free kept = record { left = put; effect = ef
         ∙ put_effect after.0 (between v) rd tmp offset rs ty count some apart
         ∙ ap (λ y. set_reg (set_reg (between v) t y) r (bit_or (reg (between v) r) y)) (same v)
         ∙ value v vs
-        ∙ last_stays v t r (first.left v) (without v) (put v) (wrap (with_part (start_of offset v) (bits_of ty) (reg v (number_of rs)) (reg v r))) free.0
+        ∙ last_stays v t r (first.left v) (without v) (put v) (wrap (with_part (part_start offset v) (bits_of ty) (reg v (number_of rs)) (reg v r))) free.0
 
     onward : (at : ℕ → Environment) (v : Values) → insts_exit at (merge_insts rd tmp offset rs ty) v ≡ Next
     onward = each_int (λ type. (at : ℕ → Environment) (v : Values) → insts_exit at (merge_insts rd tmp offset rs type) v ≡ Next) (λ at v. refl) (λ at v. refl) (λ at v. refl) (λ at v. refl) ty int

@@ -1,9 +1,8 @@
 -- A part of a register, so many bits from a bit on that another register gives: the instructions that take it out, clear it and put it, and
 -- what they leave.
-use Rattle.std.specs.Prelude.{◌≡◌, ◌≢◌, ℕ, ◌+◌, ◌-◌, ◌*◌, ◌/◌, ◌%◌, ◌^◌, ◌<◌, Bool, false, List, [], ◌∷◌, ◌++◌, length, bit_or, pos, negsuc}
+use Rattle.std.specs.Prelude.{◌≡◌, ◌≢◌, ℕ, ◌+◌, ◌*◌, ◌/◌, ◌%◌, ◌^◌, ◌<◌, ◌==◌, Bool, false, if◌then◌else◌, List, [], ◌∷◌, ◌++◌, length, bit_or, pos, negsuc}
 use lib.Signed.{le_z_yes}
 use Rattle.rv_base.specs.declared.ir_type.IrType.{IrType}
-use Rattle.rv_base.specs.declared.ir_type.IrType.TheVariants.{I8, I16, I32, I64}
 use Rattle.rv_base.specs.declared.regs.Reg.{Reg}
 use Rattle.rv_base.specs.declared.regs.Writable.{Writable}
 use Rattle.rv_base.specs.IrType.{bits_of}
@@ -45,13 +44,12 @@ not_of rd rs = AluRRImm12 Xori rd rs minus_one
 abbrev pub extend_of : Bool → IrType → Writable Reg → Reg → Inst
 extend_of signed ty rd rn = Extend rd rn signed (bits_of ty) 64
 
--- as many ones as an integer of at most 64 bits has bits; no other type has such instructions
+-- as many ones in the low bits as a type has: -1, or 255 of 8 bits, and of 16 and 32 its low bits
 abbrev pub mask_insts : Writable Reg → IrType → List Inst
-mask_insts rd I8 = addi_of rd zero_register byte_mask ∷ []
-mask_insts rd I16 = addi_of rd zero_register minus_one ∷ extend_of false I16 rd rd.reg ∷ []
-mask_insts rd I32 = addi_of rd zero_register minus_one ∷ extend_of false I32 rd rd.reg ∷ []
-mask_insts rd I64 = addi_of rd zero_register minus_one ∷ []
-mask_insts rd ty = []
+mask_insts rd ty =
+    if bits_of ty == 8 then addi_of rd zero_register byte_mask ∷
+    [] else addi_of rd zero_register minus_one ∷
+    (if bits_of ty == 64 then [] else extend_of false ty rd rd.reg ∷ [])
 
 abbrev pub extract_insts : Bool → Writable Reg → Reg → Reg → IrType → List Inst
 extract_insts signed rd offset rs ty = AluRRR Srl rd rs offset ∷ extend_of signed ty rd rd.reg ∷ []
@@ -68,8 +66,8 @@ merge_insts rd tmp offset rs ty = unset_insts rd tmp offset ty ++ set_insts rd t
 -- ---- what they leave
 
 -- where the part begins: the low 6 bits of the offset's register
-abbrev pub start_of : Reg → Values → ℕ
-start_of offset v = reg v (number_of offset) % 64
+abbrev pub part_start : Reg → Values → ℕ
+part_start offset v = reg v (number_of offset) % 64
 
 -- Whatever registers and memory hold, a number of these is put into a register, by its number, and nothing else changes; x0 drops it. Then
 -- the next instruction runs.
@@ -90,21 +88,21 @@ IsNoneOf r (other ∷ others) = (number_of r ≢ number_of other) × IsNoneOf r 
 
 -- the part is taken out, sign-extended or zero-extended
 abbrev pub Extracts : Bool → Writable Reg → Reg → Reg → IrType → List Inst → Type 0
-Extracts signed rd offset rs ty insts = SetsRegisterTo insts (number_of rd.reg) (λ v. extended signed (bits_of ty) (reg v (number_of rs) / 2 ^ start_of offset v))
+Extracts signed rd offset rs ty insts = SetsRegisterTo insts (number_of rd.reg) (λ v. extended signed (bits_of ty) (reg v (number_of rs) / 2 ^ part_start offset v))
 
 -- it is cleared, as far as the register has it
 abbrev pub Unsets : Writable Reg → Writable Reg → Reg → IrType → List Inst → Type 0
 Unsets rd tmp offset ty insts =
     0 < number_of tmp.reg →
     IsNoneOf tmp.reg (rd.reg ∷ offset ∷ []) →
-    SetsRegisterBy insts (number_of tmp.reg) (number_of rd.reg) (λ v. without_part (start_of offset v) (bits_of ty) (reg v (number_of rd.reg)))
+    SetsRegisterBy insts (number_of tmp.reg) (number_of rd.reg) (λ v. without_part (part_start offset v) (bits_of ty) (reg v (number_of rd.reg)))
 
 -- the low bits of a register are put over it, as far as there is room
 abbrev pub Sets : Writable Reg → Writable Reg → Reg → Reg → IrType → List Inst → Type 0
 Sets rd tmp offset rs ty insts =
     0 < number_of tmp.reg →
     IsNoneOf tmp.reg (rd.reg ∷ offset ∷ []) →
-    SetsRegisterBy insts (number_of tmp.reg) (number_of rd.reg) (λ v. bit_or (reg v (number_of rd.reg)) (wrap (reg v (number_of rs) % 2 ^ bits_of ty * 2 ^ start_of offset v)))
+    SetsRegisterBy insts (number_of tmp.reg) (number_of rd.reg) (λ v. bit_or (reg v (number_of rd.reg)) (wrap (reg v (number_of rs) % 2 ^ bits_of ty * 2 ^ part_start offset v)))
 
 -- the low bits of a register are put in its place, as far as there is room
 abbrev pub Merges : Writable Reg → Writable Reg → Reg → Reg → IrType → List Inst → Type 0
@@ -112,4 +110,4 @@ Merges rd tmp offset rs ty insts =
     0 < number_of tmp.reg →
     IsNoneOf tmp.reg (rd.reg ∷ offset ∷ rs ∷ []) →
     IsNoneOf rd.reg (offset ∷ rs ∷ []) →
-    SetsRegisterBy insts (number_of tmp.reg) (number_of rd.reg) (λ v. wrap (with_part (start_of offset v) (bits_of ty) (reg v (number_of rs)) (reg v (number_of rd.reg))))
+    SetsRegisterBy insts (number_of tmp.reg) (number_of rd.reg) (λ v. wrap (with_part (part_start offset v) (bits_of ty) (reg v (number_of rs)) (reg v (number_of rd.reg))))
