@@ -1,5 +1,5 @@
 -- A part of a number, so many bits from a bit on, cleared by a mask and put by a shift, where a register holds 64 bits.
-use Rattle.std.proofs.Common.{◌≡◌, ℕ, ◌+◌, ◌-◌, ◌*◌, ◌/◌, ◌%◌, ◌^◌, ◌<◌, ◌≤◌, ◌⊎◌, inl, inr, arith, sym, ap, ◌∙◌, subst, bit_and}
+use Rattle.std.proofs.Common.{◌≡◌, ℕ, ◌+◌, ◌-◌, ◌*◌, ◌/◌, ◌%◌, ◌^◌, ◌<◌, ◌≤◌, inl, inr, arith, sym, ap, ◌∙◌, subst, bit_and}
 use Rattle.std.specs.Prelude.{bit_or, bit_xor}
 use Rattle.std.specs.Int.Bits.{and_zero_r, or_zero_r, xor_add_and}
 use Rattle.std.proofs.Math.Nat.{add-mul, div-add-mod', div-eq_of_lt, mod-eq_of_lt, mul_assoc, mul_comm, mul-mod_left}
@@ -10,9 +10,9 @@ use Rattle.rv_inst.specs.Fields.{without_part, with_part}
 
 pow_le : (i j : ℕ) → i ≤ j → 2 ^ i ≤ 2 ^ j
 pow_le i j le = elim (cases_lt i j) [
-    inl lt ↦ let more = pow_below i j lt in omega (arith, more)
+  | inl lt ↦ let more = pow_below i j lt in omega (arith, more)
   | inr ge ↦ let same : i ≡ j = omega arith in let e = ap (λ k. 2 ^ k) same in omega (arith, e)
-  ]
+]
 
 -- ---- a register's upper bits: c of its c + o bits are those above its low o ones
 
@@ -55,38 +55,38 @@ none_above b c h le lt =
     let none : h / 2 ^ b ≡ 0 = div-eq_of_lt (omega (arith, more)) in
     ap (λ q. q * 2 ^ b) none ∙ omega arith
 
--- the low b bits of c are cleared, all of them where b is more
+-- the low b bits of c bits are cleared, all of them where b is more
 low_cleared : (b c h : ℕ) → h < 2 ^ c → bit_and h (2 ^ c - 1 - (2 ^ b - 1) % 2 ^ c) ≡ h / 2 ^ b * 2 ^ b
 low_cleared b c h lt = elim (cases_lt c b) [
-    inl less ↦
-    let cut = ones_cut b c (omega arith) in
-    let mask : 2 ^ c - 1 - (2 ^ b - 1) % 2 ^ c ≡ 0 = omega (arith, cut) in
-    ap (bit_and h) mask ∙ and_zero_r h ∙ sym (none_above b c h (omega arith) lt)
+  | inl less ↦
+      let cut = ones_cut b c (omega arith) in
+      let mask : 2 ^ c - 1 - (2 ^ b - 1) % 2 ^ c ≡ 0 = omega (arith, cut) in
+      ap (bit_and h) mask ∙ and_zero_r h ∙ sym (none_above b c h (omega arith) lt)
   | inr within ↦
-    let some = pow_pos b in
-    let more = pow_le b c within in
-    let kept : (2 ^ b - 1) % 2 ^ c ≡ 2 ^ b - 1 = mod-eq_of_lt (omega (arith, more, some)) in
-    let mask : 2 ^ c - 1 - (2 ^ b - 1) % 2 ^ c ≡ 2 ^ c - 2 ^ b = omega (arith, kept, more, some) in
-    ap (bit_and h) mask ∙ and_high_mask c b within h lt
-  ]
+      let some = pow_pos b in
+      let more = pow_le b c within in
+      let kept : (2 ^ b - 1) % 2 ^ c ≡ 2 ^ b - 1 = mod-eq_of_lt (omega (arith, more, some)) in
+      let mask : 2 ^ c - 1 - (2 ^ b - 1) % 2 ^ c ≡ 2 ^ c - 2 ^ b = omega (arith, kept, more, some) in
+      ap (bit_and h) mask ∙ and_high_mask c b within h lt
+]
 
 -- b bits are put there, as many as there is room for
 low_put : (b c h y : ℕ) → h < 2 ^ c → y < 2 ^ b → (h / 2 ^ b * 2 ^ b + y) % 2 ^ c ≡ h / 2 ^ b * 2 ^ b + y % 2 ^ c
 low_put b c h y lt fits = elim (cases_lt c b) [
-    inl less ↦
-    let none = none_above b c h (omega arith) lt in
-    let alone : h / 2 ^ b * 2 ^ b + y ≡ y = omega (arith, none) in
-    ap (λ t. t % 2 ^ c) alone ∙ omega (arith, none)
+  | inl less ↦
+      let none = none_above b c h (omega arith) lt in
+      let alone : h / 2 ^ b * 2 ^ b + y ≡ y = omega (arith, none) in
+      ap (λ t. t % 2 ^ c) alone ∙ omega (arith, none)
   | inr within ↦
-    let more = pow_le b c within in
-    let sum : c ≡ (c - b) + b = omega arith in
-    let parted = ap (λ k. 2 ^ k) sum in
-    let high = shr_below h (c - b) b (omega (arith, parted)) in
-    let product = pow-add 2 (c - b) b in
-    let both = mul-add-lt (h / 2 ^ b) (2 ^ b) y (2 ^ (c - b)) high fits in
-    let kept : y % 2 ^ c ≡ y = mod-eq_of_lt (omega (arith, more)) in
-    mod-eq_of_lt (omega (arith, parted, product, both)) ∙ ap (λ t. h / 2 ^ b * 2 ^ b + t) (sym kept)
-  ]
+      let more = pow_le b c within in
+      let sum : c ≡ (c - b) + b = omega arith in
+      let parted = ap (λ k. 2 ^ k) sum in
+      let high = shr_below h (c - b) b (omega (arith, parted)) in
+      let product = pow-add 2 (c - b) b in
+      let both = mul-add-lt (h / 2 ^ b) (2 ^ b) y (2 ^ (c - b)) high fits in
+      let kept : y % 2 ^ c ≡ y = mod-eq_of_lt (omega (arith, more)) in
+      mod-eq_of_lt (omega (arith, parted, product, both)) ∙ ap (λ t. h / 2 ^ b * 2 ^ b + t) (sym kept)
+]
 
 -- ---- the part from bit o on
 
@@ -96,7 +96,7 @@ above o b n =
     mul_assoc (n / 2 ^ o / 2 ^ b) (2 ^ b) (2 ^ o)
     ∙ (λ i. shr-shr n o b i * (mul_comm (2 ^ b) (2 ^ o) ∙ sym (pow-add 2 o b)) i)
 
--- what is left where it is cleared, and with other bits in its place
+-- what is left where it is cleared, and where other bits stand in its place
 without_parted : (o b n : ℕ) → n / 2 ^ o / 2 ^ b * 2 ^ b * 2 ^ o + n % 2 ^ o ≡ without_part o b n
 without_parted o b n = let e = above o b n in omega (arith, e)
 
@@ -180,7 +180,7 @@ part_cleared o b n le = of_64 (λ w. n < 2 ^ w → bit_and n (2 ^ w - 1 - (2 ^ b
 pub part_put : (o b x n : ℕ) → o ≤ 64 → n < 2 ^ 64 → bit_or (without_part o b n) (x % 2 ^ b * 2 ^ o % 2 ^ 64) ≡ with_part o b x n % 2 ^ 64
 part_put o b x n le = of_64 (λ w. n < 2 ^ w → bit_or (without_part o b n) (x % 2 ^ b * 2 ^ o % 2 ^ w) ≡ with_part o b x n % 2 ^ w) o le (λ c. put c o b x n)
 
--- both
+-- The one after the other.
 pub part_merged : (o b x n : ℕ) → o ≤ 64 → n < 2 ^ 64 → bit_or (bit_and n (2 ^ 64 - 1 - (2 ^ b - 1) * 2 ^ o % 2 ^ 64)) (x % 2 ^ b * 2 ^ o % 2 ^ 64) ≡ with_part o b x n % 2 ^ 64
 part_merged o b x n le lt = ap (λ t. bit_or t (x % 2 ^ b * 2 ^ o % 2 ^ 64)) (part_cleared o b n le lt) ∙ part_put o b x n le lt
 

@@ -1,5 +1,5 @@
 -- What the instructions of parts of registers make of the values.
-use Rattle.std.proofs.Common.{◌≡◌, ◌≢◌, ℕ, zero, suc, ◌+◌, ◌-◌, ◌*◌, ◌/◌, ◌%◌, ◌^◌, ◌<◌, ◌≤◌, Bool, true, false, List, [], ◌∷◌, ◌++◌, length, refl, sym, ap, ◌∙◌, subst, arith, bit_and, lit<, ℤ, pos, negsuc, ◌≤ℤ◌}
+use Rattle.std.proofs.Common.{◌≡◌, ◌≢◌, ℕ, zero, suc, ◌-◌, ◌*◌, ◌/◌, ◌%◌, ◌^◌, ◌<◌, ◌≤◌, Bool, true, List, [], ◌∷◌, ◌++◌, length, refl, sym, ap, ◌∙◌, subst, arith, bit_and, lit<, ℤ, pos, negsuc, ◌≤ℤ◌}
 use Rattle.std.specs.Prelude.{bit_or, bit_xor}
 use lib.Dec.{T_prop}
 use lib.Signed.{le_z}
@@ -13,12 +13,12 @@ use Rattle.rv_base.specs.IrType.{bits_of}
 use Rattle.rv_base.specs.Regs.{number_of}
 use Rattle.rv_imms.specs.declared.imm12.Imm12.{Imm12}
 use Rattle.rv_machine.specs.State.{Values, AreValues, reg, set_reg, wrap}
-use Rattle.rv_ops.specs.declared.alu.AluOPRRR.TheVariants.{And, Or, Sll}
+use Rattle.rv_ops.specs.declared.alu.AluOPRRR.TheVariants.{And, Sll}
 use Rattle.rv_inst.specs.declared.inst.Inst.{Inst}
 use Rattle.rv_inst.specs.declared.inst.Inst.TheVariants.{AluRRR}
 use Rattle.rv_inst.specs.Bits.{extended}
 use Rattle.rv_inst.specs.Classes.{is_int_type}
-use Rattle.rv_inst.specs.Fields.{without_part, with_part, mask_insts, extract_insts, unset_insts, set_insts, merge_insts, not_of, part_start, SetsRegisterTo, SetsRegisterBy, IsNoneOf, Extracts, Unsets, Sets, Merges}
+use Rattle.rv_inst.specs.Fields.{without_part, with_part, mask_insts, extract_insts, unset_insts, set_insts, merge_insts, not_of, part_start, SetsRegisterBy, IsNoneOf, Extracts, Unsets, Sets, Merges}
 use Rattle.rv_inst.specs.Meaning.{Environment, Next, inst_effect}
 use Rattle.rv_inst.specs.Sequences.{insts_effect, insts_exit, SetsRegister}
 use Rattle.rv_inst.proofs.Parts.{complemented, part_cleared, part_put}

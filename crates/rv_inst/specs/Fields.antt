@@ -1,5 +1,5 @@
--- A part of a register, so many bits from a bit on that another register gives: the instructions that take it out, clear it and put it, and
--- what they leave.
+-- A part of a register, so many bits from a bit on that another register gives: the instructions that take it out, clear it and put other
+-- bits there, and what they leave.
 use Rattle.std.specs.Prelude.{◌≡◌, ◌≢◌, ℕ, ◌+◌, ◌*◌, ◌/◌, ◌%◌, ◌^◌, ◌<◌, ◌==◌, Bool, false, if◌then◌else◌, List, [], ◌∷◌, ◌++◌, length, bit_or, pos, negsuc}
 use lib.Signed.{le_z_yes}
 use Rattle.rv_base.specs.declared.ir_type.IrType.{IrType}
@@ -36,7 +36,7 @@ minus_one = record { value = negsuc 0; low = le_z_yes tt; high = le_z_yes tt }
 abbrev pub byte_mask : Imm12
 byte_mask = record { value = pos 255; low = le_z_yes tt; high = le_z_yes tt }
 
--- every bit the other
+-- each bit inverted
 abbrev pub not_of : Writable Reg → Reg → Inst
 not_of rd rs = AluRRImm12 Xori rd rs minus_one
 
@@ -44,7 +44,7 @@ not_of rd rs = AluRRImm12 Xori rd rs minus_one
 abbrev pub extend_of : Bool → IrType → Writable Reg → Reg → Inst
 extend_of signed ty rd rn = Extend rd rn signed (bits_of ty) 64
 
--- as many ones in the low bits as a type has: -1, or 255 of 8 bits, and of 16 and 32 its low bits
+-- as many ones as a type has bits: 255 for 8 bits, and else -1, of which only the low bits are taken for less than 64
 abbrev pub mask_insts : Writable Reg → IrType → List Inst
 mask_insts rd ty =
     if bits_of ty == 8 then addi_of rd zero_register byte_mask ∷
@@ -69,19 +69,19 @@ merge_insts rd tmp offset rs ty = unset_insts rd tmp offset ty ++ set_insts rd t
 abbrev pub part_start : Reg → Values → ℕ
 part_start offset v = reg v (number_of offset) % 64
 
--- Whatever registers and memory hold, a number of these is put into a register, by its number, and nothing else changes; x0 drops it. Then
--- the next instruction runs.
+-- Whatever the 31 registers and the memory hold, a number that these give is put into a register, by its number, and nothing else changes;
+-- x0 drops it. Then the next instruction runs.
 pub record SetsRegisterTo (insts : List Inst) (register : ℕ) (n : Values → ℕ) : Type 0 where
   pub effect : (at : ℕ → Environment) (v : Values) → length v.regs ≡ 31 → insts_effect at insts v ≡ set_reg v register (n v)
   pub onward : (at : ℕ → Environment) (v : Values) → insts_exit at insts v ≡ Next
 
--- the same, but that a temporary, which that register isn't, is left with some number
+-- The same, where each register and byte is in its range, but that a temporary is left with some number, too.
 pub record SetsRegisterBy (insts : List Inst) (tmp register : ℕ) (n : Values → ℕ) : Type 0 where
   pub left : Values → ℕ
   pub effect : (at : ℕ → Environment) (v : Values) → AreValues v → insts_effect at insts v ≡ set_reg (set_reg v tmp (left v)) register (n v)
   pub onward : (at : ℕ → Environment) (v : Values) → insts_exit at insts v ≡ Next
 
--- a register that may be written while others are still read: it is none of them
+-- a register that is none of these
 abbrev pub IsNoneOf : Reg → List Reg → Type 0
 IsNoneOf r [] = Unit {0}
 IsNoneOf r (other ∷ others) = (number_of r ≢ number_of other) × IsNoneOf r others
@@ -90,21 +90,22 @@ IsNoneOf r (other ∷ others) = (number_of r ≢ number_of other) × IsNoneOf r 
 abbrev pub Extracts : Bool → Writable Reg → Reg → Reg → IrType → List Inst → Type 0
 Extracts signed rd offset rs ty insts = SetsRegisterTo insts (number_of rd.reg) (λ v. extended signed (bits_of ty) (reg v (number_of rs) / 2 ^ part_start offset v))
 
--- it is cleared, as far as the register has it
+-- It is cleared, also where it ends above the register. The temporary is another register than these, and x0.
 abbrev pub Unsets : Writable Reg → Writable Reg → Reg → IrType → List Inst → Type 0
 Unsets rd tmp offset ty insts =
     0 < number_of tmp.reg →
     IsNoneOf tmp.reg (rd.reg ∷ offset ∷ []) →
     SetsRegisterBy insts (number_of tmp.reg) (number_of rd.reg) (λ v. without_part (part_start offset v) (bits_of ty) (reg v (number_of rd.reg)))
 
--- the low bits of a register are put over it, as far as there is room
+-- The low bits of a register are put over it, or'd with what stands there, as many as there is room for below bit 64.
 abbrev pub Sets : Writable Reg → Writable Reg → Reg → Reg → IrType → List Inst → Type 0
 Sets rd tmp offset rs ty insts =
     0 < number_of tmp.reg →
     IsNoneOf tmp.reg (rd.reg ∷ offset ∷ []) →
     SetsRegisterBy insts (number_of tmp.reg) (number_of rd.reg) (λ v. bit_or (reg v (number_of rd.reg)) (wrap (reg v (number_of rs) % 2 ^ bits_of ty * 2 ^ part_start offset v)))
 
--- the low bits of a register are put in its place, as far as there is room
+-- The low bits of a register are put in its place, as many as there is room for. That register and the offset's are still read once the
+-- others are written, and so are none of them.
 abbrev pub Merges : Writable Reg → Writable Reg → Reg → Reg → IrType → List Inst → Type 0
 Merges rd tmp offset rs ty insts =
     0 < number_of tmp.reg →

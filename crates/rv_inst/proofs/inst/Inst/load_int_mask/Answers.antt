@@ -1,7 +1,3 @@
-use Rattle.std.proofs.Common.{◌-◌, ◌^◌, ◌∙◌, sym, subst}
-use Rattle.rv_base.specs.IrType.{bits_of}
-use Rattle.rv_base.specs.Regs.{number_of}
-use Rattle.rv_inst.specs.Sequences.{SetsRegister}
 use Rattle.rv_inst.proofs.RegisterParts.{mask_sets}
 use Rattle.rv_inst.proofs.inst.Inst.load_int_mask.Goals as goal
 

@@ -1,5 +1,3 @@
-use Rattle.std.proofs.Common.{◌∙◌, sym, subst}
-use Rattle.rv_inst.specs.Fields.{Merges}
 use Rattle.rv_inst.proofs.RegisterParts.{merges}
 use Rattle.rv_inst.proofs.inst.Inst.merge.Goals as goal
 

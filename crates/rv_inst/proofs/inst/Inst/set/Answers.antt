@@ -1,5 +1,3 @@
-use Rattle.std.proofs.Common.{◌∙◌, sym, subst}
-use Rattle.rv_inst.specs.Fields.{Sets}
 use Rattle.rv_inst.proofs.RegisterParts.{sets}
 use Rattle.rv_inst.proofs.inst.Inst.set.Goals as goal
 

@@ -1,5 +1,3 @@
-use Rattle.std.proofs.Common.{◌∙◌, sym, subst}
-use Rattle.rv_inst.specs.Fields.{Unsets}
 use Rattle.rv_inst.proofs.RegisterParts.{unsets}
 use Rattle.rv_inst.proofs.inst.Inst.unset.Goals as goal
 
