@@ -14,3 +14,5 @@ pub mod PlainInsts
 pub mod Queues
 pub mod ImmediateSums
 pub mod Sequences
+pub mod Parts
+pub mod RegisterParts

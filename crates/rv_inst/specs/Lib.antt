@@ -10,6 +10,8 @@ pub mod Operands
 pub mod Immediates
 pub mod Generators
 pub mod Sequences
+pub mod Fields
+pub mod Fences
 pub mod Islands
 pub mod LabelUse
 pub mod LabelUseBridges

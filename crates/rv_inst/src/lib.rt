@@ -9,6 +9,8 @@ mod clashes;
 mod code;
 mod context;
 mod error;
+mod fences;
+mod fields;
 mod generators;
 mod inst;
 mod job;
