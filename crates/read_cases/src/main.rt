@@ -2,6 +2,7 @@
 #![tactic(auto)]
 
 mod accesses;
+mod atomics;
 mod calls;
 mod floats;
 mod headers;

@@ -1,7 +1,7 @@
 //! What is asked of a listing, by the ending of a file's name.
 
 use crate::headers::{constants_said, frame_said};
-use crate::{accesses, calls, floats, sequences, symbols, tail_calls};
+use crate::{accesses, atomics, calls, floats, sequences, symbols, tail_calls};
 use rv_base::Reg;
 use rv_inst::{Inst, Job, Line, is_bad_frame_for};
 use rv_listing::{ReadError, read_job, register};
@@ -49,6 +49,9 @@ fn instruction_said(alloc: Global, inst: &Inst) -> Result<String, AllocError> {
         return Ok(text);
     }
     if let Some(text) = floats::said(alloc, inst)? {
+        return Ok(text);
+    }
+    if let Some(text) = atomics::said(alloc, inst)? {
         return Ok(text);
     }
     if let Some(text) = symbols::said(alloc, inst)? {

@@ -164,6 +164,13 @@ fn field_reason(
     }
 }
 
+/// A load-reserved with a source, where each register is of the class that its place asks.
+fn idle_reason(alloc: Global, parts: &Parts<'_>) -> Result<Option<String>, OutOfMemory> {
+    let op = word_named(parts, "OP");
+    let rs = word_named(parts, "rs");
+    Ok(Some(format!(in alloc; "{op} has no source, so rs is zero, and not {rs}")?))
+}
+
 /// Which register of a line has another class than its place asks.
 pub(crate) fn class_reason(alloc: Global, parts: &Parts<'_>) -> Result<String, OutOfMemory> {
     for (field, word) in parts.fields.iter().zip(parts.words.iter()) {
@@ -174,6 +181,7 @@ pub(crate) fn class_reason(alloc: Global, parts: &Parts<'_>) -> Result<String, O
     let inner = match parts.name {
         "Select" => value_reason(alloc, parts)?,
         "Mov" => pair_reason(alloc, word_named(parts, "rd"), word_named(parts, "rm"))?,
+        "Atomic" => idle_reason(alloc, parts)?,
         _ => None,
     };
     match inner {

@@ -49,6 +49,8 @@ pub(crate) enum Kind {
     Float3,
     CsrRegister,
     CsrImmediate,
+    AtomicOperation,
+    Ordering,
     Comparison,
     Cause,
     /// A cause, or `-`.
@@ -111,6 +113,8 @@ const RS: Field = Field("rs", Kind::Register(Access::Read, File::Integer));
 const RS1: Field = Field("rs1", Kind::Register(Access::Read, File::Integer));
 
 const RS2: Field = Field("rs2", Kind::Register(Access::Read, File::Integer));
+
+const ADDR: Field = Field("addr", Kind::Register(Access::Read, File::Integer));
 
 const BASE: Field = Field("base", Kind::Register(Access::Read, File::Integer));
 
@@ -275,6 +279,22 @@ const FORMS: [Form; 52] = [
     Form("Cltz", &[SUM, TMP, STEP, RS, FLAG, TYPE]),
     Form("Brev8", &[RS, TYPE, STEP, TMP, TMP2, RD]),
     Form("StackProbeLoop", &[Field("G", Kind::Size), SIZE, TMP]),
+    Form(
+        "Fence",
+        &[Field("BEFORE", Kind::Bits), Field("AFTER", Kind::Bits)],
+    ),
+    Form("AtomicLoad", &[RD, TYPE, ADDR]),
+    Form("AtomicStore", &[RS, TYPE, ADDR]),
+    Form(
+        "Atomic",
+        &[
+            Field("OP", Kind::AtomicOperation),
+            RD,
+            ADDR,
+            RS,
+            Field("ORDER", Kind::Ordering),
+        ],
+    ),
     Form("TrapIf", &[COMPARISON, RS1, RS2, CAUSE]),
     Form("Udf", &[CAUSE]),
     Form("RawData", &[HEX]),

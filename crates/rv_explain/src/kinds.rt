@@ -9,8 +9,8 @@ use rv_imms::{Imm12, Imm20, UImm5};
 use rv_inst::CondBrTarget;
 use rv_listing::Token;
 use rv_ops::{
-    AluOPRRI, AluOPRRR, CSR, CsrImmOP, CsrRegOP, FRM, FpuOPRR, FpuOPRRR, FpuOPRRRR, FpuOPWidth,
-    LoadOP, StoreOP,
+    AMO, AluOPRRI, AluOPRRR, AtomicOP, CSR, CsrImmOP, CsrRegOP, FRM, FpuOPRR, FpuOPRRR, FpuOPRRRR,
+    FpuOPWidth, LoadOP, StoreOP,
 };
 
 /// Returns whether a word is read as such a token.
@@ -64,6 +64,7 @@ fn is_operation(kind: Kind, w: &str) -> bool {
         Kind::Float3 => is_read::<FpuOPRRRR>(w),
         Kind::CsrRegister => is_read::<CsrRegOP>(w),
         Kind::CsrImmediate => is_read::<CsrImmOP>(w),
+        Kind::AtomicOperation => is_read::<AtomicOP>(w),
         _ => false,
     }
 }
@@ -91,6 +92,7 @@ fn is_named(kind: Kind, w: &str) -> bool {
         Kind::AccessCause => is_read::<MemFlagsData>(w),
         Kind::Width => is_read::<FpuOPWidth>(w),
         Kind::Rounding => is_read::<FRM>(w),
+        Kind::Ordering => is_read::<AMO>(w),
         Kind::Csr => is_read::<CSR>(w),
         Kind::Type => is_read::<IrType>(w),
         Kind::Signedness => w == "s" || w == "u",
@@ -123,7 +125,7 @@ pub(crate) fn takes(kind: Kind, w: &str) -> bool {
 
 /// The form whose operation a word is.
 pub(crate) fn form_of_operation(w: &str) -> Option<&'static str> {
-    const OPERATIONS: [(Kind, &str); 9] = [
+    const OPERATIONS: [(Kind, &str); 10] = [
         (Kind::Alu, "AluRRR"),
         (Kind::AluImmediate, "AluRRImm12"),
         (Kind::LoadOperation, "Load"),
@@ -133,6 +135,7 @@ pub(crate) fn form_of_operation(w: &str) -> Option<&'static str> {
         (Kind::Float3, "FpuRRRR"),
         (Kind::CsrRegister, "CsrReg"),
         (Kind::CsrImmediate, "CsrImm"),
+        (Kind::AtomicOperation, "Atomic"),
     ];
     for (kind, form) in OPERATIONS {
         if is_operation(kind, w) {
@@ -153,7 +156,8 @@ pub(crate) fn has_operations(kind: Kind) -> bool {
         | Kind::Float2
         | Kind::Float3
         | Kind::CsrRegister
-        | Kind::CsrImmediate => true,
+        | Kind::CsrImmediate
+        | Kind::AtomicOperation => true,
         _ => false,
     }
 }
@@ -166,6 +170,7 @@ pub(crate) fn has_near(kind: Kind) -> bool {
         | Kind::Float1
         | Kind::Float2
         | Kind::Float3
+        | Kind::AtomicOperation
         | Kind::Comparison
         | Kind::Cause
         | Kind::AccessCause => true,
@@ -215,6 +220,8 @@ pub(crate) fn described(kind: Kind) -> (&'static str, &'static str) {
         ),
         Kind::CsrRegister => ("operation of CsrReg", "csrrw, csrrs and csrrc are"),
         Kind::CsrImmediate => ("operation of CsrImm", "csrrwi, csrrsi and csrrci are"),
+        Kind::AtomicOperation => ("operation of Atomic", ""),
+        Kind::Ordering => ("ordering", "relax, rel, acq and seqcst are"),
         Kind::Comparison => (
             "comparison",
             "eq, ne, slt, sge, sgt, sle, ult, uge, ugt and ule are",

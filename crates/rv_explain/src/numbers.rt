@@ -93,6 +93,11 @@ pub(crate) fn range_reason(alloc: Global, parts: &Parts<'_>) -> Result<String, O
             let from = word_named(parts, "FROM");
             format!(in alloc; "FROM is {from}; 1 to 64 are taken")?
         }
+        "Fence" => {
+            let before = word_named(parts, "BEFORE");
+            let after = word_named(parts, "AFTER");
+            format!(in alloc; "BEFORE is {before} and AFTER {after}; 0 to 15 are taken")?
+        }
         "AluRRImm12" => match read::<AluOPRRI>(op).and_then(|op| op.shift_limit()) {
             Some(limit) => {
                 let most = limit.saturating_sub(1);

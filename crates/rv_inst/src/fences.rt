@@ -26,12 +26,20 @@ impl Inst {
         ensures { IfOk result (λ text. string_bytes text ≡ accesses_text x) }
     {
         let mut text = String::new(alloc);
-        put_letter(&mut text, x, Inst::FENCE_REQ_I, "i")?;
-        put_letter(&mut text, x, Inst::FENCE_REQ_O, "o")?;
-        put_letter(&mut text, x, Inst::FENCE_REQ_R, "r")?;
-        put_letter(&mut text, x, Inst::FENCE_REQ_W, "w")?;
+        put_accesses(&mut text, x)?;
         Ok(text)
     }
+}
+
+/// Appends the letters of the accesses of a number, as `Inst::fence_req_to_string` gives them.
+pub fn put_accesses(text: &mut String, x: u8) -> Result<(), OutOfMemory>
+    ensures { OnOk result (string_bytes text.new ≡ string_bytes text.old ++ accesses_text x) }
+{
+    put_letter(text, x, Inst::FENCE_REQ_I, "i")?;
+    put_letter(text, x, Inst::FENCE_REQ_O, "o")?;
+    put_letter(text, x, Inst::FENCE_REQ_R, "r")?;
+    put_letter(text, x, Inst::FENCE_REQ_W, "w")?;
+    Ok(())
 }
 
 /// Appends a letter, where the bit is set.

@@ -33,6 +33,7 @@ pub use code::{
 };
 pub use context::Context;
 pub use error::{EmitError, Rule};
+pub use fences::put_accesses;
 pub use generators::{SmallInstVec, gen_moves};
 pub use inst::{Brev8Info, CondBrTarget, CountInfo, Family, Inst, Line, SelectInfo};
 pub use job::Job;

@@ -10,6 +10,12 @@ use Rattle.rv_ops.specs.declared.csr.CsrImmOP.{CsrImmOP}
 use Rattle.rv_ops.specs.declared.csr.CsrImmOP.TheVariants.{CsrRWI}
 use Rattle.rv_ops.specs.declared.csr.CSR.{CSR}
 use Rattle.rv_ops.specs.declared.csr.CSR.TheVariants.{Frm}
+use Rattle.rv_ops.specs.declared.atomic.AMO.{AMO}
+use Rattle.rv_ops.specs.declared.atomic.AMO.TheVariants.{Relax}
+use Rattle.rv_ops.specs.declared.atomic.AtomicOP.{AtomicOP}
+use Rattle.rv_ops.specs.declared.atomic.AtomicOP.TheVariants.{LrW}
+use Rattle.rv_ops.specs.Atomic.{atomic_name}
+use Rattle.rv_listing.specs.Atomics.{amo, amo_name, atomic_op, every_atomic}
 use Rattle.rv_ops.specs.Csr.{csr_reg_name, csr_imm_name, csr_name}
 use Rattle.rv_ops.specs.Fpu.{fpu_rr_listed, fpu_rrrr_listed}
 use Rattle.rv_listing.specs.Csr.{csr_reg, csr_imm, csr}
@@ -38,3 +44,13 @@ csr_imm_found _ = refl
 pub csr_found : (x : CSR) → csr (csr_name x) ≡ Some x
 unfolding csr
 csr_found Frm = refl
+
+pub atomic_found : (x : AtomicOP) → atomic_op (atomic_name x) ≡ Some x
+unfolding atomic_op every_atomic
+atomic_found LrW = refl
+atomic_found _ = refl
+
+pub amo_found : (x : AMO) → amo (amo_name x) ≡ Some x
+unfolding amo
+amo_found Relax = refl
+amo_found _ = refl

@@ -35,6 +35,7 @@ use Rattle.rv_listing.specs.declared.form_names.Form.{Form}
 use Rattle.rv_listing.specs.declared.form_names.Form.TheVariants as forms
 use Rattle.rv_listing.specs.declared.form_names.LoopForm.TheVariants as loops
 use Rattle.rv_listing.specs.declared.form_names.FloatForm.TheVariants as floats
+use Rattle.rv_listing.specs.declared.form_names.AtomicForm.TheVariants as atomics
 use Rattle.rv_listing.specs.Forms.{form_of, form_name, every_form, form_named}
 use Rattle.rv_listing.specs.Operations.{every_rrr, alu_rrr, every_rri, alu_rri, every_load, load_op, every_store, store_op}
 
@@ -151,6 +152,7 @@ unfolding form_named every_form form_of
 form_found forms.Nop0 = refl
 form_found (forms.Loop loops.StackProbeLoop) = refl
 form_found (forms.Float floats.Fli) = refl
+form_found (forms.Atomic atomics.Fence) = refl
 form_found _ = refl
 
 form_hit : (form : Form) → candidate every_form FORM_SLOTS FORM_FACTOR (form_name form) ≡ Some form
@@ -158,6 +160,7 @@ unfolding every_form form_of candidate slot key
 form_hit forms.Nop0 = refl
 form_hit (forms.Loop loops.StackProbeLoop) = refl
 form_hit (forms.Float floats.Fli) = refl
+form_hit (forms.Atomic atomics.Fence) = refl
 form_hit _ = refl
 
 pub form_by_slot : (w : List ℕ) → checked form_name w (candidate every_form FORM_SLOTS FORM_FACTOR w) ≡ form_named w

@@ -23,6 +23,8 @@ use Rattle.rv_listing.specs.declared.form_names.Form.{Form}
 use Rattle.rv_listing.specs.declared.form_names.Form.TheVariants as forms
 use Rattle.rv_listing.specs.declared.form_names.LoopForm.TheVariants as loops
 use Rattle.rv_listing.specs.declared.form_names.FloatForm.TheVariants as floats
+use Rattle.rv_listing.specs.declared.form_names.AtomicForm.TheVariants as atomics
+use Rattle.rv_listing.specs.Atomics.{amo, atomic_op}
 use Rattle.rv_listing.specs.Tokens.{◌>>=◌, natural}
 use Rattle.rv_listing.specs.Fields.{done, ◌⊛◌, no_more, whole}
 use Rattle.rv_listing.specs.Registers.{register}
@@ -135,6 +137,11 @@ form_of (forms.Float floats.FpuRRRR) =
     (codes "FpuRRRR", put (done inst.FpuRRRR ⊛ fpu_rrrr ⊛ fpu_width ⊛ rounding_mode ⊛ writable ⊛ register ⊛ register ⊛ register))
 form_of (forms.Float floats.CsrReg) = (codes "CsrReg", put (done inst.CsrReg ⊛ csr_reg ⊛ writable ⊛ register ⊛ csr))
 form_of (forms.Float floats.CsrImm) = (codes "CsrImm", put (done inst.CsrImm ⊛ csr_imm ⊛ writable ⊛ csr ⊛ uimm5))
+-- those that order what is read and written, or read and write memory atomically
+form_of (forms.Atomic atomics.Fence) = (codes "Fence", put (done inst.Fence ⊛ natural_8 ⊛ natural_8))
+form_of (forms.Atomic atomics.AtomicLoad) = (codes "AtomicLoad", put (done inst.AtomicLoad ⊛ writable ⊛ type_named ⊛ register))
+form_of (forms.Atomic atomics.AtomicStore) = (codes "AtomicStore", put (done inst.AtomicStore ⊛ register ⊛ type_named ⊛ register))
+form_of (forms.Atomic atomics.Atomic) = (codes "Atomic", put (done inst.Atomic ⊛ atomic_op ⊛ writable ⊛ register ⊛ register ⊛ amo))
 -- a label
 form_of forms.Bind = (codes "Bind", whole (done kinds.Bind ⊛ label))
 
@@ -153,7 +160,8 @@ every_form =
     forms.Loop loops.Popcnt ∷ forms.Loop loops.Cltz ∷ forms.Loop loops.Brev8 ∷ forms.Loop loops.StackProbeLoop ∷
     forms.LoadExtNameGot ∷ forms.LoadExtNameNear ∷ forms.LoadExtNameFar ∷ forms.Call ∷ forms.CallInd ∷ forms.ReturnCall ∷ forms.ReturnCallInd ∷
     forms.Float floats.Fli ∷ forms.Float floats.FpuRR ∷ forms.Float floats.FpuRRR ∷ forms.Float floats.FpuRRRR ∷
-    forms.Float floats.CsrReg ∷ forms.Float floats.CsrImm ∷ forms.Bind ∷ []
+    forms.Float floats.CsrReg ∷ forms.Float floats.CsrImm ∷
+    forms.Atomic atomics.Fence ∷ forms.Atomic atomics.AtomicLoad ∷ forms.Atomic atomics.AtomicStore ∷ forms.Atomic atomics.Atomic ∷ forms.Bind ∷ []
 
 -- the form of the lines that begin with this word
 unfoldable pub form_named : List ℕ → Option Form

@@ -22,4 +22,5 @@ pub mod CodeRanges
 pub mod Relocations
 pub mod Report
 pub mod Floats
+pub mod Atomics
 pub mod Csr

@@ -47,6 +47,7 @@ pub enum Form {
     ReturnCall,
     ReturnCallInd,
     Float(FloatForm),
+    Atomic(AtomicForm),
     Bind,
 }
 
@@ -68,6 +69,15 @@ pub enum FloatForm {
     FpuRRRR,
     CsrReg,
     CsrImm,
+}
+
+/// That of a line that orders what is read and written, or reads and writes memory atomically.
+#[derive(Clone, Copy, Debug, PartialEq, Eq)]
+pub enum AtomicForm {
+    Fence,
+    AtomicLoad,
+    AtomicStore,
+    Atomic,
 }
 
 impl Named for Form {
@@ -123,12 +133,16 @@ impl Named for Form {
             Self::Float(FloatForm::FpuRRRR) => "FpuRRRR",
             Self::Float(FloatForm::CsrReg) => "CsrReg",
             Self::Float(FloatForm::CsrImm) => "CsrImm",
+            Self::Atomic(AtomicForm::Fence) => "Fence",
+            Self::Atomic(AtomicForm::AtomicLoad) => "AtomicLoad",
+            Self::Atomic(AtomicForm::AtomicStore) => "AtomicStore",
+            Self::Atomic(AtomicForm::Atomic) => "Atomic",
             Self::Bind => "Bind",
         }
     }
 }
 
-const EVERY_FORM: [Form; 48] = [
+const EVERY_FORM: [Form; 52] = [
     Form::Nop0,
     Form::Nop4,
     Form::EBreak,
@@ -176,23 +190,27 @@ const EVERY_FORM: [Form; 48] = [
     Form::Float(FloatForm::FpuRRRR),
     Form::Float(FloatForm::CsrReg),
     Form::Float(FloatForm::CsrImm),
+    Form::Atomic(AtomicForm::Fence),
+    Form::Atomic(AtomicForm::AtomicLoad),
+    Form::Atomic(AtomicForm::AtomicStore),
+    Form::Atomic(AtomicForm::Atomic),
     Form::Bind,
 ];
 
 /// The indices in `EVERY_FORM` by the names' slots.
 const FORM_SLOTS: [u8; 256] = [
-    0, 0, 0, 0, 0, 0, 0, 11, 0, 3, 43, 0, 0, 0, 46, 0, 0, 0, 0, 0, 0, 0, 0, 0, 40, 0, 0, 0, 0, 47,
-    0, 5, 36, 25, 0, 0, 0, 0, 0, 0, 0, 0, 0, 0, 0, 0, 0, 0, 0, 0, 0, 23, 0, 0, 0, 0, 0, 0, 0, 0, 0,
-    1, 0, 0, 0, 0, 0, 0, 0, 0, 0, 0, 0, 0, 0, 0, 0, 38, 41, 29, 31, 0, 0, 0, 0, 18, 12, 0, 24, 0,
-    0, 45, 0, 0, 0, 0, 0, 0, 0, 0, 0, 0, 0, 0, 0, 0, 21, 0, 0, 0, 0, 0, 0, 42, 0, 0, 0, 0, 0, 0, 0,
-    0, 0, 0, 0, 0, 0, 0, 0, 0, 0, 0, 0, 0, 8, 27, 0, 0, 0, 0, 0, 0, 0, 0, 0, 0, 0, 0, 0, 4, 0, 0,
-    0, 0, 0, 17, 0, 0, 0, 0, 0, 32, 0, 0, 44, 0, 0, 0, 0, 0, 0, 0, 0, 0, 13, 15, 28, 0, 0, 0, 0, 0,
-    0, 0, 6, 35, 0, 0, 0, 0, 39, 0, 10, 0, 19, 0, 0, 26, 0, 0, 0, 0, 0, 0, 30, 0, 0, 0, 33, 16, 20,
-    9, 0, 0, 0, 0, 0, 0, 0, 2, 0, 0, 0, 0, 0, 0, 0, 0, 0, 0, 34, 0, 0, 0, 0, 0, 0, 0, 0, 0, 0, 22,
-    0, 37, 14, 0, 0, 0, 0, 0, 7, 0, 0, 0, 0, 0,
+    0, 0, 0, 0, 0, 0, 9, 0, 0, 0, 0, 0, 0, 0, 13, 0, 20, 0, 0, 0, 0, 0, 48, 0, 27, 0, 0, 0, 39, 0,
+    0, 0, 0, 0, 0, 0, 0, 0, 0, 0, 30, 0, 0, 7, 23, 0, 0, 0, 0, 0, 0, 0, 0, 0, 0, 0, 0, 0, 0, 0, 0,
+    0, 0, 0, 0, 6, 0, 44, 0, 0, 0, 0, 14, 0, 0, 0, 1, 41, 0, 0, 0, 0, 0, 0, 35, 0, 0, 0, 0, 0, 0,
+    18, 0, 0, 3, 32, 0, 0, 0, 0, 0, 28, 0, 5, 0, 0, 0, 40, 0, 0, 0, 2, 51, 43, 0, 0, 0, 31, 0, 0,
+    0, 0, 25, 0, 0, 17, 0, 34, 0, 36, 0, 0, 0, 0, 47, 29, 0, 0, 0, 0, 0, 0, 0, 37, 0, 0, 0, 0, 0,
+    0, 21, 0, 0, 49, 0, 0, 0, 0, 10, 42, 0, 45, 26, 0, 0, 0, 0, 0, 0, 0, 0, 0, 0, 0, 0, 0, 0, 0,
+    24, 0, 0, 0, 0, 0, 8, 0, 0, 0, 0, 0, 0, 11, 0, 0, 0, 0, 15, 0, 0, 0, 0, 0, 0, 0, 0, 0, 0, 0, 0,
+    0, 0, 0, 0, 0, 0, 0, 50, 0, 0, 46, 0, 4, 38, 0, 0, 0, 0, 0, 0, 22, 0, 0, 0, 0, 0, 0, 0, 19, 0,
+    0, 0, 0, 0, 0, 0, 33, 0, 0, 16, 0, 0, 0, 0, 0, 0, 12,
 ];
 
-const FORM_FACTOR: u64 = 3520123815354508619;
+const FORM_FACTOR: u64 = 5528388081189798407;
 
 /// The form of the lines that begin with this word.
 #[tactic(auto, using(crate::proofs::BySlot::form_by_slot), unfolding(crate::specs::Forms::every_form))]

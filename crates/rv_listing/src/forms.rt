@@ -6,6 +6,7 @@ ghost use Rattle.rv_listing.specs.Fields.{Makes};
 ghost use Rattle.rv_listing.specs.Forms.{by_form, line_form};
 ghost use Rattle.rv_listing.specs.declared.form_names.Form.TheVariants as forms;
 
+use crate::atomic_forms::atomic_line;
 use crate::calls::call_info;
 use crate::fields::{LineError, allowed, boxed, flag, next_field, put, whole};
 use crate::float_forms::float_line;
@@ -543,6 +544,7 @@ fn line_of(alloc: Global, form: Form, rest: &[u8]) -> Result<Line, LineError>
         Form::ReturnCall => return_call(alloc, rest),
         Form::ReturnCallInd => return_call_ind(alloc, rest),
         Form::Float(form) => float_line(form, rest),
+        Form::Atomic(form) => atomic_line(form, rest),
         Form::Bind => bind(rest),
     }
 }

@@ -2,6 +2,8 @@
 #![tactic(auto)]
 
 mod addresses;
+mod atomic_forms;
+mod atomics;
 mod calls;
 mod code_report;
 mod comparisons;

@@ -38,6 +38,10 @@ use Rattle.rv_ops.specs.declared.csr.CsrImmOP.TheVariants.{CsrRWI}
 use Rattle.rv_ops.specs.declared.csr.CSR.{CSR}
 use Rattle.rv_ops.specs.declared.csr.CSR.TheVariants.{Frm}
 use Rattle.rv_ops.specs.Csr.{csr_reg_name, csr_imm_name, csr_name}
+use Rattle.rv_inst.specs.Fences.{accesses_text}
+use Rattle.rv_ops.specs.Atomic.{amo_suffix, atomic_name, is_load_reserved}
+use Rattle.rv_ops.specs.declared.atomic.AMO.{AMO}
+use Rattle.rv_ops.specs.declared.atomic.AtomicOP.{AtomicOP}
 use Rattle.rv_ops.specs.FloatFields.{frm_name}
 use Rattle.rv_ops.specs.Fli.{fli_text}
 use Rattle.rv_ops.specs.Fpu.{name_with_width, fpu_rr_name, fpu_rr_shows_frm, fpu_rrr_stem, fpu_rrr_shows_frm, fpu_rrrr_stem}
@@ -51,7 +55,7 @@ use Rattle.rv_inst.specs.declared.inst.CountInfo.{CountInfo}
 use Rattle.rv_inst.specs.declared.inst.Brev8Info.{Brev8Info}
 use Rattle.rv_inst.specs.Rules.{is_zero, same_register}
 use Rattle.rv_inst.specs.declared.inst.Inst.{Inst}
-use Rattle.rv_inst.specs.declared.inst.Inst.TheVariants.{Nop0, Nop4, EBreak, SequencePoint, Args, Rets, DummyUse, Unwind, EmitIsland, RawData, Lui, Auipc, LoadInlineConst, AluRRR, AluRRImm12, Mov, MovFromPReg, Extend, Select, Load, Store, LoadAddr, LabelAddress, Ret, TrapIf, Jal, CondBr, BrTable, Udf, Jalr, Popcnt, Cltz, Brev8, StackProbeLoop, LoadExtNameGot, LoadExtNameNear, LoadExtNameFar, Call, CallInd, ReturnCall, ReturnCallInd, Fli, FpuRR, FpuRRR, FpuRRRR, CsrReg, CsrImm}
+use Rattle.rv_inst.specs.declared.inst.Inst.TheVariants.{Nop0, Nop4, EBreak, SequencePoint, Args, Rets, DummyUse, Unwind, EmitIsland, RawData, Lui, Auipc, LoadInlineConst, AluRRR, AluRRImm12, Mov, MovFromPReg, Extend, Select, Load, Store, LoadAddr, LabelAddress, Ret, TrapIf, Jal, CondBr, BrTable, Udf, Jalr, Popcnt, Cltz, Brev8, StackProbeLoop, LoadExtNameGot, LoadExtNameNear, LoadExtNameFar, Call, CallInd, ReturnCall, ReturnCallInd, Fli, FpuRR, FpuRRR, FpuRRRR, CsrReg, CsrImm, Fence, AtomicLoad, AtomicStore, Atomic}
 use Rattle.rv_text.specs.Operands.{two, three, four, hex, label_text, listed, compare_text, value_text, written, table_text, arg_text, ret_text, use_text, unwind_text, try_text}
 
 -- four bytes or eight as one number, the lowest byte first; others one by one
@@ -129,6 +133,15 @@ sides_text Fallthrough (Label not_taken) = both_text Fallthrough (Label not_take
 abbrev pub count_text : List ℕ → CountInfo → List ℕ
 count_text name c =
     two name (name_of c.sum.reg) (name_of c.rs) ++ codes "##ty=" ++ type_name c.ty ++ codes " tmp=" ++ name_of c.tmp.reg ++ codes " step=" ++ name_of c.step.reg
+
+-- a register, and the address in another one
+abbrev pub typed_access_text : List ℕ → IrType → Reg → Reg → List ℕ
+typed_access_text name type r p = name ++ type_name type ++ codes " " ++ name_of r ++ codes ",(" ++ name_of p ++ codes ")"
+
+-- a load-reserved has no source
+abbrev pub atomic_text : AtomicOP → AMO → Reg → Reg → Reg → List ℕ
+atomic_text op amo rd addr src =
+    atomic_name op ++ amo_suffix amo ++ codes " " ++ name_of rd ++ (if is_load_reserved op then [] else codes "," ++ name_of src) ++ codes ",(" ++ name_of addr ++ codes ")"
 
 abbrev pub zeros_name : Bool → List ℕ
 zeros_name true = codes "clz"
@@ -225,6 +238,9 @@ text_of (Cltz leading info) = count_text (zeros_name leading) info
 text_of (Brev8 info) = brev8_text info
 text_of (StackProbeLoop guard_size probe_count tmp) =
     codes "inline_stack_probe##guard_size=" ++ decimal guard_size ++ codes " probe_count=" ++ decimal probe_count ++ codes " tmp=" ++ name_of tmp.reg
+text_of (Fence pred succ) = codes "fence " ++ accesses_text pred ++ codes "," ++ accesses_text succ
+text_of (AtomicLoad rd type p) = typed_access_text (codes "atomic_load.") type rd.reg p
+text_of (AtomicStore src type p) = typed_access_text (codes "atomic_store.") type src p
 text_of (LoadExtNameGot rd name) = two (codes "load_ext_name_got") (name_of rd.reg) (symbol_text name)
 text_of (LoadExtNameNear rd name offset) = two (codes "load_ext_name_near") (name_of rd.reg) (symbol_text name ++ text_with_sign offset)
 text_of (LoadExtNameFar rd name offset) = two (codes "load_ext_name_far") (name_of rd.reg) (symbol_text name ++ text_with_sign offset)
@@ -240,3 +256,4 @@ text_of (FpuRRR op width frm rd rs1 rs2) = fpu_rrr_text op width frm rd.reg rs1 
 text_of (FpuRRRR op width frm rd rs1 rs2 rs3) = fpu_rrrr_text op width frm rd.reg rs1 rs2 rs3
 text_of (CsrReg op rd rs csr) = csr_reg_text op rd.reg rs csr
 text_of (CsrImm op rd csr imm) = csr_imm_text op rd.reg csr imm
+text_of (Atomic op rd addr src amo) = atomic_text op amo rd.reg addr src

@@ -8,6 +8,7 @@ ghost use Rattle.rv_inst.specs.declared.inst.Family.TheVariants.{Float};
 ghost use Rattle.rv_text.specs.Operands.{three};
 ghost use Rattle.rv_text.specs.Texts.{text_of, mode_text, constant_text, fpu_rr_text, plain_fpu_rrr_text, same_source_text, fpu_rrr_text, fpu_rrrr_text, csr_reg_text, csr_imm_text};
 
+use crate::atomics::put_atomic;
 use crate::operands::{is_zero, same_register};
 use rv_base::{OutOfMemory, Reg};
 use rv_imms::UImm5;
@@ -198,6 +199,13 @@ pub(crate) fn put_float(out: &mut String, inst: &Inst) -> Result<(), OutOfMemory
         } => put_fpu_rrrr(out, *alu_op, *width, *frm, rd.reg, *rs1, *rs2, *rs3),
         Inst::CsrReg { op, rd, rs, csr } => put_csr_reg(out, *op, rd.reg, *rs, *csr),
         Inst::CsrImm { op, rd, csr, imm } => put_csr_imm(out, *op, rd.reg, *csr, *imm),
+        Inst::Atomic {
+            op,
+            rd,
+            addr,
+            src,
+            amo,
+        } => put_atomic(out, *op, *amo, rd.reg, *addr, *src),
         _ => Ok(()),
     }
 }

@@ -2,6 +2,7 @@
 //! other forms of lines (`rv_listing`), and an assembler takes only some of them.
 #![tactic(auto)]
 
+mod atomics;
 mod calls;
 mod control;
 mod floats;

@@ -9,6 +9,7 @@ ghost use Rattle.rv_inst.specs.declared.inst.Family.TheVariants.{Memory};
 ghost use Rattle.rv_text.specs.Operands.{two, label_text};
 ghost use Rattle.rv_text.specs.Texts.{text_of};
 
+use crate::atomics::{put_fence, put_typed_access};
 use rv_base::{AMode, MachLabel, OutOfMemory, Reg};
 use rv_inst::Inst;
 use std::fmt::Write;
@@ -66,6 +67,9 @@ pub(crate) fn put_memory(out: &mut String, inst: &Inst) -> Result<(), OutOfMemor
             probe_count,
             tmp,
         } => put_probe(out, *guard_size, *probe_count, tmp.reg),
+        Inst::Fence { pred, succ } => put_fence(out, *pred, *succ),
+        Inst::AtomicLoad { rd, ty, p } => put_typed_access(out, "atomic_load.", *ty, rd.reg, *p),
+        Inst::AtomicStore { src, ty, p } => put_typed_access(out, "atomic_store.", *ty, *src, *p),
         _ => Ok(()),
     }
 }
