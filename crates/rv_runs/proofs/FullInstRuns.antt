@@ -12,12 +12,12 @@ use Rattle.rv_inst.specs.declared.inst.Inst.TheVariants.{Call, CallInd, Load, Mo
 
 -- An instruction of the integer core means on the machine with all units what it means on integers, with the units as they were.
 
-memory_is_of_integers : (inst : Inst) → not (operands_of inst).floats ≡ true → of_memory AtStart inst ≡ of_integers AtStart (Put inst)
+memory_is_of_integers : (inst : Inst) → not (operands_of inst).leaves_integers ≡ true → of_memory AtStart inst ≡ of_integers AtStart (Put inst)
 memory_is_of_integers (Load rd op flags from) core = ap (λ f. of_access f (λ format. of_float_load format rd.reg from) (of_integers AtStart (Put (Load rd op flags from)))) (no_format (load_format op) (not_true _ core))
 memory_is_of_integers (Store src op flags to) core = ap (λ f. of_access f (λ format. of_float_store format src to) (of_integers AtStart (Put (Store src op flags to)))) (no_format (store_format op) (not_true _ core))
 memory_is_of_integers _ core = refl
 
-integer_is_of_integers : (inst : Inst) → not (operands_of inst).floats ≡ true → of_integer AtStart inst ≡ of_integers AtStart (Put inst)
+integer_is_of_integers : (inst : Inst) → not (operands_of inst).leaves_integers ≡ true → of_integer AtStart inst ≡ of_integers AtStart (Put inst)
 integer_is_of_integers (Mov rd rm type) other = ap (λ c. if c then of_float_move (Mov rd rm type) else of_integers AtStart (Put (Mov rd rm type))) (not_true _ other)
 integer_is_of_integers (Select info) other = ap (λ c. if c then of_choice info else of_integers AtStart (Put (Select info))) (not_true _ other)
 integer_is_of_integers _ other = refl
@@ -38,7 +38,7 @@ call_is env (ReturnCall info) v e core = record { takes = ap (λ (w : FullValues
 call_is env (ReturnCallInd info) v e core = record { takes = ap (λ (w : FullValues). Some (w, [])) (left_integers env.frame (record { stack_arg_size = info.new_stack_arg_size; by_register = true }) info.new_stack_arg_size v core); writes = λ answers. refl }
 call_is env _ v e core = absurd (cc)
 
-family_is : (family : Family) (env : Environment) (inst : Inst) (v : FullValues) → family_of inst ≡ family → is_integer_family family ≡ true → restores_float env.frame (tail_call_of inst) ≡ false → not (operands_of inst).floats ≡ true → IsOfIntegers env inst v
+family_is : (family : Family) (env : Environment) (inst : Inst) (v : FullValues) → family_of inst ≡ family → is_integer_family family ≡ true → restores_float env.frame (tail_call_of inst) ≡ false → not (operands_of inst).leaves_integers ≡ true → IsOfIntegers env inst v
 family_is Integer env inst v e core kept other = as_integers env v (ap (λ f. meaning_by f AtStart inst) e ∙ integer_is_of_integers inst other)
 family_is Memory env inst v e core kept other = as_integers env v (ap (λ f. meaning_by f AtStart inst) e ∙ memory_is_of_integers inst other)
 family_is Calls env inst v e core kept other = call_is env inst v e kept
@@ -48,7 +48,7 @@ family_is family env inst v e core kept other = as_integers env v (ap (λ f. mea
 pub is_of_integers : (env : Environment) (inst : Inst) (v : FullValues) → is_integer_in env.frame inst ≡ true → IsOfIntegers env inst v
 is_of_integers env inst v core =
     let kept = and_parts (not (restores_float env.frame (tail_call_of inst))) (is_integer inst) core in
-    let both = and_parts (is_integer_family (family_of inst)) (not (operands_of inst).floats) kept.1 in
+    let both = and_parts (is_integer_family (family_of inst)) (not (operands_of inst).leaves_integers) kept.1 in
     family_is (family_of inst) env inst v refl both.0 (not_true _ kept.0) both.1
 
 -- An instruction means the same in environments that agree on what it names.
@@ -90,7 +90,7 @@ module _ {e f : Environment} (v : FullValues) where
   integer_same : (entry : Entry) (inst : Inst) → AgreeOn (named_labels (Put inst)) e f → MeansSame (of_integer entry inst) e f v
   integer_same entry (Mov rd rm type) a = either_same (is_float rd.reg) (of_float_move (Mov rd rm type)) (of_integers entry (Put (Mov rd rm type)))
       (record { takes = λ answers. ap (λ o. row_takes (move_row o v) answers) (operation_same (Mov rd rm type) a); writes = λ answers. refl; own = ap (λ o. answers_of (move_row o v)) (operation_same (Mov rd rm type) a) }) (integers_same entry (Mov rd rm type) a)
-  integer_same entry (Select info) a = either_same (operands_of (Select info)).floats (of_choice info) (of_integers entry (Put (Select info))) (record { takes = λ answers. refl; writes = λ answers. refl; own = refl }) (integers_same entry (Select info) a)
+  integer_same entry (Select info) a = either_same (operands_of (Select info)).leaves_integers (of_choice info) (of_integers entry (Put (Select info))) (record { takes = λ answers. refl; writes = λ answers. refl; own = refl }) (integers_same entry (Select info) a)
   integer_same entry inst a = integers_same entry inst a
 
   call_same : (entry : Entry) (inst : Inst) → AgreeOn (named_labels (Put inst)) e f → MeansSame (of_call entry inst) e f v

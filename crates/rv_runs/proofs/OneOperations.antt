@@ -80,7 +80,7 @@ one_slot context setting inst d e =
     (elim (is_integer_family (family_of inst)) as (λ c. is_integer_family (family_of inst) ≡ c → IsAlone (is_integer inst) (parts_of context setting inst) d) [
       | true ↦ λ family. of_integer_family context setting inst d family e
       | false ↦ λ family. let u = is_unit inst family in subst (λ parts. IsAlone (is_integer inst) parts d) (sym (parts_are context setting inst u.word u.is))
-          (after_trap u.word.trap u.word.operation (λ core. let none : false ≡ true = sym (ap (λ c. c && not (operands_of inst).floats) family) ∙ core in absurd (cc)) (sym (λ i. (u.code context i).operation) ∙ e))
+          (after_trap u.word.trap u.word.operation (λ core. let none : false ≡ true = sym (ap (λ c. c && not (operands_of inst).leaves_integers) family) ∙ core in absurd (cc)) (sym (λ i. (u.code context i).operation) ∙ e))
     ]) refl
 
 module _ (site : Site) (start : ℕ) (d : Decoded) where

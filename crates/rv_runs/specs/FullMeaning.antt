@@ -140,7 +140,7 @@ of_memory entry inst = of_integers entry (Put inst)
 -- of the instructions that write integer registers, moves and choices write floating-point registers as well
 abbrev pub of_integer : Entry → Inst → FullMeaning
 of_integer entry (Mov rd rm type) = if is_float rd.reg then of_float_move (Mov rd rm type) else of_integers entry (Put (Mov rd rm type))
-of_integer entry (Select info) = if (operands_of (Select info)).floats then of_choice info else of_integers entry (Put (Select info))
+of_integer entry (Select info) = if (operands_of (Select info)).leaves_integers then of_choice info else of_integers entry (Put (Select info))
 of_integer entry inst = of_integers entry (Put inst)
 
 -- what a call makes of the values: from its start a tail call takes its frame away, and any other does what it does on integers
