@@ -1,5 +1,6 @@
 -- Where pieces stand, the machine does what their evaluation says.
 use Rattle.rv_code.{proofs.Courses.{SetsIn, label_goes, label_load_goes, literal_goes, literal_long, shorter, stands_split, symbol_goes}, proofs.Memories.{load_fits, placed_after, put_values, stored_bytes}}
+use Rattle.rv_ops.specs.Operations.{is_carry_line, is_carry_unary}
 use Rattle.rv_code.{proofs.OperationActs.{rrr_fits, HasSize, rri_acts, rrr_sized, rri_sized, lui_sized, jalr_sized, load_sized, store_sized, jump_acts, window_long, least_even, least_some, short_rrr_does, short_lui_does, short_load_does, short_store_does}, proofs.Registers.are_values_set}
 use Rattle.rv_code.proofs.Steps.{aims_at, istep_here, iter_after, iter_none, iter_one}
 use Rattle.rv_code.proofs.Words.{IsAt, Site, StandsIn, State, Values, ints, load_op, same_Some, set_reg, short_jump, slots_of, store_bytes, store_op, trap_bytes, trap_size, wrap, is_float_load, is_float_store, label_load_slots, act, Action, after, alu_result_fits}
@@ -23,8 +24,8 @@ action_acts flags (Copy width rd rs) s e h is = absurd (cc)
 action_acts flags (Frr op width rd rs) s e h is = absurd (cc)
 action_acts flags (Amo op amo rd addr src) s e h is = absurd (cc)
 action_acts flags (Fence pred succ) s e h is = refl
-action_acts flags (Rrr op rd a b) s e h is = (short_rrr_does flags op rd a b).acts s is.values
-action_acts flags (Rri op rd rs imm) s e h is = rri_acts flags op rd rs imm s h.1 is
+action_acts flags (Rrr op rd a b) s e h is = (short_rrr_does flags op rd a b (not_true (is_carry_line op b) e)).acts s is.values
+action_acts flags (Rri op rd rs imm) s e h is = rri_acts flags op rd rs imm s (not_true (is_carry_unary op) e) h.1 is
 action_acts flags (Lui rd imm) s e h is = (short_lui_does flags rd imm).acts s is.values
 action_acts flags (Load op rd base offset) s e h is = (short_load_does flags op rd base offset (not_true (is_float_load op) e)).acts s is.values
 action_acts flags (Store op base src offset) s e h is = (short_store_does flags op base src offset (not_true (is_float_store op) e)).acts s is.values

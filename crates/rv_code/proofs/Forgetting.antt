@@ -1,8 +1,8 @@
 -- Which operations, pieces and slots forget the vector unit's setting: none does by its actions, so it is a matter of jumps and calls.
 use Rattle.{rv_base.specs.declared.flags.IsaFlags.IsaFlags, rv_code.{proofs.OperationActs.{short_load_either, short_store_either}, proofs.Registers.or_true, specs.Forgetting.{forgets, op_forgets, slot_forgets}, specs.Operations.{decoded_jump, short_jump}, specs.Pieces.{Action, Branch, Constant, Do, Go, Jump, LoadFrom, OfSymbol, Piece, Rri, Rrr, Take, Word32, op_of, slots_for, slots_of}, specs.Slots.SlotOf}}
 use Rattle.{rv_encode.specs.Operations.{branch_op, decoded, decoded_rri, decoded_rrr, load_of_format, load_op, load_row, store_of_format, store_op, store_row}, rv_inst.specs.Forms.{chosen, form_lui, form_rri, form_rrr, immediate_form, register_form, zca_rri, zca_rrr}}
-use Rattle.rv_machine.{specs.Layout.compressed, specs.declared.decoding.Decoded.Decoded, specs.declared.ops.AluOp.AluOp, specs.declared.ops.MOp.TheVariants.{Alu, Base}}
-use Rattle.rv_ops.{specs.Compare.branch_of, specs.Memory.{load_format, store_format}, specs.Operations.{ImmediateForm, RegisterForm, is_exchanged, rri_op, rri_operation, rrr_op, rrr_operation}, specs.declared.memory.LoadOP.LoadOP, specs.declared.memory.StoreOP.StoreOP}
+use Rattle.rv_machine.{specs.Layout.compressed, specs.declared.decoding.Decoded.Decoded, specs.declared.ops.AluOp.AluOp, specs.declared.ops.MOp.MOp, specs.declared.ops.MOp.TheVariants.{Alu, Base}}
+use Rattle.rv_ops.{specs.Compare.branch_of, specs.Memory.{load_format, store_format}, specs.Operations.{Computation, ImmediateForm, OfCarry, OfIntegers, RegisterForm, immediate_of, is_carry_line, is_exchanged, kept_bits, row_of, rri_op, rri_operation, rrr_op, rrr_operation, rrr_row}, specs.declared.alu.AluOPRRR.AluOPRRR, specs.declared.memory.LoadOP.LoadOP, specs.declared.memory.StoreOP.StoreOP}
 use Rattle.std.{proofs.Common.{ap, false, pos, refl, rules, true, ◌++◌, ◌||◌, ◌∙◌, ◌≡◌}, proofs.lemmas.List.Folds.list_any-append, specs.List.list_any, specs.Prelude.{Bool, IfSome, List, None, Option, Some, [], if◌then◌else◌, not, ℕ, ℤ, ◌∷◌}}
 use mathlib.Core.Bool.{or-false}
 use Rattle.rv_code.specs.Pieces as piece
@@ -39,11 +39,18 @@ load_stays op bytes = elim (load_format op) as (λ f. op_forgets bytes (load_of_
 store_stays : (op : StoreOP) (bytes : ℕ) → op_forgets bytes (store_row op) ≡ false
 store_stays op bytes = elim (store_format op) as (λ f. op_forgets bytes (store_of_format f (store_op op)) ≡ false) [ None ↦ refl | Some format ↦ refl ]
 
+computed_stays : (does : Computation) (rd rs1 rs2 : ℕ) (imm : ℤ) → Stays (decoded (row_of does) rd rs1 rs2 imm)
+computed_stays (OfIntegers op) rd rs1 rs2 imm = refl
+computed_stays (OfCarry op) rd rs1 rs2 imm = refl
+
+row_stays : (op : AluOPRRR) (source rd rs1 rs2 : ℕ) → Stays (decoded (rrr_row op source) rd rs1 rs2 (pos 0))
+row_stays op source rd rs1 rs2 = either (λ (m : MOp). Stays (decoded m rd rs1 rs2 (pos 0))) (is_carry_line op source) (row_of (rrr_operation op).does) (Alu (rrr_op op)) (computed_stays (rrr_operation op).does rd rs1 rs2 (pos 0)) refl
+
 action_stays : (flags : IsaFlags) (a : Action) → Stays (op_of flags a)
 action_stays flags (Rrr op rd a b) =
     chosen_stays (form_rrr flags op rd a b) (decoded_rrr op rd a b) (picked flags.has_zca (zca_rrr flags op rd a b) None (register_stays flags (rrr_operation op).short (rrr_op op) rd a b) tt)
-    (either Stays (is_exchanged op) (decoded (Alu (rrr_op op)) rd b a (pos 0)) (decoded (Alu (rrr_op op)) rd a b (pos 0)) refl refl)
-action_stays flags (Rri op rd rs imm) = chosen_stays (form_rri flags op rd rs imm) (decoded_rri op rd rs imm) (picked flags.has_zca (zca_rri flags op rd rs imm) None (immediate_stays flags (rri_operation op).short (rri_op op) rd rs imm) tt) refl
+    (either Stays (is_exchanged op) (decoded (rrr_row op b) rd b a (pos 0)) (decoded (rrr_row op b) rd a b (pos 0)) (row_stays op b rd b a) (row_stays op b rd a b))
+action_stays flags (Rri op rd rs imm) = chosen_stays (form_rri flags op rd rs imm) (decoded_rri op rd rs imm) (picked flags.has_zca (zca_rri flags op rd rs imm) None (immediate_stays flags (rri_operation op).short (rri_op op) rd rs imm) tt) (computed_stays (rri_operation op).does rd rs 0 (kept_bits (immediate_of op) imm))
 action_stays flags (piece.Lui rd imm) = chosen_stays (form_lui flags rd imm) _ (search (rules, picked)) refl
 action_stays flags (piece.Load op rd base offset) = short_load_either Stays flags op rd base offset (load_stays op 2) (load_stays op 4)
 action_stays flags (piece.Store op base src offset) = short_store_either Stays flags op base src offset (store_stays op 2) (store_stays op 4)

@@ -8,7 +8,7 @@ use Rattle.rv_code.proofs.Words.{IsBoundIn, IsBoundNear, IsOfSize, Jal20, Jump, 
 use Rattle.rv_code.{proofs.Words.{request_of, right_shift, Rri, RVCJump, same_numbers, select_pieces, SelectInfo, size_of}, specs.Pieces.{Go, Jalr, LoadFrom, Name}, specs.Probes.{probe_pieces, probe_turn}, specs.Sequences.{pieces_by, sequence_pieces, zeros_pieces}, specs.Traps.trap_if_pieces}
 use Rattle.{rv_code.{proofs.Forgetting.{either, pieces_forget, slots_forget}, specs.Forgetting.slot_forgets, specs.InstParts.{parts_of, slots_alone}, specs.Accesses.{atomic_load_pieces, atomic_store_pieces}, specs.declared.state.EmitVState.EmitVState}, rv_inst.specs.Descriptions.{Gives, described, load_for, store_for, facts_in, facts_of, given, most_words, none_is_some, recorded_in, recorded_of}}
 use Rattle.rv_inst.{specs.declared.sequence.Computation.Computation, specs.declared.sequence.Computation.TheVariants.Zeros, specs.declared.sequence.Sequence.Sequence, specs.Limits.sequence_limit, specs.Operands.inst_ways}
-use Rattle.rv_inst.{specs.Records.{Recorded, Nothing, TrapAfter, SlotInParts, AddressInParts, AddressLast}, specs.Sizes.most_bytes, specs.declared.units.Facts.Facts}
+use Rattle.rv_inst.{specs.Records.{Recorded, TrapAfter, SlotInParts, AddressInParts, AddressLast}, specs.Sizes.most_bytes, specs.declared.units.Facts.Facts}
 use Rattle.rv_inst.specs.declared.inst.Inst.TheVariants.{AtomicLoad, AtomicStore, Auipc, Extend, Fence, LabelAddress, LoadExtNameFar, LoadExtNameGot, LoadExtNameNear, LoadInlineConst, Mov, MovFromPReg, Select, StackProbeLoop, TrapIf, Udf}
 use Rattle.std.{proofs.Common.{rules, ◌≡◌, ℕ, ℤ, ◌+◌, ◌≤◌, Bool, true, false, nat_eq, [], ◌∷◌, List, length, Option, Some, None, is_some, unwrap_or, zero, ◌&&◌, arith, refl, lit≤, sym, subst, ap, lit<, suc, ◌*◌, ◌<◌, ◌++◌, map, pos, ◌∙◌, ◌-◌, if◌then◌else◌, ⊎_elim, ◌%◌, ◌^◌, inl, inr, ◌⊎◌}, proofs.lemmas.Option.same_Some, specs.List.list_any, specs.Prelude.{not, ◌==◌, ◌||◌}}
 use Rattle.rv_code.specs.Pieces as piece

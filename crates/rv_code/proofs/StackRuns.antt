@@ -4,7 +4,7 @@ use Rattle.rv_code.{proofs.Reaching.{IsLoaded, Reaches, based_keeps, load_reache
 use Rattle.rv_code.proofs.Words.{Add, Addi, append-nil, AreInRange, AreValues, Based, byte, GoNowhere, is_among, is_float_load, is_near, IsaFlags, Piece, Do, Rri, Rrr, number_pieces, ints, load_line_slots, load_op, load_result, loaded, LoadOP, low64, nat_tests, or_parts}
 use Rattle.rv_code.{proofs.Words.{reg, SameBut, set_reg, Site, size_of, slots_of, stack_load_slots, stack_loaded, stack_step_slots, StackLoad, StandsIn, State, Values, wrap}, specs.Accesses.{half_load_pieces, load_pieces, load_line_pieces, stack_load_pieces, stack_step_pieces, far_step_pieces}}
 use Rattle.rv_code.{specs.Evaluation.point, specs.InstRuns.environment, specs.Pieces.Load}
-use Rattle.std.proofs.Common.{◌≡◌, ◌≢◌, ℕ, zero, suc, ◌+◌, ◌^◌, ◌<◌, ◌≤◌, true, false, List, [], ◌∷◌, arith, refl, sym, ap, subst, ◌∙◌, ◌==◌, Bool, ℤ, ◌++◌, None, lit<, lit≤, eqb-true, if◌then◌else◌, nat_eq, append_assoc}
+use Rattle.std.proofs.Common.{◌≡◌, ◌≢◌, ℕ, zero, suc, ◌+◌, ◌^◌, ◌<◌, true, false, List, [], ◌∷◌, arith, refl, sym, ap, subst, ◌∙◌, ◌==◌, Bool, ℤ, ◌++◌, None, lit<, lit≤, eqb-true, if◌then◌else◌, nat_eq, append_assoc}
 
 -- so it keeps its value
 pub one_other : (op : LoadOP) (rd a n : ℕ) (v : Values) → rd ≢ n → reg (loaded op rd a v) n ≡ reg v n

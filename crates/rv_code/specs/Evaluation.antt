@@ -12,6 +12,7 @@ use Rattle.rv_inst.specs.Meaning.{Environment, symbol_at, alu_rrr, alu_rri, put_
 use Rattle.rv_code.specs.Chains.{IsAt}
 use Rattle.rv_base.specs.declared.label.MachLabel.{MachLabel}
 use Rattle.rv_ops.specs.declared.memory.LoadOP.{LoadOP}
+use Rattle.rv_ops.specs.Operations.{is_carry_line, is_carry_unary}
 use Rattle.rv_ops.specs.declared.memory.LoadOP.TheVariants.{Ld}
 use Rattle.rv_code.specs.InstRuns.{environment}
 use Rattle.rv_code.specs.Pieces.{Action, Rrr, Rri, Lui, Load, Store, Copy, Frr, Fence, Amo, Literal, Word32, Word64, NameAddress, Distant, OfLabel, OfSymbol, Piece, Do, Constant, Take, LoadFrom, Note, Name, Branch, Jump, New, Bind, Go, Call, Jalr, Trap, after, slots_of, pieces_size, AreInRange, GoNowhere}
@@ -26,8 +27,8 @@ address v base offset = wrap (reg v base + low64 offset)
 
 -- whether an operation is one of integers; of any other the machine with all units alone says what it does
 abbrev pub is_of_integers : Action → Bool
-is_of_integers (Rrr op rd a b) = true
-is_of_integers (Rri op rd rs imm) = true
+is_of_integers (Rrr op rd a b) = not (is_carry_line op b)
+is_of_integers (Rri op rd rs imm) = not (is_carry_unary op)
 is_of_integers (Lui rd imm) = true
 is_of_integers (Load op rd base offset) = not (is_float_load op)
 is_of_integers (Store op base src offset) = not (is_float_store op)

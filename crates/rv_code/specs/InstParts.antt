@@ -15,7 +15,6 @@ use Rattle.rv_base.specs.Regs.{class_of, number_of}
 use Rattle.rv_base.specs.declared.ir_type.IrType.TheVariants.{I64}
 use Rattle.rv_base.specs.declared.regs.RegClass.TheVariants.{Int}
 use Rattle.rv_ops.specs.declared.memory.LoadOP.{LoadOP}
-use Rattle.rv_ops.specs.declared.memory.LoadOP.TheVariants as loads
 use Rattle.rv_ops.specs.declared.memory.StoreOP.{StoreOP}
 use Rattle.rv_ops.specs.declared.float_fields.FpuOPWidth.TheVariants.{S}
 use Rattle.rv_ops.specs.declared.float_fields.FRM.TheVariants.{RNE}

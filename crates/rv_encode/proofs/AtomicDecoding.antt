@@ -1,7 +1,6 @@
 -- Words with the fields of an atomic operation, or of a fence, are decoded as it, whatever the flags.
-use Rattle.std.proofs.Common.{◌≡◌, ℕ, ◌+◌, ◌*◌, ◌/◌, ◌%◌, ◌^◌, ◌<◌, ◌==◌, ◌&&◌, if◌then◌else◌, Bool, true, pos, Option, Some, None, refl, ap, lit<, ◌∙◌, arith}
+use Rattle.std.proofs.Common.{◌≡◌, ℕ, ◌+◌, ◌*◌, ◌/◌, ◌%◌, ◌^◌, ◌<◌, ◌==◌, ◌&&◌, if◌then◌else◌, true, pos, Option, Some, None, refl, ap, lit<, ◌∙◌, arith}
 use Rattle.std.specs.Option.{option_and_then}
-use Rattle.std.proofs.lemmas.Bool.Decides.{nat_tests}
 use Rattle.rv_base.specs.declared.flags.IsaFlags.{IsaFlags}
 use Rattle.rv_ops.specs.declared.atomic.AMO.{AMO}
 use Rattle.rv_ops.specs.declared.atomic.AMO.TheVariants.{Relax, Release, Acquire, SeqCst}
@@ -15,10 +14,10 @@ use Rattle.rv_machine.specs.declared.ops.AtomicWidth.TheVariants as width
 use Rattle.rv_machine.specs.declared.ops.BaseOp.TheVariants.{Fence}
 use Rattle.rv_machine.specs.declared.ops.MOp.TheVariants.{Base, Atomic}
 use Rattle.rv_machine.specs.Opcodes.{AMO as AMO_NUMBER, MISC_MEM}
-use Rattle.rv_machine.specs.Layout.{bits, word_rd, word_rs1, word_rs2, word_funct3, word_funct5, word_funct7, word_fmt, i_bits, fence_layout}
+use Rattle.rv_machine.specs.Layout.{bits, word_funct5, word_funct7, word_fmt}
 use Rattle.rv_machine.specs.UnitTables.{atomic_entry, atomic_width_entry}
-use Rattle.rv_machine.specs.UnitDecode.{only, is_source, atomic_of, decode_amo}
-use Rattle.rv_machine.specs.Decode.{decode, decode_misc_mem}
+use Rattle.rv_machine.specs.UnitDecode.{only, is_source, decode_amo}
+use Rattle.rv_machine.specs.Decode.{decode}
 use Rattle.rv_encode.specs.Layouts.{IsIType, IsRType}
 use Rattle.rv_encode.specs.Operations.{decoded, decoded_atomic, decoded_fence}
 use Rattle.rv_encode.proofs.Decoding.{opcode_decodes}

@@ -1,6 +1,6 @@
 -- A word with the fixed fields of an operation, and any registers and immediate, is decoded as that operation with them; and the fields
 -- of a layout are all of a word.
-use Rattle.std.proofs.Common.{◌≡◌, ℕ, ◌^◌, ◌<◌, ◌==◌, if◌then◌else◌, Bool, true, false, ℤ, pos, Option, Some, None, refl, ap, ◌∙◌, arith}
+use Rattle.std.proofs.Common.{◌≡◌, ℕ, ◌^◌, ◌<◌, ◌==◌, if◌then◌else◌, Bool, true, false, Option, Some, None, refl, ap, ◌∙◌, arith}
 use Rattle.std.specs.Option.{option_map}
 use Rattle.std.proofs.lemmas.Bool.{eqb-true}
 use Rattle.std.proofs.lemmas.Int.{ints}
@@ -16,47 +16,19 @@ use Rattle.rv_machine.specs.declared.ops.MOp.{MOp}
 use Rattle.rv_machine.specs.declared.ops.MOp.TheVariants.{Base, Load, Store, Alu}
 use Rattle.rv_machine.specs.declared.ops.BaseOp.TheVariants as base
 use Rattle.rv_machine.specs.State.{signed}
-use Rattle.rv_machine.specs.Opcodes.{JALR, LOAD, STORE, OP_IMM, OP_IMM_32, OP, OP_32}
+use Rattle.rv_machine.specs.Opcodes.{JALR, LOAD, STORE, OP_IMM, OP_IMM_32}
 use Rattle.rv_machine.specs.Layout.{s_bits, s_imm}
-use Rattle.rv_machine.specs.Tables.{load_entry, store_entry, imm_entry, imm_32_entry, op_entry, op_32_entry}
+use Rattle.rv_machine.specs.Tables.{load_entry, store_entry, imm_entry, imm_32_entry}
 use Rattle.rv_machine.specs.Decode.{or_else, decode}
 use Rattle.rv_encode.specs.Layouts.{IsRType, IsIType, IsSType}
-use Rattle.rv_encode.specs.Operations.{decoded, r_op, i_op, s_op, IsRowOfRRI, decoded_rri, has_load, has_store, decoded_load, decoded_store}
+use Rattle.rv_encode.specs.Operations.{decoded, i_op, s_op, IsRowOfRRI, decoded_rri, has_load, has_store, decoded_load, decoded_store}
 use Rattle.rv_encode.proofs.Numbers.{signed-low_bits}
 use Rattle.rv_encode.proofs.Decoding.{opcode_decodes, i_imm_is, rri_decodes}
+use Rattle.rv_encode.proofs.RegisterDecoding.{entry}
 use Rattle.rv_encode.proofs.MemoryDecoding.{load_decodes, store_decodes}
-
--- an entry of a table, which stands before all that follow it
-entry : {A : Type 0} (family : A → MOp) (found : Option A) (op : MOp) (rd rs1 rs2 : ℕ) (imm : ℤ) → option_map family found ≡ Some op → option_map (λ a. decoded (family a) rd rs1 rs2 imm) found ≡ Some (decoded op rd rs1 rs2 imm)
-entry family (Some a) op rd rs1 rs2 imm is = ap (option_map (λ m. decoded m rd rs1 rs2 imm)) is
-entry family None op rd rs1 rs2 imm is = absurd (cc)
 
 first : (o rest : Option Decoded) (d : Decoded) → o ≡ Some d → or_else o rest ≡ Some d
 first o rest d is = ap (λ o. or_else o rest) is
-
--- ---- layout R
-
-pub r_decodes : (flags : IsaFlags) (op : MOp) (w opcode rd funct3 rs1 rs2 funct7 : ℕ) → r_op opcode funct3 funct7 ≡ Some op → IsRType w opcode rd funct3 rs1 rs2 funct7 → decode flags w ≡ Some (decoded op rd rs1 rs2 (pos 0))
-r_decodes flags op w opcode rd funct3 rs1 rs2 funct7 is h = on (opcode == OP) refl is
-  where
-    of_op : opcode ≡ OP → option_map Alu (op_entry funct7 funct3) ≡ Some op → decode flags w ≡ Some (decoded op rd rs1 rs2 (pos 0))
-    of_op this is =
-        opcode_decodes flags w OP (h.opcode_is ∙ this) refl
-        ((λ i. option_map (λ a. decoded (Alu a) (h.rd_is i) (h.rs1_is i) (h.rs2_is i) (pos 0)) (op_entry (h.funct7_is i) (h.funct3_is i))) ∙ entry Alu (op_entry funct7 funct3) op rd rs1 rs2 (pos 0) is)
-
-    of_op_32 : opcode ≡ OP_32 → option_map Alu (op_32_entry funct7 funct3) ≡ Some op → decode flags w ≡ Some (decoded op rd rs1 rs2 (pos 0))
-    of_op_32 this is =
-        opcode_decodes flags w OP_32 (h.opcode_is ∙ this) refl
-        (first _ _ (decoded op rd rs1 rs2 (pos 0))
-        ((λ i. option_map (λ a. decoded (Alu a) (h.rd_is i) (h.rs1_is i) (h.rs2_is i) (pos 0)) (op_32_entry (h.funct7_is i) (h.funct3_is i))) ∙ entry Alu (op_32_entry funct7 funct3) op rd rs1 rs2 (pos 0) is))
-
-    on_32 : (b : Bool) → (opcode == OP_32) ≡ b → (if b then option_map Alu (op_32_entry funct7 funct3) else None) ≡ Some op → decode flags w ≡ Some (decoded op rd rs1 rs2 (pos 0))
-    on_32 true this is = of_op_32 (eqb-true opcode OP_32 this) is
-    on_32 false this is = absurd (cc)
-
-    on : (b : Bool) → (opcode == OP) ≡ b → (if b then option_map Alu (op_entry funct7 funct3) else (if opcode == OP_32 then option_map Alu (op_32_entry funct7 funct3) else None)) ≡ Some op → decode flags w ≡ Some (decoded op rd rs1 rs2 (pos 0))
-    on true this is = of_op (eqb-true opcode OP this) is
-    on false this is = on_32 (opcode == OP_32) refl is
 
 -- ---- layout I
 

@@ -1,5 +1,5 @@
 -- Words with the fields of an operation are decoded as it, whatever the flags.
-use Rattle.std.proofs.Common.{◌≡◌, ℕ, ◌%◌, ◌^◌, nat_eq, refl, ◌≤ℤ◌, ◌<ℤ◌, ◌==◌, ◌&&◌, if◌then◌else◌, ℤ, pos, neg_ℤ, Some, None, true, false, ap, ◌∙◌, arith}
+use Rattle.std.proofs.Common.{◌≡◌, ℕ, ◌%◌, ◌^◌, nat_eq, refl, ◌≤ℤ◌, ◌<ℤ◌, ◌==◌, ◌&&◌, if◌then◌else◌, ℤ, pos, neg_ℤ, Some, None, true, ap, ◌∙◌, arith}
 use Rattle.std.specs.Option.{option_map}
 use Rattle.std.proofs.lemmas.Int.{ints}
 use Rattle.rv_base.specs.declared.flags.IsaFlags.{IsaFlags}
@@ -7,49 +7,38 @@ use Rattle.rv_base.specs.Regs.{number_of}
 use Rattle.rv_imms.specs.declared.imm12.Imm12.{Imm12}
 use Rattle.rv_imms.specs.declared.imm20.Imm20.{Imm20}
 use Rattle.rv_imms.specs.Bits.{low_bits}
-use Rattle.rv_ops.specs.declared.alu.AluOPRRR.{AluOPRRR}
-use Rattle.rv_ops.specs.declared.alu.AluOPRRR.TheVariants as rrr
 use Rattle.rv_ops.specs.declared.alu.AluOPRRI.{AluOPRRI}
 use Rattle.rv_ops.specs.declared.alu.AluOPRRI.TheVariants as rri
 use Rattle.rv_ops.specs.declared.compare.IntegerCompare.{IntegerCompare}
-use Rattle.rv_ops.specs.Alu.{rrr_numbers, rri_numbers, imm12_of}
+use Rattle.rv_ops.specs.Alu.{rri_numbers, imm12_of}
 use Rattle.rv_ops.specs.Compare.{funct3_of, branch_of, rs1_of, rs2_of}
-use Rattle.rv_ops.specs.Operations.{is_exchanged}
 use Rattle.rv_machine.specs.declared.decoding.Decoded.{Decoded}
-use Rattle.rv_machine.specs.declared.ops.MOp.TheVariants.{Base}
+use Rattle.rv_machine.specs.declared.ops.MOp.TheVariants.{Base, Carry}
 use Rattle.rv_machine.specs.declared.ops.BaseOp.TheVariants as base
 use Rattle.rv_machine.specs.State.{signed}
 use Rattle.rv_machine.specs.Opcodes.{LUI, AUIPC, JAL, JALR, BRANCH, SYSTEM}
 use Rattle.rv_machine.specs.Layout.{word_opcode, i_bits, i_imm, b_imm, u_bits, u_imm, j_imm, bare_form}
 use Rattle.rv_machine.specs.Tables.{branch_entry}
+use Rattle.rv_machine.specs.UnitTables.{carry_unary_entry}
 use Rattle.rv_machine.specs.Decode.{decode, int_by_opcode}
 use Rattle.rv_machine.proofs.DecodeLaws.{decode_integer, decode_wide}
-use Rattle.rv_encode.specs.Layouts.{IsRType, IsIType, IsBType, IsUType, IsJType}
-use Rattle.rv_encode.specs.Operations.{decoded, decoded_rrr, decoded_rri, decoded_branch}
+use Rattle.rv_encode.specs.Layouts.{IsIType, IsBType, IsUType, IsJType}
+use Rattle.rv_encode.specs.Operations.{decoded, decoded_rri, decoded_branch}
 use Rattle.rv_encode.proofs.Numbers.{signed-low_bits}
-use Rattle.rv_encode.proofs.Tables.{rrr_fields, rri_fields, branch_table}
+use Rattle.rv_encode.proofs.FloatDecoding.{unit_decodes}
+use Rattle.rv_encode.proofs.Tables.{i_at, rri_fields, branch_table}
 
 -- a word whose opcode ends in two bits 1 is decoded by it
 pub opcode_decodes : {d : Decoded} (flags : IsaFlags) (w opcode : ℕ) → word_opcode w ≡ opcode → nat_eq (opcode % 4) 3 ≡ true → int_by_opcode opcode w ≡ Some d → decode flags w ≡ Some d
 opcode_decodes flags w opcode h wide is = decode_integer flags w (decode_wide flags w opcode h wide ∙ is)
 
-rrr_wide : (op : AluOPRRR) → nat_eq ((rrr_numbers op).opcode % 4) 3 ≡ true
-rrr_wide rrr.Add = refl
-rrr_wide _ = refl
-
 rri_wide : (op : AluOPRRI) → nat_eq ((rri_numbers op).opcode % 4) 3 ≡ true
 rri_wide rri.Addi = refl
 rri_wide _ = refl
 
--- an operation of two registers, whose word has them as they are or exchanged
-pub rrr_straight : (flags : IsaFlags) (op : AluOPRRR) (w rd rs1 rs2 : ℕ) → is_exchanged op ≡ false → IsRType w (rrr_numbers op).opcode rd (rrr_numbers op).funct3 rs1 rs2 (rrr_numbers op).funct7 → decode flags w ≡ Some (decoded_rrr op rd rs1 rs2)
-rrr_straight flags op w rd rs1 rs2 straight h = rw straight (opcode_decodes flags w _ h.opcode_is (rrr_wide op) (rrr_fields op w rd rs1 rs2 h))
-
-pub rrr_exchanged : (flags : IsaFlags) (op : AluOPRRR) (w rd rs1 rs2 : ℕ) → is_exchanged op ≡ true → IsRType w (rrr_numbers op).opcode rd (rrr_numbers op).funct3 rs2 rs1 (rrr_numbers op).funct7 → decode flags w ≡ Some (decoded_rrr op rd rs1 rs2)
-rrr_exchanged flags op w rd rs1 rs2 exchanged h = rw exchanged (opcode_decodes flags w _ h.opcode_is (rrr_wide op) (rrr_fields op w rd rs2 rs1 h))
-
 pub rri_decodes : (flags : IsaFlags) (op : AluOPRRI) (w rd rs : ℕ) (imm : Imm12) → IsIType w (rri_numbers op).opcode rd (rri_numbers op).funct3 rs (imm12_of (rri_numbers op).upper (low_bits (2 ^ 12) imm.value)) → decode flags w ≡ Some (decoded_rri op rd rs imm.value)
-rri_decodes flags op w rd rs imm h = opcode_decodes flags w _ h.opcode_is (rri_wide op) (rri_fields op w rd rs imm.value (omega (arith, ints)) (omega (arith, ints)) h)
+rri_decodes flags rri.Brev8 w rd rs imm h = unit_decodes flags w _ h.opcode_is refl (i_at w _ rd _ rs _ h) (λ i. option_map (λ op. decoded (Carry op) (h.rd_is i) (h.rs1_is i) 0 (pos 0)) (carry_unary_entry (h.imm_is i) (h.funct3_is i)))
+rri_decodes flags op w rd rs imm h = opcode_decodes flags w _ h.opcode_is (rri_wide op) (rri_fields op w rd rs imm.value (omega (arith, ints)) (omega (arith, ints)) refl h)
 
 upper_imm : (w : ℕ) (imm : Imm20) → u_bits w ≡ low_bits (2 ^ 20) imm.value → u_imm w ≡ imm.value
 upper_imm w imm h = ap (signed (2 ^ 19)) h ∙ signed-low_bits (2 ^ 19) imm.value (omega (arith, ints)) (omega (arith, ints))

@@ -1,4 +1,5 @@
 pub mod Decoding
+pub mod RegisterDecoding
 pub mod MemoryDecoding
 pub mod Numbers
 pub mod Tables

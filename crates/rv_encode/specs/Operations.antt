@@ -1,6 +1,6 @@
 -- The operations of the machine that instructions are, with their operands.
 use Rattle.std.specs.Prelude.{◌≡◌, ℕ, ◌+◌, ◌*◌, ◌^◌, ◌==◌, if◌then◌else◌, Bool, true, ℤ, pos, Option, Some, None}
-use Rattle.std.specs.Option.{option_map}
+use Rattle.std.specs.Option.{option_map, option_or}
 use Rattle.rv_base.specs.declared.flags.IsaFlags.{IsaFlags}
 use Rattle.rv_base.specs.Regs.{number_of}
 use Rattle.rv_imms.specs.declared.imm12.Imm12.{Imm12}
@@ -30,10 +30,10 @@ use Rattle.rv_ops.specs.Fpu.{fli_funct5, takes_width, with_width}
 use Rattle.rv_ops.specs.Fpu.{fpu_rr_numbers, fpu_rr_op, fpu_rr_widths, fpu_rrr_numbers, fpu_rrr_op, fpu_rrrr_op, fpu_rrrr_opcode}
 use Rattle.rv_ops.specs.Csr.{csr_imm_funct3, csr_imm_op, csr_number, csr_reg_funct3, csr_reg_op}
 use Rattle.rv_ops.specs.Compare.{branch_of, rs1_of, rs2_of}
-use Rattle.rv_ops.specs.Operations.{is_exchanged, rrr_op, rri_op, immediate_of, kept_bits}
+use Rattle.rv_ops.specs.Operations.{is_exchanged, rrr_row, rri_row, immediate_of, kept_bits}
 use Rattle.rv_machine.specs.declared.decoding.Decoded.{Decoded}
 use Rattle.rv_machine.specs.declared.ops.MOp.{MOp}
-use Rattle.rv_machine.specs.declared.ops.MOp.TheVariants.{Base, Load, Store, Alu, Atomic, Csr, FloatLoad, FloatStore, Float}
+use Rattle.rv_machine.specs.declared.ops.MOp.TheVariants.{Base, Load, Store, Alu, Carry, Atomic, Csr, FloatLoad, FloatStore, Float}
 use Rattle.rv_machine.specs.declared.ops.BaseOp.{BaseOp}
 use Rattle.rv_machine.specs.declared.ops.BaseOp.TheVariants as base
 use Rattle.rv_machine.specs.declared.ops.FloatFormat.{FloatFormat}
@@ -43,18 +43,19 @@ use Rattle.rv_machine.specs.declared.ops.LoadOp.TheVariants as load
 use Rattle.rv_machine.specs.declared.ops.StoreOp.{StoreOp}
 use Rattle.rv_machine.specs.Opcodes.{JALR, LOAD, STORE, OP_IMM, OP_IMM_32, OP, OP_32, OP_FP, SYSTEM}
 use Rattle.rv_machine.specs.UnitDecode.{has_format}
-use Rattle.rv_machine.specs.Tables.{load_entry, store_entry, imm_entry, imm_32_entry, op_entry, op_32_entry}
+use Rattle.rv_machine.specs.Tables.{load_entry, store_entry, imm_entry, imm_32_entry, op_entry, op_32_entry, unary_op_32_entry}
+use Rattle.rv_machine.specs.UnitTables.{carry_entry, carry_32_entry}
 pub use Rattle.rv_machine.specs.Layout.{decoded, rounded}
 use Rattle.rv_ops.specs.Memory.{load_format, store_format}
 pub use Rattle.rv_ops.specs.Memory.{store_op}
 
 -- ---- by the fixed fields of a layout
 
--- the operation of layout R with these fields, where they are one's
-abbrev pub r_op : ℕ → ℕ → ℕ → Option MOp
-r_op opcode funct3 funct7 =
-    if opcode == OP then option_map Alu (op_entry funct7 funct3) else
-    if opcode == OP_32 then option_map Alu (op_32_entry funct7 funct3) else
+-- the operation of layout R with these fields, where they are one's; packw of x0 is zext.h, whose twelve highest bits are fixed
+abbrev pub r_op : ℕ → ℕ → ℕ → ℕ → Option MOp
+r_op opcode funct3 rs2 funct7 =
+    if opcode == OP then option_or (option_map Alu (op_entry funct7 funct3)) (option_map Carry (carry_entry funct7 funct3)) else
+    if opcode == OP_32 then option_or (option_map Alu (op_32_entry funct7 funct3)) (if rs2 == 0 then option_map Alu (unary_op_32_entry (funct7 * 2 ^ 5) funct3) else option_map Carry (carry_32_entry funct7 funct3)) else
     None
 
 -- the operation of layout I with these fields whose immediate is a number of twelve bits, where they are one's; shifts and
@@ -124,13 +125,13 @@ pub record IsRowOfCsrImm (op : CsrImmOP) (csr : CSR) (opcode funct3 bits : ℕ) 
 
 -- ---- by an instruction's name
 
--- an operation of two registers; sgt and sgtu have their sources exchanged
+-- an operation of two registers; sgt and sgtu have their sources exchanged, and packw of x0 is zext.h
 abbrev pub decoded_rrr : AluOPRRR → ℕ → ℕ → ℕ → Decoded
-decoded_rrr op rd rs1 rs2 = if is_exchanged op then decoded (Alu (rrr_op op)) rd rs2 rs1 (pos 0) else decoded (Alu (rrr_op op)) rd rs1 rs2 (pos 0)
+decoded_rrr op rd rs1 rs2 = if is_exchanged op then decoded (rrr_row op rs2) rd rs2 rs1 (pos 0) else decoded (rrr_row op rs2) rd rs1 rs2 (pos 0)
 
 -- an operation of a register and an immediate, of which the word keeps what the operation takes
 abbrev pub decoded_rri : AluOPRRI → ℕ → ℕ → ℤ → Decoded
-decoded_rri op rd rs imm = decoded (Alu (rri_op op)) rd rs 0 (kept_bits (immediate_of op) imm)
+decoded_rri op rd rs imm = decoded (rri_row op) rd rs 0 (kept_bits (immediate_of op) imm)
 
 -- the machine's load of an integer register from the same bytes, zero-extended where a floating-point register is loaded
 abbrev pub load_op : LoadOP → LoadOp

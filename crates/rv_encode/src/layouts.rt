@@ -68,7 +68,7 @@ pub fn encode_r_type(
     requires rs2 { IsRealRegister rs2 }
     requires funct7 { funct7 < 2 ^ 7 }
     ensures layout { IsRType result opcode (number_of rd.reg) funct3 (number_of rs1) (number_of rs2) funct7 }
-    ensures decodes { (flags : IsaFlags) (op : MOp) → r_op opcode funct3 funct7 ≡ Some op → decode flags result ≡ Some (decoded op (number_of rd.reg) (number_of rs1) (number_of rs2) (pos 0)) }
+    ensures decodes { (flags : IsaFlags) (op : MOp) → r_op opcode funct3 (number_of rs2) funct7 ≡ Some op → decode flags result ≡ Some (decoded op (number_of rd.reg) (number_of rs1) (number_of rs2) (pos 0)) }
     ensures floats { (flags : IsaFlags) (op : FpuOPRRR) (width : FpuOPWidth) (frm : FRM) → IsRowOfFpuRRR op width frm opcode funct3 funct7 → decode flags result ≡ Some (decoded_fpu_rrr op width frm (number_of rd.reg) (number_of rs1) (number_of rs2)) }
     ensures floats_of_one { (flags : IsaFlags) (op : FpuOPRR) (width : FpuOPWidth) (frm : FRM) → IsRowOfFpuRR op width frm opcode funct3 (number_of rs2) funct7 → decode flags result ≡ Some (decoded_fpu_rr op width frm (number_of rd.reg) (number_of rs1)) }
     ensures fused { (flags : IsaFlags) (op : FpuOPRRRR) (width : FpuOPWidth) (frm : FRM) (rs3 : ℕ) → IsRowOfFpuRRRR op width frm rs3 opcode funct3 funct7 → decode flags result ≡ Some (decoded_fpu_rrrr op width frm (number_of rd.reg) (number_of rs1) (number_of rs2) rs3) }

@@ -232,7 +232,7 @@ product_fits x y (suc n) fits le = xor_lt 128 _ _ (product_fits x y n fits (omeg
 swapped_fits : (n : ℕ) → swap_bytes w64 n < 2 ^ 64
 swapped_fits n = omega arith
 
-carry_fits : (op : CarryOp) (x y : ℕ) → x < 2 ^ 64 → y < 2 ^ 64 → carry_result op x y < 2 ^ 64
+pub carry_fits : (op : CarryOp) (x y : ℕ) → x < 2 ^ 64 → y < 2 ^ 64 → carry_result op x y < 2 ^ 64
 carry_fits Clmul x y hx hy = mod-lt _ (pow_pos 64)
 carry_fits Clmulh x y hx hy = let p = product_fits x y 64 hx (lit≤ tt) in shr_lt 64 64 p
 carry_fits Clmulr x y hx hy = mod-lt _ (pow_pos 64)

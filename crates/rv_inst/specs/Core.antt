@@ -22,9 +22,9 @@ is_integer_family Symbols = true
 is_integer_family Calls = true
 is_integer_family Float = false
 
--- of a family of integers, and no value of a floating-point register is moved
+-- of a family of integers, and neither is a value of a floating-point register moved nor an operation one of Zbc or Zbkb
 abbrev pub is_integer : Inst → Bool
-is_integer inst = is_integer_family (family_of inst) && not (operands_of inst).floats
+is_integer inst = is_integer_family (family_of inst) && not (operands_of inst).leaves_integers
 
 -- whether a tail call restores a floating-point register that its frame saves
 abbrev pub restores_float : FrameLayout → Option TailCall → Bool

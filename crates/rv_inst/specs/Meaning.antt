@@ -34,11 +34,12 @@ use Rattle.rv_machine.specs.Effects.{alu_result}
 
 -- ---- values
 
--- an operation of two registers: the manual's operation of that name, of which sgt and sgtu exchange the sources
+-- an operation of two registers: the manual's operation of that name, of which sgt and sgtu exchange the sources; of Zbc and Zbkb packw of
+-- x0 alone, and of others it means nothing
 abbrev pub alu_rrr : AluOPRRR → ℕ → ℕ → ℕ
 alu_rrr op x y = if is_exchanged op then alu_result (rrr_op op) y x 0 else alu_result (rrr_op op) x y 0
 
--- an operation of a register and an immediate: the manual's operation of that name
+-- an operation of a register and an immediate: the manual's operation of that name; of Zbkb it means nothing
 abbrev pub alu_rri : AluOPRRI → ℕ → ℤ → ℕ
 alu_rri op x n = alu_result (rri_op op) x 0 (low64 n)
 

@@ -26,6 +26,7 @@ use Rattle.rv_base.specs.declared.unwind.UnwindInst.TheVariants.{PushFrameRegs, 
 use Rattle.rv_base.specs.declared.value_regs.ValueRegs.{ValueRegs}
 use Rattle.rv_base.specs.declared.value_regs.ValueRegs.TheVariants.{One, Two}
 use Rattle.rv_ops.specs.Memory.{load_size, is_float_load, is_float_store}
+use Rattle.rv_ops.specs.Operations.{is_carry_line, is_carry_unary}
 use Rattle.mach_uses.specs.Labels.{name_more}
 pub use Rattle.rv_inst.specs.Classes.{is_float_class}
 use Rattle.rv_inst.specs.Forms.{short_jalr}
@@ -117,15 +118,16 @@ loads_float loads = list_any (λ (l : StackLoad). is_float_load l.op) loads
 
 -- What an instruction names: its family; its registers; the labels, or the constant, by what it does with them; the labels of its table, the default
 -- first; and the numbers of its temporaries, beside x30 and x31, which may hold anything after it. Of a call: its results, where control
--- goes after one that ends its block, where one returns, by the flags, and the tail call that it is. Of an instruction that moves values
--- of any class, and of a call: whether it moves, or loads as a result, one of a floating-point register.
+-- goes after one that ends its block, where one returns, by the flags, and the tail call that it is. Of an instruction of a
+-- family of integers: whether it leaves these, as one that moves a value of a floating-point register, or a call that loads one as a result,
+-- or an operation of Zbc or Zbkb.
 pub record Operands : Type 0 where
   pub family : Family
   pub registers : List Reg
   pub targets : Targets
   pub table : List MachLabel
   pub temporaries : List ℕ
-  pub floats : Bool
+  pub leaves_integers : Bool
   pub results : List CallRetPair
   pub try_call : Option TryCallInfo
   pub returns : IsaFlags → Option Return
@@ -139,7 +141,7 @@ only family registers = record {
   targets = Nowhere;
   table = [];
   temporaries = [];
-  floats = false;
+  leaves_integers = false;
   results = [];
   try_call = None;
   returns = λ flags. None;
@@ -166,16 +168,16 @@ operands_of (Unwind inst) = only Pseudo (unwind_registers inst)
 operands_of (EmitIsland needed_space) = only Pseudo []
 operands_of (RawData bytes) = only Pseudo []
 operands_of (Lui rd imm) = only Integer (rd.reg ∷ [])
-operands_of (AluRRR op rd rs1 rs2) = only Integer (rd.reg ∷ rs1 ∷ rs2 ∷ [])
-operands_of (AluRRImm12 op rd rs imm) = only Integer (rd.reg ∷ rs ∷ [])
-operands_of (Mov rd rm type) = record (only Integer (rd.reg ∷ rm ∷ [])) { floats = is_float rd.reg }
+operands_of (AluRRR op rd rs1 rs2) = record (only Integer (rd.reg ∷ rs1 ∷ rs2 ∷ [])) { leaves_integers = is_carry_line op (number_of rs2) }
+operands_of (AluRRImm12 op rd rs imm) = record (only Integer (rd.reg ∷ rs ∷ [])) { leaves_integers = is_carry_unary op }
+operands_of (Mov rd rm type) = record (only Integer (rd.reg ∷ rm ∷ [])) { leaves_integers = is_float rd.reg }
 operands_of (MovFromPReg rd rm) = only Integer (rd.reg ∷ Real rm ∷ [])
 operands_of (Select info) = record (only Integer (written_in info.dst ++ info.condition.rs1 ∷ info.condition.rs2 ∷ all_of info.x ++ all_of info.y)) {
-  floats = list_any is_float (written_in info.dst ++ all_of info.x ++ all_of info.y);
+  leaves_integers = list_any is_float (written_in info.dst ++ all_of info.x ++ all_of info.y);
 }
 operands_of (Load rd op flags from) =
-    record (only Memory (rd.reg ∷ registers_of from)) { targets = address_targets (load_size op) from; floats = is_float_load op }
-operands_of (Store src op flags to) = record (only Memory (src ∷ registers_of to)) { targets = address_targets 0 to; floats = is_float_store op }
+    record (only Memory (rd.reg ∷ registers_of from)) { targets = address_targets (load_size op) from; leaves_integers = is_float_load op }
+operands_of (Store src op flags to) = record (only Memory (src ∷ registers_of to)) { targets = address_targets 0 to; leaves_integers = is_float_store op }
 operands_of (LoadAddr rd mem) = record (only Memory (rd.reg ∷ registers_of mem)) { targets = address_targets 0 mem }
 operands_of Ret = only Control []
 operands_of (Jal label) = record (only Control []) { targets = Jumps label }
@@ -185,13 +187,13 @@ operands_of (BrTable index tmp1 tmp2 targets) =
 operands_of (Udf code) = only Control []
 operands_of (Jalr rd base offset) = only Control (rd.reg ∷ base ∷ [])
 operands_of (Call info) = record (only Calls (use_registers info.uses ++ def_registers info.defs)) {
-  floats = loads_float (loads_unless info.patchable info.defs);
+  leaves_integers = loads_float (loads_unless info.patchable info.defs);
   results = info.defs;
   try_call = info.try_call_info;
   returns = λ flags. returns_at 8 info.callee_pop_size (loads_unless info.patchable info.defs);
 }
 operands_of (CallInd info) = record (only Calls (info.dest ∷ use_registers info.uses ++ def_registers info.defs)) {
-  floats = loads_float (result_loads info.defs);
+  leaves_integers = loads_float (result_loads info.defs);
   results = info.defs;
   try_call = info.try_call_info;
   returns = λ flags. returns_at (short_jalr flags 1 (number_of info.dest) (pos 0)).len info.callee_pop_size (result_loads info.defs);

@@ -1,5 +1,5 @@
 -- Integer operations: their mnemonics, and the fields of their words, as in the manual's chapter "RV32/64G Instruction
--- Set Listings" and those of Zba, Zbb, Zbs and Zicond.
+-- Set Listings" and those of Zba, Zbb, Zbs, Zicond, Zbc and Zbkb.
 use Rattle.std.specs.Prelude.{ℕ, ◌+◌, ◌*◌, ◌%◌, ◌^◌, Option, Some, None, List, codes}
 use Rattle.rv_machine.specs.Opcodes.{OP, OP_32, OP_IMM, OP_IMM_32}
 use Rattle.rv_ops.specs.declared.alu.AluOPRRR.{AluOPRRR}
@@ -78,6 +78,12 @@ rrr_numbers rrr.Sh3adduw = op32 0x10 6
 rrr_numbers rrr.Xnor = op 0x20 4
 rrr_numbers rrr.CzeroEqz = op 0x07 5
 rrr_numbers rrr.CzeroNez = op 0x07 7
+rrr_numbers rrr.Clmul = op 0x05 1
+rrr_numbers rrr.Clmulh = op 0x05 3
+rrr_numbers rrr.Clmulr = op 0x05 2
+rrr_numbers rrr.Pack = op 0x04 4
+rrr_numbers rrr.Packw = op32 0x04 4
+rrr_numbers rrr.Packh = op 0x04 7
 
 abbrev pub rrr_name : AluOPRRR → List ℕ
 rrr_name rrr.Add = codes "add"
@@ -134,6 +140,12 @@ rrr_name rrr.Sh3adduw = codes "sh3add.uw"
 rrr_name rrr.Xnor = codes "xnor"
 rrr_name rrr.CzeroEqz = codes "czero.eqz"
 rrr_name rrr.CzeroNez = codes "czero.nez"
+rrr_name rrr.Clmul = codes "clmul"
+rrr_name rrr.Clmulh = codes "clmulh"
+rrr_name rrr.Clmulr = codes "clmulr"
+rrr_name rrr.Pack = codes "pack"
+rrr_name rrr.Packw = codes "packw"
+rrr_name rrr.Packh = codes "packh"
 
 -- ---- a register and an immediate
 
@@ -192,6 +204,7 @@ rri_numbers rri.Sextb = op_imm 1 (Fixed 0x604)
 rri_numbers rri.Sexth = op_imm 1 (Fixed 0x605)
 rri_numbers rri.Zexth = record { opcode = OP_32; funct3 = 4; upper = Fixed 0x080 }
 rri_numbers rri.Orcb = op_imm 5 (Fixed 0x287)
+rri_numbers rri.Brev8 = op_imm 5 (Fixed 0x687)
 
 abbrev pub funct6_of : Upper → Option ℕ
 funct6_of (Shamt6 f) = Some f
@@ -250,3 +263,4 @@ rri_name rri.Sextb = codes "sext.b"
 rri_name rri.Sexth = codes "sext.h"
 rri_name rri.Zexth = codes "zext.h"
 rri_name rri.Orcb = codes "orc.b"
+rri_name rri.Brev8 = codes "brev8"

@@ -1,5 +1,5 @@
 -- Integer operations: the machine's operation of each, what it takes of its sources or its immediate, and in which way it may stand in sixteen bits.
-use Rattle.std.specs.Prelude.{ℕ, ◌%◌, ◌^◌, ℤ, pos, Bool, true, false, Option, Some, None}
+use Rattle.std.specs.Prelude.{ℕ, ◌%◌, ◌^◌, ◌==◌, ◌&&◌, not, if◌then◌else◌, ℤ, pos, Bool, true, false, Option, Some, None}
 use Rattle.rv_imms.specs.Bits.{low_bits}
 use Rattle.rv_ops.specs.declared.alu.AluOPRRR.{AluOPRRR}
 use Rattle.rv_ops.specs.declared.alu.AluOPRRR.TheVariants as rrr
@@ -10,6 +10,30 @@ use Rattle.rv_machine.specs.declared.ops.AluOp.TheVariants.{Int, Mul, Bit}
 use Rattle.rv_machine.specs.declared.ops.IntOp.TheVariants as int
 use Rattle.rv_machine.specs.declared.ops.MulOp.TheVariants as mul
 use Rattle.rv_machine.specs.declared.ops.BitOp.TheVariants as bit
+use Rattle.rv_machine.specs.declared.ops.CarryOp.{CarryOp}
+use Rattle.rv_machine.specs.declared.ops.CarryOp.TheVariants as carry
+use Rattle.rv_machine.specs.declared.ops.MOp.{MOp}
+use Rattle.rv_machine.specs.declared.ops.MOp.TheVariants.{Alu, Carry}
+
+-- ---- what operations compute
+
+-- an operation of the integer machine, or one of Zbc or Zbkb
+pub data Computation : Type 0 where
+  OfIntegers : AluOp → Computation
+  OfCarry : CarryOp → Computation
+
+abbrev pub row_of : Computation → MOp
+row_of (OfIntegers op) = Alu op
+row_of (OfCarry op) = Carry op
+
+abbrev pub is_of_carry : Computation → Bool
+is_of_carry (OfIntegers op) = false
+is_of_carry (OfCarry op) = true
+
+-- The operation of the integer machine. Of Zbc and Zbkb one line alone has one, which is packw of x0: what others have means nothing.
+abbrev pub integer_op : Computation → AluOp
+integer_op (OfIntegers op) = op
+integer_op (OfCarry op) = Bit bit.ZextH
 
 -- ---- two registers
 
@@ -25,15 +49,18 @@ pub data RegisterForm : Type 0 where
 
 -- the machine's operation, whether it takes the two sources exchanged, and in which way it may stand in sixteen bits
 pub record RegisterOperation : Type 0 where
-  pub op : AluOp
+  pub does : Computation
   pub is_exchanged : Bool
   pub short : Option RegisterForm
 
 abbrev pub straight : AluOp → RegisterOperation
-straight op = record { op = op; is_exchanged = false; short = None }
+straight op = record { does = OfIntegers op; is_exchanged = false; short = None }
 
 abbrev pub exchanged : AluOp → RegisterOperation
-exchanged op = record { op = op; is_exchanged = true; short = None }
+exchanged op = record { does = OfIntegers op; is_exchanged = true; short = None }
+
+abbrev pub of_carry : CarryOp → RegisterOperation
+of_carry op = record { does = OfCarry op; is_exchanged = false; short = None }
 
 -- sgt and sgtu are slt and sltu with the sources exchanged
 abbrev pub rrr_operation : AluOPRRR → RegisterOperation
@@ -91,9 +118,37 @@ rrr_operation rrr.Sh3adduw = straight (Bit bit.Sh3addUw)
 rrr_operation rrr.Xnor = straight (Bit bit.Xnor)
 rrr_operation rrr.CzeroEqz = straight (Int int.CzeroEqz)
 rrr_operation rrr.CzeroNez = straight (Int int.CzeroNez)
+rrr_operation rrr.Clmul = of_carry carry.Clmul
+rrr_operation rrr.Clmulh = of_carry carry.Clmulh
+rrr_operation rrr.Clmulr = of_carry carry.Clmulr
+rrr_operation rrr.Pack = of_carry carry.Pack
+rrr_operation rrr.Packw = of_carry carry.Packw
+rrr_operation rrr.Packh = of_carry carry.Packh
 
 abbrev pub rrr_op : AluOPRRR → AluOp
-rrr_op operation = (rrr_operation operation).op
+rrr_op operation = integer_op (rrr_operation operation).does
+
+-- whether it is one of Zbc or Zbkb
+abbrev pub is_carry : AluOPRRR → Bool
+is_carry operation = is_of_carry (rrr_operation operation).does
+
+abbrev pub is_packw : Computation → Bool
+is_packw (OfIntegers op) = false
+is_packw (OfCarry carry.Clmul) = false
+is_packw (OfCarry carry.Clmulh) = false
+is_packw (OfCarry carry.Clmulr) = false
+is_packw (OfCarry carry.Pack) = false
+is_packw (OfCarry carry.Packh) = false
+is_packw (OfCarry carry.Packw) = true
+is_packw (OfCarry carry.Brev8) = false
+
+-- whether it is one with this second source: packw of x0 is zext.h, which is one of the integer machine
+abbrev pub is_carry_line : AluOPRRR → ℕ → Bool
+is_carry_line operation rs2 = is_carry operation && not (is_packw (rrr_operation operation).does && (rs2 == 0))
+
+-- the machine's operation, with this second source
+abbrev pub rrr_row : AluOPRRR → ℕ → MOp
+rrr_row operation rs2 = if is_carry_line operation rs2 then row_of (rrr_operation operation).does else Alu (rrr_op operation)
 
 abbrev pub is_exchanged : AluOPRRR → Bool
 is_exchanged operation = (rrr_operation operation).is_exchanged
@@ -123,18 +178,21 @@ pub data ImmediateForm : Type 0 where
 
 -- the machine's operation, what it takes of an immediate, and in which way it may stand in sixteen bits
 pub record ImmediateOperation : Type 0 where
-  pub op : AluOp
+  pub does : Computation
   pub immediate : Immediate
   pub short : Option ImmediateForm
 
 abbrev pub whole : AluOp → ImmediateOperation
-whole op = record { op = op; immediate = Whole; short = None }
+whole op = record { does = OfIntegers op; immediate = Whole; short = None }
 
 abbrev pub amount : ℕ → AluOp → ImmediateOperation
-amount bits op = record { op = op; immediate = Amount bits; short = None }
+amount bits op = record { does = OfIntegers op; immediate = Amount bits; short = None }
 
 abbrev pub alone : AluOp → ImmediateOperation
-alone op = record { op = op; immediate = Without; short = None }
+alone op = record { does = OfIntegers op; immediate = Without; short = None }
+
+abbrev pub alone_of_carry : CarryOp → ImmediateOperation
+alone_of_carry op = record { does = OfCarry op; immediate = Without; short = None }
 
 abbrev pub rri_operation : AluOPRRI → ImmediateOperation
 rri_operation rri.Addi = record (whole (Int int.Addi)) { short = Some AddiForm }
@@ -168,9 +226,17 @@ rri_operation rri.Sextb = record (alone (Bit bit.SextB)) { short = Some ExtendFo
 rri_operation rri.Sexth = record (alone (Bit bit.SextH)) { short = Some ExtendForm }
 rri_operation rri.Zexth = record (alone (Bit bit.ZextH)) { short = Some ExtendForm }
 rri_operation rri.Orcb = alone (Bit bit.OrcB)
+rri_operation rri.Brev8 = alone_of_carry carry.Brev8
 
 abbrev pub rri_op : AluOPRRI → AluOp
-rri_op operation = (rri_operation operation).op
+rri_op operation = integer_op (rri_operation operation).does
+
+-- whether it is one of Zbkb
+abbrev pub is_carry_unary : AluOPRRI → Bool
+is_carry_unary operation = is_of_carry (rri_operation operation).does
+
+abbrev pub rri_row : AluOPRRI → MOp
+rri_row operation = row_of (rri_operation operation).does
 
 abbrev pub immediate_of : AluOPRRI → Immediate
 immediate_of operation = (rri_operation operation).immediate

@@ -1,5 +1,5 @@
 //! Integer operations of two registers (R-type), and of a register and an immediate (I-type): those of RV64I, M, Zba, Zbb,
-//! Zbs and Zicond. The fields are those of the manual's chapter "RV32/64G Instruction Set Listings" and of the extensions'
+//! Zbs, Zicond, Zbc and Zbkb. The fields are those of the manual's chapter "RV32/64G Instruction Set Listings" and of the extensions'
 //! own chapters.
 
 use rv_imms::Imm12;
@@ -62,6 +62,12 @@ pub enum AluOPRRR {
     Xnor,
     CzeroEqz,
     CzeroNez,
+    Clmul,
+    Clmulh,
+    Clmulr,
+    Pack,
+    Packw,
+    Packh,
 }
 
 impl AluOPRRR {
@@ -128,6 +134,12 @@ impl AluOPRRR {
             Self::Xnor => "xnor",
             Self::CzeroEqz => "czero.eqz",
             Self::CzeroNez => "czero.nez",
+            Self::Clmul => "clmul",
+            Self::Clmulh => "clmulh",
+            Self::Clmulr => "clmulr",
+            Self::Pack => "pack",
+            Self::Packw => "packw",
+            Self::Packh => "packh",
         }
     }
 
@@ -151,16 +163,24 @@ impl AluOPRRR {
             | Self::Binv
             | Self::Bset
             | Self::Rol
-            | Self::Rolw => 0b001,
-            Self::Slt | Self::Sgt | Self::Mulhsu | Self::Sh1add | Self::Sh1adduw => 0b010,
-            Self::SltU | Self::Sgtu | Self::Mulhu => 0b011,
+            | Self::Rolw
+            | Self::Clmul => 0b001,
+            Self::Slt
+            | Self::Sgt
+            | Self::Mulhsu
+            | Self::Sh1add
+            | Self::Sh1adduw
+            | Self::Clmulr => 0b010,
+            Self::SltU | Self::Sgtu | Self::Mulhu | Self::Clmulh => 0b011,
             Self::Xor
             | Self::Div
             | Self::Divw
             | Self::Min
             | Self::Sh2add
             | Self::Sh2adduw
-            | Self::Xnor => 0b100,
+            | Self::Xnor
+            | Self::Pack
+            | Self::Packw => 0b100,
             Self::Srl
             | Self::Sra
             | Self::Srlw
@@ -179,8 +199,13 @@ impl AluOPRRR {
             | Self::Orn
             | Self::Sh3add
             | Self::Sh3adduw => 0b110,
-            Self::And | Self::RemU | Self::Remuw | Self::Andn | Self::Maxu | Self::CzeroNez =>
-                0b111,
+            Self::And
+            | Self::RemU
+            | Self::Remuw
+            | Self::Andn
+            | Self::Maxu
+            | Self::CzeroNez
+            | Self::Packh => 0b111,
         }
     }
 
@@ -227,7 +252,12 @@ impl AluOPRRR {
             | Self::Sh3add
             | Self::Xnor
             | Self::CzeroEqz
-            | Self::CzeroNez => OP,
+            | Self::CzeroNez
+            | Self::Clmul
+            | Self::Clmulh
+            | Self::Clmulr
+            | Self::Pack
+            | Self::Packh => OP,
             Self::Addw
             | Self::Subw
             | Self::Sllw
@@ -243,7 +273,8 @@ impl AluOPRRR {
             | Self::Rorw
             | Self::Sh1adduw
             | Self::Sh2adduw
-            | Self::Sh3adduw => OP_32,
+            | Self::Sh3adduw
+            | Self::Packw => OP_32,
         }
     }
 
@@ -279,8 +310,14 @@ impl AluOPRRR {
             | Self::Divuw
             | Self::Remw
             | Self::Remuw => 0b0000001,
-            Self::Adduw => 0b0000100,
-            Self::Max | Self::Maxu | Self::Min | Self::Minu => 0b0000101,
+            Self::Adduw | Self::Pack | Self::Packw | Self::Packh => 0b0000100,
+            Self::Max
+            | Self::Maxu
+            | Self::Min
+            | Self::Minu
+            | Self::Clmul
+            | Self::Clmulh
+            | Self::Clmulr => 0b0000101,
             Self::CzeroEqz | Self::CzeroNez => 0b0000111,
             Self::Sh1add
             | Self::Sh1adduw
@@ -339,6 +376,7 @@ pub enum AluOPRRI {
     Sexth,
     Zexth,
     Orcb,
+    Brev8,
 }
 
 impl AluOPRRI {
@@ -383,6 +421,7 @@ impl AluOPRRI {
             Self::Sexth => "sext.h",
             Self::Zexth => "zext.h",
             Self::Orcb => "orc.b",
+            Self::Brev8 => "brev8",
         }
     }
 
@@ -418,7 +457,8 @@ impl AluOPRRI {
             | Self::Rori
             | Self::Roriw
             | Self::Rev8
-            | Self::Orcb => 0b101,
+            | Self::Orcb
+            | Self::Brev8 => 0b101,
             Self::Ori => 0b110,
             Self::Andi => 0b111,
         }
@@ -450,7 +490,8 @@ impl AluOPRRI {
             | Self::Rev8
             | Self::Sextb
             | Self::Sexth
-            | Self::Orcb => OP_IMM,
+            | Self::Orcb
+            | Self::Brev8 => OP_IMM,
             Self::Addiw
             | Self::Slliw
             | Self::SrliW
@@ -504,6 +545,7 @@ impl AluOPRRI {
             Self::Cpop | Self::Cpopw => Some(0b011000000010),
             Self::Sextb => Some(0b011000000100),
             Self::Sexth => Some(0b011000000101),
+            Self::Brev8 => Some(0b011010000111),
             Self::Rev8 => Some(0b011010111000),
             _ => None,
         }

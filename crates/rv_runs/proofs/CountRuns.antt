@@ -1,4 +1,6 @@
 -- The ones and the zeros of a register are counted, bit by bit.
+use Rattle.{rv_code.specs.Pieces.Jump, rv_ops.specs.Operations.is_carry_unary}
+use Rattle.std.proofs.Common.{None}
 use Rattle.rv_code.{proofs.Reaching.{Reaches, goes_on, reaches_such}, proofs.Registers.{Count, Counted, InCount, IsCount, TestsBit, counted, same_beside, source_kept, spare_kept, written}}
 use Rattle.rv_code.{proofs.ZeroNumbers.{counts_on, ends_at, index_of, none_to_count, power_is, power_next, power_of, zeros_all, zeros_few, zeros_left, zeros_more}, specs.InstRuns.environment, specs.Sequences.{count_start, count_down, count_test, ones_pieces, ones_turn, zeros_pieces, zeros_turn}}
 use Rattle.{rv_inst.{specs.Bits.{ones, zeros}, specs.Meaning.Environment, specs.Sizes.bit_shift}, rv_runs.proofs.Exits.{SlotsOut, pieces_out, same_but}}
@@ -66,6 +68,10 @@ places : (leading : Bool) (c : Count) → (after 0 (whole_of leading c) ≡ Some
 places true c = (refl, refl)
 places false c = (refl, refl)
 
+bit_shift_is : (leading : Bool) → is_carry_unary (bit_shift leading) ≡ false
+bit_shift_is true = refl
+bit_shift_is false = refl
+
 -- ---- a turn
 
 -- what stands in a turn after its tests, and from the test of the bit on
@@ -124,8 +130,8 @@ module _ (env : Environment) where
       record { count = 1; values = set_reg w c.sum x; ran = refl; such = search (rules, reads_other, reads_set, count_set, k, h, temporary_set, more) }
 
   -- one bit less is left, another is the next, and a turn begins
-  pub goes_down : {c : Count} {left next count : ℕ} {v : Values} (whole turn : List Piece) (shift : AluOPRRI) (shifted : ℕ) (w : Values) → left < 64 → after 0 whole ≡ Some turn → alu_rri shift next (pos 1) ≡ shifted → IsCount c → InCount c (suc left) next count v w → Reaches env whole (point (count_down shift c.tmp c.step) w) turn (InCount c left shifted count v)
-  goes_down {c} {left} {next} whole turn shift shifted w lt loops is h k =
+  pub goes_down : {c : Count} {left next count : ℕ} {v : Values} (whole turn : List Piece) (shift : AluOPRRI) (shifted : ℕ) (w : Values) → is_carry_unary shift ≡ false → left < 64 → after 0 whole ≡ Some turn → alu_rri shift next (pos 1) ≡ shifted → IsCount c → InCount c (suc left) next count v w → Reaches env whole (point (count_down shift c.tmp c.step) w) turn (InCount c left shifted count v)
+  goes_down {c} {left} {next} whole turn shift shifted w integer lt loops is h k =
       let y = alu_rri Addi (reg w c.step) (negsuc 0) in
       let w1 = set_reg w c.step y in
       let w2 = set_reg w1 c.tmp (alu_rri shift (reg w1 c.tmp) (pos 1)) in
@@ -133,7 +139,7 @@ module _ (env : Environment) where
       record {
         count = 3;
         values = w2;
-        ran = ap (λ o. and_then (to o w2 []) (evaluate env 0 whole)) loops;
+        ran = ap (λ b. and_then (if not b then Some (point (Jump 0 ∷ Bind 1 ∷ []) w2) else None) (evaluate env 1 whole)) integer ∙ ap (λ o. and_then (to o w2 []) (evaluate env 0 whole)) loops;
         such = search (rules, reads_other, reads_set, count_set, k, h, temporary_set, less, (ap (λ n. alu_rri shift n (pos 1)) (reads_other w c.step c.tmp y h.tmp_step ∙ k.holds.tmp) ∙ is));
       }
 
@@ -160,7 +166,7 @@ module _ (env : Environment) where
       let more = ones_more left n in
       goes_on (tests (whole_ones c) (testing_ones c) left w (omega arith) h (subst (λ m. InCount c (suc left) m count v w) (half_power left) k))
       (λ w1 k1. goes_on (bit_of_ones (bit_at n left) w1 (bit_at-lt n left) (pow_pos left) (omega arith) h k1)
-      (λ w2 k2. goes_on (goes_down (whole_ones c) (turn_of_ones c) Srli (2 ^ left / 2) w2 (omega arith) refl refl h k2)
+      (λ w2 k2. goes_on (goes_down (whole_ones c) (turn_of_ones c) Srli (2 ^ left / 2) w2 refl (omega arith) refl refl h k2)
       (λ w3 k3. turns_of_ones left (bit_at n left + count) w3 (omega arith) h (omega arith) k3)))
 
   -- x30 holds the next bit's power or 0: the sequence ends, or the turn goes on
@@ -170,7 +176,7 @@ module _ (env : Environment) where
       let none : 0 * 2 ^ index_of leading c.bits left ≡ 0 = omega arith in
       goes_on (record { count = 1; values = w; ran = ap (λ b. and_then (if not b then to (after 1 whole) w [] else Some (point (counting leading c) w)) (evaluate env 0 whole)) (ap (nat_eq 0) (tested ∙ none)); such = k })
       (λ w1 k1. goes_on (counts_one whole (count_down (bit_shift leading) c.tmp c.step) w1 few h k1)
-      (λ w2 k2. goes_on (goes_down whole (turn_of leading c) (bit_shift leading) (power_of leading c.bits left) w2 (omega arith) (places leading c).0 (power_next leading c.bits left below) h k2)
+      (λ w2 k2. goes_on (goes_down whole (turn_of leading c) (bit_shift leading) (power_of leading c.bits left) w2 (bit_shift_is leading) (omega arith) (places leading c).0 (power_next leading c.bits left below) h k2)
       (λ w3 k3. on refl w3 k3)))
   by_bit {c} {left} {v = v} leading (suc zero) w lt below few h end on tested k =
       record {

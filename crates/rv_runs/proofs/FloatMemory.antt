@@ -1,7 +1,7 @@
 -- Loads and stores of floating-point registers on the machine with all units, those of halves by integer registers, too.
 use Rattle.rv_code.{proofs.Courses.{IsRealAt, address_same}, proofs.LineSlots.{closed_even, line_loaded}, proofs.Memories.{eight_fit, loaded_same, store_same}, proofs.OperationActs.{float_load, float_store, only_halves}, proofs.Reaching.{goes_on, load_ranges, load_reaches}}
 use Rattle.{rv_code.{specs.Accesses.{boxing_pieces, half_load_pieces, half_store_pieces, load_pieces, store_pieces}, specs.InstParts.{moved_to_float, moved_to_integer, store_line_slots}, specs.Pieces.Frr}, rv_full.specs.UnitRows.row_of, rv_machine.specs.Memory.sign_extend}
-use Rattle.{rv_machine.{specs.declared.ops.LoadOp.TheVariants.{Lh as half}, specs.declared.ops.MOp.TheVariants.{FloatLoad, FloatStore}}, rv_ops.{specs.declared.float_fields.FpuOPWidth.TheVariants.{S as single}, specs.declared.fpu_rr.FpuOPRR.TheVariants.FmvFmtX}}
+use Rattle.{rv_machine.{specs.declared.ops.MOp.TheVariants.{FloatLoad, FloatStore}}, rv_ops.{specs.declared.float_fields.FpuOPWidth.TheVariants.{S as single}, specs.declared.fpu_rr.FpuOPRR.TheVariants.FmvFmtX}}
 use Rattle.{rv_ops.{specs.declared.memory.LoadOP.TheVariants.Lh, specs.declared.memory.StoreOP.TheVariants.Sh}, rv_runs.{proofs.Exits.{all_same, same_but, starts_at}, proofs.MemoryRuns.{AreReady, DoesThere, IsBefore, before_values, exact_out, before_last, float_ready, store_out, store_ready}}}
 use Rattle.rv_runs.proofs.UnitRuns.{extended_small, fiter_one, float_set, unit_next_at}
 use Rattle.rv_runs.proofs.Words.{AllByRecursion, AreOutside, AreValues, Based, D, Decoded, Does, Enters, FloatFormat, FullComesOut, slots_of, IsaFlags, FullState, FullValues, H, IsFullState, IsUsableAt, LoadOP, Location, Memory, S, Same, SameBut, Site, State, StoreOP}

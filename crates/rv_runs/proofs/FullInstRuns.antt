@@ -1,25 +1,28 @@
 -- What instructions mean on the machine with all units, and that each runs as it means.
+use Rattle.rv_ops.specs.Operations.{is_carry_line, is_carry_unary}
 use Rattle.{rv_code.{proofs.LineOperands.{full_load_kept, full_store_kept}, proofs.OperationActs.no_format}, rv_inst.{proofs.Meaning.{effect_agrees, load_address_agrees, store_address_agrees, writes_agree}, specs.Environments.AgreeOn, specs.Meaning.{address_of, resumed_by}, specs.Operands.named_labels}}
 use Rattle.{rv_inst.{specs.declared.inst.Family.Family, specs.declared.inst.Family.TheVariants.{Calls, Float, Integer, Memory}}, rv_runs.{proofs.FloatMemory.{line_load, line_store}, proofs.FullCallRuns.{call_starts, ends_at_once, full_leaves, full_resumes, left_integers}}}
-use Rattle.rv_runs.{proofs.FullChoices.full_select, proofs.InstRuns.inst_runs, proofs.OneOperations.{ComesAsMeant, OutAsMeant, move_runs, out_at_end, unit_runs}}
+use Rattle.rv_runs.{proofs.FullChoices.full_select, proofs.InstRuns.inst_runs, proofs.OneOperations.{ComesAsMeant, OutAsMeant, carry_rri_runs, carry_rrr_runs, move_runs, out_at_end, unit_runs}}
 use Rattle.rv_runs.proofs.Words.{AMode, Answer, AreOutside, AtStart, EmitVState, EndsAsMeant, Enters, Environment, Exit, FloatFormat, FullComesOut, FullEnds, FullMeaning, FullState, FullValues, Inst, IsFullState, IsaFlags, LoadOP, MemFlagsData}
 use Rattle.rv_runs.proofs.Words.{Next, PartsStand, Put, Reg, Resumes, Return, SameFull, Site, StoreOP, TailCall, Writable, addresses_from, and_parts, answers_of, code_limit, context_by, environment, family_of, fiter_after}
 use Rattle.rv_runs.proofs.Words.{format_bytes, inst_effect, inst_exit, inst_meaning, inst_rule, inst_temporaries, inst_writes, integer_run, is_bad_frame_for, is_float, is_integer, is_integer_family, is_integer_in, is_unit, keeps, load_format, location_of, meaning_by}
 use Rattle.rv_runs.{proofs.Words.{move_row, not_true, number_of, of_float_move, of_integers, operands_of, operation_of, operation_row, parts_of, put, restores_float, return_of, row_takes, store_format, tail_call_of, to, try_call_of, try_exit, values_of}, specs.Entries.{AtReturn, Entry}}
 use Rattle.rv_runs.{specs.FullInstRuns.{FullyOut, RunsFully, WritesElsewhere}, specs.FullMeaning.{call_returned, call_started, float_loaded, float_stored, full_left, full_resumed, of_access, of_call, of_choice, of_float_load, of_float_store, of_integer, of_memory, of_unit, operation_writes, with_ints}}
 use Rattle.std.{proofs.Common.{Bool, List, None, Option, Some, [], ap, arith, false, if◌then◌else◌, inl, inr, is_some, length, not, refl, subst, sym, true, ℕ, ⊎_elim, ◌%◌, ◌&&◌, ◌+◌, ◌<◌, ◌∙◌, ◌≡◌, ◌≤◌}, proofs.lemmas.Bool.not-false}
-use Rattle.rv_inst.specs.declared.inst.Inst.TheVariants.{Call, CallInd, Load, Mov, Nop0, ReturnCall, ReturnCallInd, Select, Store}
+use Rattle.rv_inst.specs.declared.inst.Inst.TheVariants.{AluRRImm12, AluRRR, Call, CallInd, Load, Mov, Nop0, ReturnCall, ReturnCallInd, Select, Store}
 
 -- An instruction of the integer core means on the machine with all units what it means on integers, with the units as they were.
 
-memory_is_of_integers : (inst : Inst) → not (operands_of inst).floats ≡ true → of_memory AtStart inst ≡ of_integers AtStart (Put inst)
+memory_is_of_integers : (inst : Inst) → not (operands_of inst).leaves_integers ≡ true → of_memory AtStart inst ≡ of_integers AtStart (Put inst)
 memory_is_of_integers (Load rd op flags from) core = ap (λ f. of_access f (λ format. of_float_load format rd.reg from) (of_integers AtStart (Put (Load rd op flags from)))) (no_format (load_format op) (not_true _ core))
 memory_is_of_integers (Store src op flags to) core = ap (λ f. of_access f (λ format. of_float_store format src to) (of_integers AtStart (Put (Store src op flags to)))) (no_format (store_format op) (not_true _ core))
 memory_is_of_integers _ core = refl
 
-integer_is_of_integers : (inst : Inst) → not (operands_of inst).floats ≡ true → of_integer AtStart inst ≡ of_integers AtStart (Put inst)
+integer_is_of_integers : (inst : Inst) → not (operands_of inst).leaves_integers ≡ true → of_integer AtStart inst ≡ of_integers AtStart (Put inst)
 integer_is_of_integers (Mov rd rm type) other = ap (λ c. if c then of_float_move (Mov rd rm type) else of_integers AtStart (Put (Mov rd rm type))) (not_true _ other)
 integer_is_of_integers (Select info) other = ap (λ c. if c then of_choice info else of_integers AtStart (Put (Select info))) (not_true _ other)
+integer_is_of_integers (AluRRR op rd rs1 rs2) other = ap (λ c. if c then of_unit AtStart (AluRRR op rd rs1 rs2) else of_integers AtStart (Put (AluRRR op rd rs1 rs2))) (not_true _ other)
+integer_is_of_integers (AluRRImm12 op rd rs imm) other = ap (λ c. if c then of_unit AtStart (AluRRImm12 op rd rs imm) else of_integers AtStart (Put (AluRRImm12 op rd rs imm))) (not_true _ other)
 integer_is_of_integers _ other = refl
 
 -- what an instruction means from these values is what it means on integers
@@ -38,7 +41,7 @@ call_is env (ReturnCall info) v e core = record { takes = ap (λ (w : FullValues
 call_is env (ReturnCallInd info) v e core = record { takes = ap (λ (w : FullValues). Some (w, [])) (left_integers env.frame (record { stack_arg_size = info.new_stack_arg_size; by_register = true }) info.new_stack_arg_size v core); writes = λ answers. refl }
 call_is env _ v e core = absurd (cc)
 
-family_is : (family : Family) (env : Environment) (inst : Inst) (v : FullValues) → family_of inst ≡ family → is_integer_family family ≡ true → restores_float env.frame (tail_call_of inst) ≡ false → not (operands_of inst).floats ≡ true → IsOfIntegers env inst v
+family_is : (family : Family) (env : Environment) (inst : Inst) (v : FullValues) → family_of inst ≡ family → is_integer_family family ≡ true → restores_float env.frame (tail_call_of inst) ≡ false → not (operands_of inst).leaves_integers ≡ true → IsOfIntegers env inst v
 family_is Integer env inst v e core kept other = as_integers env v (ap (λ f. meaning_by f AtStart inst) e ∙ integer_is_of_integers inst other)
 family_is Memory env inst v e core kept other = as_integers env v (ap (λ f. meaning_by f AtStart inst) e ∙ memory_is_of_integers inst other)
 family_is Calls env inst v e core kept other = call_is env inst v e kept
@@ -48,7 +51,7 @@ family_is family env inst v e core kept other = as_integers env v (ap (λ f. mea
 pub is_of_integers : (env : Environment) (inst : Inst) (v : FullValues) → is_integer_in env.frame inst ≡ true → IsOfIntegers env inst v
 is_of_integers env inst v core =
     let kept = and_parts (not (restores_float env.frame (tail_call_of inst))) (is_integer inst) core in
-    let both = and_parts (is_integer_family (family_of inst)) (not (operands_of inst).floats) kept.1 in
+    let both = and_parts (is_integer_family (family_of inst)) (not (operands_of inst).leaves_integers) kept.1 in
     family_is (family_of inst) env inst v refl both.0 (not_true _ kept.0) both.1
 
 -- An instruction means the same in environments that agree on what it names.
@@ -87,19 +90,21 @@ module _ {e f : Environment} (v : FullValues) where
   operation_same : (inst : Inst) → AgreeOn (named_labels (Put inst)) e f → operation_of (context_by e.flags e.frame []) inst ≡ operation_of (context_by f.flags f.frame []) inst
   operation_same inst a = λ i. operation_of (context_by (a.flags i) (a.frame i) []) inst
 
+  unit_same : (entry : Entry) (inst : Inst) → AgreeOn (named_labels (Put inst)) e f → MeansSame (of_unit entry inst) e f v
+  unit_same AtStart inst a = record { takes = λ answers. ap (λ o. row_takes (operation_row o v) answers) (operation_same inst a); writes = λ answers. ap (λ o. operation_writes o v answers) (operation_same inst a); own = ap (λ o. answers_of (operation_row o v)) (operation_same inst a) }
+  unit_same AtReturn inst a = record { takes = λ answers. refl; writes = λ answers. refl; own = refl }
+
   integer_same : (entry : Entry) (inst : Inst) → AgreeOn (named_labels (Put inst)) e f → MeansSame (of_integer entry inst) e f v
   integer_same entry (Mov rd rm type) a = either_same (is_float rd.reg) (of_float_move (Mov rd rm type)) (of_integers entry (Put (Mov rd rm type)))
       (record { takes = λ answers. ap (λ o. row_takes (move_row o v) answers) (operation_same (Mov rd rm type) a); writes = λ answers. refl; own = ap (λ o. answers_of (move_row o v)) (operation_same (Mov rd rm type) a) }) (integers_same entry (Mov rd rm type) a)
-  integer_same entry (Select info) a = either_same (operands_of (Select info)).floats (of_choice info) (of_integers entry (Put (Select info))) (record { takes = λ answers. refl; writes = λ answers. refl; own = refl }) (integers_same entry (Select info) a)
+  integer_same entry (Select info) a = either_same (operands_of (Select info)).leaves_integers (of_choice info) (of_integers entry (Put (Select info))) (record { takes = λ answers. refl; writes = λ answers. refl; own = refl }) (integers_same entry (Select info) a)
+  integer_same entry (AluRRR op rd rs1 rs2) a = either_same (is_carry_line op (number_of rs2)) (of_unit entry (AluRRR op rd rs1 rs2)) (of_integers entry (Put (AluRRR op rd rs1 rs2))) (unit_same entry (AluRRR op rd rs1 rs2) a) (integers_same entry (AluRRR op rd rs1 rs2) a)
+  integer_same entry (AluRRImm12 op rd rs imm) a = either_same (is_carry_unary op) (of_unit entry (AluRRImm12 op rd rs imm)) (of_integers entry (Put (AluRRImm12 op rd rs imm))) (unit_same entry (AluRRImm12 op rd rs imm) a) (integers_same entry (AluRRImm12 op rd rs imm) a)
   integer_same entry inst a = integers_same entry inst a
 
   call_same : (entry : Entry) (inst : Inst) → AgreeOn (named_labels (Put inst)) e f → MeansSame (of_call entry inst) e f v
   call_same AtStart inst a = record { takes = λ answers. ap (λ w. Some (w, answers)) (elim (tail_call_of inst) as (λ o. call_started e inst o v ≡ call_started f inst o v) [ None ↦ ap (λ w. with_ints w v) (effect_agrees (Put inst) v.ints a) | Some tail ↦ ap (λ frame. full_left frame tail.stack_arg_size v) a.frame ]); writes = λ answers. refl; own = refl }
   call_same AtReturn inst a = record { takes = λ answers. (λ i. Some (call_returned (return_of (a.flags i) inst) v, answers)); writes = λ answers. refl; own = refl }
-
-  unit_same : (entry : Entry) (inst : Inst) → AgreeOn (named_labels (Put inst)) e f → MeansSame (of_unit entry inst) e f v
-  unit_same AtStart inst a = record { takes = λ answers. ap (λ o. row_takes (operation_row o v) answers) (operation_same inst a); writes = λ answers. ap (λ o. operation_writes o v answers) (operation_same inst a); own = ap (λ o. answers_of (operation_row o v)) (operation_same inst a) }
-  unit_same AtReturn inst a = record { takes = λ answers. refl; writes = λ answers. refl; own = refl }
 
   by_family : (family : Family) (entry : Entry) (inst : Inst) → AgreeOn (named_labels (Put inst)) e f → MeansSame (meaning_by family entry inst) e f v
   by_family Integer entry inst a = integer_same entry inst a
@@ -206,6 +211,8 @@ module _ (site : Site) (start after : ℕ) (v : FullValues) (b : FullState) (set
   floating (Store src op flags to) h family other = let f = format_in (store_format op) other in inl (store_out to op flags src f.0 f.1 h)
   floating (Mov rd rm type) h family other = move_runs setting rd rm type h.enters same full (not-false (is_float rd.reg) other) h.clear
   floating (Select info) h family other = inl (exact (Select info) (of_choice info) (ap (λ c. if c then of_choice info else of_integers AtStart (Put (Select info))) (not-false _ other)) (full_select setting info (keeps site.context (Select info) h.rule) h.enters same.units full) refl refl)
+  floating (AluRRR op rd rs1 rs2) h family other = carry_rrr_runs setting op rd rs1 rs2 (not-false (is_carry_line op (number_of rs2)) other) (keeps site.context (AluRRR op rd rs1 rs2) h.rule) h.enters same full h.clear
+  floating (AluRRImm12 op rd rs imm) h family other = carry_rri_runs setting op rd rs imm (not-false (is_carry_unary op) other) (keeps site.context (AluRRImm12 op rd rs imm) h.rule) h.enters same full h.clear
   floating (Call info) h family other = inl (call_out (Call info) _ refl h)
   floating (CallInd info) h family other = inl (call_out (CallInd info) _ refl h)
   floating inst h family other = absurd (cc)

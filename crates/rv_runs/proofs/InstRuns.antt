@@ -1,4 +1,5 @@
 -- Every instruction of the integer core that breaks no rule runs as it means.
+use Rattle.rv_ops.specs.Operations.{is_carry_line, is_carry_unary}
 use Rattle.{rv_base.specs.IrType.bits_of, rv_code.{proofs.OperationActs.{short_ebreak_is, ebreak_sized}, proofs.LineOperands.{load_addr_kept, load_kept, store_kept}, specs.Evaluation.literal_value, specs.InstParts.{literal_of, trap_slots}, specs.InstRuns.{environment, RunsIn}}}
 use Rattle.rv_code.{specs.Pieces.{NameAddress, OfLabel, OfSymbol, Word32, Word64}, specs.Slots.{AddressOf, SlotOf}, proofs.Operands.{all_integers, not_false, are_usable, is_count, is_scratch, is_reversal, is_table, move_usable, not_zero, or_left, preg_usable, reversal_of, some_in_64}, proofs.Registers.count_of}
 use Rattle.rv_inst.{specs.Descriptions.{counts, sequence_registers}, specs.Meaning.{Environment, constant_of}, specs.declared.sequence.Computation.TheVariants.{Ones, Zeros}, specs.Forms.short_ebreak, specs.Rules.is_zero}
@@ -33,8 +34,8 @@ module _ (site : Site) (setting : EmitVState) (start after : ℕ) (s : State) (v
   kept_out (Lui rd imm) core k r e clear = lui_runs site setting start after s v rd imm (are_usable (rd.reg ∷ []) k.real k.placed k.free).0 e clear
   kept_out (Auipc rd imm) core k r e clear = auipc_runs site setting start after s v rd imm (are_usable (rd.reg ∷ []) k.real k.placed k.free).0 e clear
   kept_out (LoadInlineConst rd type imm) core k r e clear = let h = (are_usable (rd.reg ∷ []) k.real k.placed k.free).0 in subst (λ x. ComesOut site start after Next [] (set_reg v (number_of rd.reg) x) s) (literal_is (environment site start after) type imm) (literal_out (number_of rd.reg) (literal_of type imm) h.1 (not_zero rd.reg h (or_left (is_zero rd.reg) false k.counted)) e)
-  kept_out (AluRRR op rd rs1 rs2) core k r e clear = let all = are_usable (rd.reg ∷ rs1 ∷ rs2 ∷ []) k.real k.placed k.free in alu_rrr_runs site setting start after s v op rd rs1 rs2 all.0 all.1.0 all.1.1.0 e clear
-  kept_out (AluRRImm12 op rd rs imm) core k r e clear = let all = are_usable (rd.reg ∷ rs ∷ []) k.real k.placed k.free in alu_rri_runs site setting start after s v op rd rs imm all.0 all.1.0 k.ranged e clear
+  kept_out (AluRRR op rd rs1 rs2) core k r e clear = let all = are_usable (rd.reg ∷ rs1 ∷ rs2 ∷ []) k.real k.placed k.free in alu_rrr_runs site setting start after s v op rd rs1 rs2 (not_true (is_carry_line op (number_of rs2)) core) all.0 all.1.0 all.1.1.0 e clear
+  kept_out (AluRRImm12 op rd rs imm) core k r e clear = let all = are_usable (rd.reg ∷ rs ∷ []) k.real k.placed k.free in alu_rri_runs site setting start after s v op rd rs imm (not_true (is_carry_unary op) core) all.0 all.1.0 k.ranged e clear
   kept_out (Mov rd rm type) core k r e clear = let both = move_usable rd rm type core k in mov_runs site setting start after s v rd rm type both.0 both.1 e clear
   kept_out (MovFromPReg rd rm) core k r e clear = let both = preg_usable rd rm k in move_out (nat_eq (number_of rd.reg) rm.number) (number_of rd.reg) rm.number refl both.0.1 both.1.1 e
   kept_out (Extend rd rn signed from_bits to_bits) core k r e clear = let all = are_usable (rd.reg ∷ rn ∷ []) k.real k.placed k.free in let bits = some_in_64 from_bits k.ranged in extend_out (number_of rd.reg) (number_of rn) from_bits signed all.0.1 all.1.0.1 bits.0 bits.1 e

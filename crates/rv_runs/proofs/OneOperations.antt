@@ -1,4 +1,13 @@
 -- Instructions that become one operation, on either machine.
+use Rattle.std.proofs.Common.{ℤ}
+use Rattle.rv_code.proofs.Operands.{Keeps}
+use Rattle.rv_ops.specs.Operations.{is_carry_line, is_carry_unary}
+use Rattle.{rv_code.proofs.Operands.are_usable, rv_encode.specs.Operations.decoded, rv_imms.specs.declared.imm12.Imm12.Imm12, rv_inst.specs.Forms.{chosen, short_rri, short_rrr}, rv_runs.proofs.UnitRuns.carry_agrees, rv_runs.specs.FullMeaning.of_unit}
+use Rattle.{rv_machine.specs.declared.ops.AluOp.TheVariants.Bit, rv_machine.specs.declared.ops.BitOp.TheVariants.ZextH, rv_machine.specs.declared.ops.CarryOp.CarryOp, rv_machine.specs.declared.ops.MOp.TheVariants.{Alu, Carry}}
+use Rattle.rv_machine.specs.declared.ops.CarryOp.TheVariants as carry
+use Rattle.rv_ops.specs.declared.alu.{AluOPRRI.AluOPRRI, AluOPRRR.AluOPRRR}
+use Rattle.rv_ops.specs.declared.alu.AluOPRRI.TheVariants as rri
+use Rattle.rv_ops.specs.declared.alu.AluOPRRR.TheVariants as rrr
 use Rattle.rv_code.{proofs.LineSlots.access_is, proofs.Operands.{are_usable_in, or_left}, proofs.OperationActs.{Does, short_ebreak_is, short_jalr_does, short_load_does, short_lui_does, short_rri_does, short_rrr_does, short_store_does}, specs.Accesses.access_pieces, specs.Pieces.Action, specs.UnitWrites.unit_writes}
 use Rattle.rv_inst.{proofs.Descriptions.IsUnit, specs.Rules.{Faults, is_out_of_place}, specs.Meaning.AreOutside, specs.Sizes.{address_operation, load_operation, move_op, move_operation, store_operation}, specs.declared.inst.Inst.TheVariants.{Fence, AluRRImm12, AluRRR, Auipc, EBreak, Extend, Jalr, Load, LoadAddr, Lui, Mov, MovFromPReg, Nop4, Ret, Store}}
 use Rattle.{rv_machine.{proofs.States.zero_state, proofs.UnitOperations.acts_integer, specs.Decode.{decode, int_decode}, specs.Steps.zero_at}, rv_ops.{specs.FloatFields.width_of, specs.declared.float_fields.FpuOPWidth.TheVariants.D}, rv_runs.proofs.Exits.{comes_out, same_but}}
@@ -30,13 +39,17 @@ after_trap {core} {d} trap x integer e = subst (λ (y : Decoded). IsAlone core (
 alone : {core : Bool} {d : Decoded} (x : Decoded) → is_integer_op x.op ≡ true → Some x ≡ Some d → IsAlone core (slots_alone (Op x ∷ [])) d
 alone x integer e = after_trap None x (λ core. integer) e
 
+-- one of integers in the core
+maybe : {core : Bool} {d : Decoded} (x : Decoded) → (core ≡ true → is_integer_op x.op ≡ true) → Some x ≡ Some d → IsAlone core (slots_alone (Op x ∷ [])) d
+maybe x integer e = after_trap None x integer e
+
 unless : {core : Bool} {d : Decoded} (flags : IsaFlags) (c : Bool) (a : Action) → (core ≡ true → is_integer_op (op_of flags a).op ≡ true) → (if c then None else Some (op_of flags a)) ≡ Some d → IsAlone core (slots_alone (slots_of flags (if c then [] else Do a ∷ []))) d
 unless flags true a integer e = absurd (cc)
 unless flags false a integer e = after_trap None (op_of flags a) integer e
 
 moves : {d : Decoded} (flags : IsaFlags) (class : RegClass) (type : IrType) (rd rs : ℕ) → move_operation flags class type rd rs ≡ Some d → IsAlone (not (is_float_class class)) (slots_alone (slots_of flags (move_pieces class type rd rs))) d
 moves flags Float type rd rs e = unless flags (nat_eq rd rs) (move_action Float type rd rs) (λ core. absurd (cc)) e
-moves flags _ type rd rs e = unless flags (nat_eq rd rs) (Rri Addi rd rs (pos 0)) (λ core. does_integer (short_rri_does flags Addi rd rs (pos 0))) e
+moves flags _ type rd rs e = unless flags (nat_eq rd rs) (Rri Addi rd rs (pos 0)) (λ core. does_integer (short_rri_does flags Addi rd rs (pos 0) refl)) e
 
 either : {core : Bool} {d : Decoded} (flags : IsaFlags) (c : Bool) (o : Option Decoded) (ps others : List Piece) → (o ≡ Some d → IsAlone core (slots_alone (slots_of flags ps)) d) → (if c then o else None) ≡ Some d → IsAlone core (slots_alone (slots_of flags (if c then ps else others))) d
 either flags true o ps others alone e = alone e
@@ -54,7 +67,7 @@ stores flags op src trap (Based r o) integer e = near flags (is_near o) trap (pi
 stores flags op src trap _ integer e = absurd (cc)
 
 addresses : {core : Bool} {d : Decoded} (flags : IsaFlags) (rd : ℕ) (location : Location) → address_operation flags rd location ≡ Some d → IsAlone core (slots_alone (address_slots flags rd location)) d
-addresses flags rd (Based r o) e = near flags (is_near o) None (Rri Addi rd r o) _ (λ core. does_integer (short_rri_does flags Addi rd r o)) e
+addresses flags rd (Based r o) e = near flags (is_near o) None (Rri Addi rd r o) _ (λ core. does_integer (short_rri_does flags Addi rd r o refl)) e
 addresses flags rd _ e = absurd (cc)
 
 -- of the families of integers
@@ -64,11 +77,11 @@ of_integer_family context setting EBreak d family e = alone _ (ap is_integer_op 
 of_integer_family context setting (Lui rd imm) d family e = alone _ (does_integer (short_lui_does context.flags (number_of rd.reg) imm.value)) e
 of_integer_family context setting (Auipc rd imm) d family e = alone _ refl e
 of_integer_family context setting (Fence pred succ) d family e = alone _ refl e
-of_integer_family context setting (AluRRR op rd rs1 rs2) d family e = alone _ (does_integer (short_rrr_does context.flags op (number_of rd.reg) (number_of rs1) (number_of rs2))) e
-of_integer_family context setting (AluRRImm12 op rd rs imm) d family e = alone _ (does_integer (short_rri_does context.flags op (number_of rd.reg) (number_of rs) imm.value)) e
+of_integer_family context setting (AluRRR op rd rs1 rs2) d family e = maybe _ (λ core. does_integer (short_rrr_does context.flags op (number_of rd.reg) (number_of rs1) (number_of rs2) (not_true (is_carry_line op (number_of rs2)) core))) e
+of_integer_family context setting (AluRRImm12 op rd rs imm) d family e = maybe _ (λ core. does_integer (short_rri_does context.flags op (number_of rd.reg) (number_of rs) imm.value (not_true (is_carry_unary op) core))) e
 of_integer_family context setting (Mov rd rm type) d family e = moves context.flags (class_of rd.reg) type (number_of rd.reg) (number_of rm) e
-of_integer_family context setting (MovFromPReg rd rm) d family e = unless context.flags (nat_eq (number_of rd.reg) rm.number) (Rri Addi (number_of rd.reg) rm.number (pos 0)) (λ core. does_integer (short_rri_does context.flags Addi (number_of rd.reg) rm.number (pos 0))) e
-of_integer_family context setting (Extend rd rn signed from_bits to_bits) d family e = near context.flags (is_byte signed from_bits) None (Rri Andi (number_of rd.reg) (number_of rn) (pos 255)) _ (λ core. does_integer (short_rri_does context.flags Andi (number_of rd.reg) (number_of rn) (pos 255))) e
+of_integer_family context setting (MovFromPReg rd rm) d family e = unless context.flags (nat_eq (number_of rd.reg) rm.number) (Rri Addi (number_of rd.reg) rm.number (pos 0)) (λ core. does_integer (short_rri_does context.flags Addi (number_of rd.reg) rm.number (pos 0) refl)) e
+of_integer_family context setting (Extend rd rn signed from_bits to_bits) d family e = near context.flags (is_byte signed from_bits) None (Rri Andi (number_of rd.reg) (number_of rn) (pos 255)) _ (λ core. does_integer (short_rri_does context.flags Andi (number_of rd.reg) (number_of rn) (pos 255) refl)) e
 of_integer_family context setting (Load rd op flags from) d family e = either context.flags (has_load context.flags op) _ _ _ (loads context.flags op (number_of rd.reg) flags.trap (location_of context.frame from) (not_true (is_float_load op))) e
 of_integer_family context setting (Store src op flags to) d family e = either context.flags (has_store context.flags op) _ _ _ (stores context.flags op (number_of src) flags.trap (location_of context.frame to) (not_true (is_float_store op))) e
 of_integer_family context setting (LoadAddr rd mem) d family e = addresses context.flags (number_of rd.reg) (location_of context.frame mem) e
@@ -81,7 +94,7 @@ one_slot context setting inst d e =
     (elim (is_integer_family (family_of inst)) as (λ c. is_integer_family (family_of inst) ≡ c → IsAlone (is_integer inst) (parts_of context setting inst) d) [
       | true ↦ λ family. of_integer_family context setting inst d family e
       | false ↦ λ family. let u = is_unit inst family in subst (λ parts. IsAlone (is_integer inst) parts d) (sym (parts_are context setting inst u.word u.is))
-          (after_trap u.word.trap u.word.operation (λ core. let none : false ≡ true = sym (ap (λ c. c && not (operands_of inst).floats) family) ∙ core in absurd (cc)) (sym (λ i. (u.code context i).operation) ∙ e))
+          (after_trap u.word.trap u.word.operation (λ core. let none : false ≡ true = sym (ap (λ c. c && not (operands_of inst).leaves_integers) family) ∙ core in absurd (cc)) (sym (λ i. (u.code context i).operation) ∙ e))
     ]) refl
 
 module _ (site : Site) (start : ℕ) (d : Decoded) where
@@ -204,6 +217,62 @@ unit_runs {site} {start} {after} {v} {b} setting inst u rule e same full clear =
       temporaries = u.temporaries;
       exit = u.exit (environment site start after) v.ints;
     })
+
+-- ---- operations of Zbc and Zbkb, which have no form of 16 bits
+
+no_form : (c : Bool) (d : Decoded) → chosen (if c then None else None) d ≡ d
+no_form true d = refl
+no_form false d = refl
+
+carry_word : (op : AluOPRRR) (rd rs1 rs2 : ℕ) → is_carry_line op rs2 ≡ true → (c : CarryOp) × ((flags : IsaFlags) → short_rrr flags op rd rs1 rs2 ≡ decoded (Carry c) rd rs1 rs2 (pos 0))
+carry_word rrr.Clmul rd rs1 rs2 e = (carry.Clmul, λ flags. no_form flags.has_zca _)
+carry_word rrr.Clmulh rd rs1 rs2 e = (carry.Clmulh, λ flags. no_form flags.has_zca _)
+carry_word rrr.Clmulr rd rs1 rs2 e = (carry.Clmulr, λ flags. no_form flags.has_zca _)
+carry_word rrr.Pack rd rs1 rs2 e = (carry.Pack, λ flags. no_form flags.has_zca _)
+carry_word rrr.Packw rd rs1 rs2 e = (carry.Packw, λ flags. no_form flags.has_zca _ ∙ ap (λ c. decoded (if c then Carry carry.Packw else Alu (Bit ZextH)) rd rs1 rs2 (pos 0)) e)
+carry_word rrr.Packh rd rs1 rs2 e = (carry.Packh, λ flags. no_form flags.has_zca _)
+carry_word _ rd rs1 rs2 e = absurd (cc)
+
+unary_word : (op : AluOPRRI) (rd rs : ℕ) (imm : ℤ) → is_carry_unary op ≡ true → (c : CarryOp) × ((flags : IsaFlags) → short_rri flags op rd rs imm ≡ decoded (Carry c) rd rs 0 (pos 0))
+unary_word rri.Brev8 rd rs imm e = (carry.Brev8, λ flags. no_form flags.has_zca _)
+unary_word _ rd rs imm e = absurd (cc)
+
+-- an instruction that is such an operation, whatever the flags, and goes on
+carry_runs : {site : Site} {start after : ℕ} {v : FullValues} {b : FullState} (inst : Inst) (c : CarryOp) (rd rs1 rs2 : ℕ) (short : IsaFlags → Decoded) → ((flags : IsaFlags) → short flags ≡ decoded (Carry c) rd rs1 rs2 (pos 0)) → rd < 30 → rs1 < 30 → rs2 < 30 → inst_meaning AtStart inst ≡ of_row (λ env v. unit_row (short env.flags) v) (λ env v. unit_writes (short env.flags) v) → inst_temporaries inst ≡ [] → inst_exit (environment site start after) inst v.ints ≡ Next →
+    Enters site start after (slots_alone (Op (short site.context.flags) ∷ [])) b.state v.ints → SameFull v (values_of b) → IsFullState b →
+    WritesElsewhere site.base (length site.bytes) (inst_meaning AtStart inst) (environment site start after) v b.answers → ComesAsMeant site start after inst v b
+carry_runs {site} {start} {after} {v} {b} inst c rd rs1 rs2 short is low first second means temporaries exit e same full clear =
+    let d = decoded (Carry c) rd rs1 rs2 (pos 0) in
+    let p = subst (λ x. PartsStand site start after (slots_alone (Op x ∷ []))) (is site.context.flags) e.stands in
+    row_runs inst e full d (record {
+      has = stands_alone site start d None after p;
+      long = refl;
+      ends = let ends = p.2 in omega arith;
+      none = refl;
+      agree = carry_agrees d v (values_of b) same e.are_values full.state.values full.units c low first second;
+      means = means ∙ (λ k. of_row (λ env v. unit_row (is env.flags k) v) (λ env v. unit_writes (is env.flags k) v));
+      clear = clear;
+      temporaries = temporaries;
+      exit = exit;
+    })
+
+pub carry_rrr_runs : {site : Site} {start after : ℕ} {v : FullValues} {b : FullState} (setting : EmitVState) (op : AluOPRRR) (rd : Writable Reg) (rs1 rs2 : Reg) → is_carry_line op (number_of rs2) ≡ true → Keeps (AluRRR op rd rs1 rs2) → Enters site start after (parts_of site.context setting (AluRRR op rd rs1 rs2)) b.state v.ints → SameFull v (values_of b) → IsFullState b →
+    WritesElsewhere site.base (length site.bytes) (inst_meaning AtStart (AluRRR op rd rs1 rs2)) (environment site start after) v b.answers → ComesAsMeant site start after (AluRRR op rd rs1 rs2) v b
+carry_rrr_runs setting op rd rs1 rs2 test k e same full clear =
+    let inst = AluRRR op rd rs1 rs2 in
+    let all = are_usable (rd.reg ∷ rs1 ∷ rs2 ∷ []) k.real k.placed k.free in
+    let word = carry_word op (number_of rd.reg) (number_of rs1) (number_of rs2) test in
+    carry_runs inst word.0 (number_of rd.reg) (number_of rs1) (number_of rs2) (λ flags. short_rrr flags op (number_of rd.reg) (number_of rs1) (number_of rs2)) word.1 all.0.1 all.1.0.1 all.1.1.0.1
+    (ap (λ c. if c then of_unit AtStart inst else of_integers AtStart (Put inst)) test) refl refl e same full clear
+
+pub carry_rri_runs : {site : Site} {start after : ℕ} {v : FullValues} {b : FullState} (setting : EmitVState) (op : AluOPRRI) (rd : Writable Reg) (rs : Reg) (imm : Imm12) → is_carry_unary op ≡ true → Keeps (AluRRImm12 op rd rs imm) → Enters site start after (parts_of site.context setting (AluRRImm12 op rd rs imm)) b.state v.ints → SameFull v (values_of b) → IsFullState b →
+    WritesElsewhere site.base (length site.bytes) (inst_meaning AtStart (AluRRImm12 op rd rs imm)) (environment site start after) v b.answers → ComesAsMeant site start after (AluRRImm12 op rd rs imm) v b
+carry_rri_runs setting op rd rs imm test k e same full clear =
+    let inst = AluRRImm12 op rd rs imm in
+    let all = are_usable (rd.reg ∷ rs ∷ []) k.real k.placed k.free in
+    let word = unary_word op (number_of rd.reg) (number_of rs) imm.value test in
+    carry_runs inst word.0 (number_of rd.reg) (number_of rs) 0 (λ flags. short_rri flags op (number_of rd.reg) (number_of rs) imm.value) word.1 all.0.1 all.1.0.1 (lit< tt)
+    (ap (λ c. if c then of_unit AtStart inst else of_integers AtStart (Put inst)) test) refl refl e same full clear
 
 -- ---- moves of a floating-point register
 

@@ -1,4 +1,6 @@
 -- Plain instructions: those of no operation or of one, jumps and branches, traps, and the addresses of symbols.
+use Rattle.std.proofs.Common.{None}
+use Rattle.rv_ops.specs.Operations.{is_carry_line, is_carry_unary}
 use Rattle.{rv_base.specs.declared.condcodes.IntCC.TheVariants.{SignedGreaterThanOrEqual, SignedLessThanOrEqual, UnsignedGreaterThanOrEqual, UnsignedLessThanOrEqual}, rv_code.{proofs.Evaluation.{distant_fits, literal_fits}, proofs.OperationActs.{branch_acts, low64_small, rrr_fits}}}
 use Rattle.rv_code.{proofs.Reaching.Reaches, proofs.Steps.aims_at, specs.Evaluation.{distant_value, literal_value}, specs.InstParts.branch_to, specs.InstRuns.environment, specs.Pieces.{Rrr, AreInRange, Constant, Distant, Literal, OfSymbol, Take}, specs.Slots.{SlotOf, Target}}
 use Rattle.{rv_code.specs.Traps.trap_if_pieces, rv_encode.specs.Operations.decoded_branch, rv_imms.{specs.declared.imm12.Imm12.Imm12, specs.declared.imm20.Imm20.Imm20}, rv_inst.{specs.Faults.is_out_of_range, specs.Forms.jump_kind, specs.LabelUse.has_veneer_of, specs.Meaning.{Trap, target_exit}}}
@@ -41,17 +43,17 @@ piece_sets {site} {start} {after} {s} {v} p rd x usable range is fits e =
 
 -- ---- operations of registers and immediates
 
-pub alu_rrr_runs : (site : Site) (setting : EmitVState) (start after : ℕ) (s : State) (v : Values) (op : AluOPRRR) (rd : Writable Reg) (rs1 rs2 : Reg) → IsUsable rd.reg → IsUsable rs1 → IsUsable rs2 → RunsHere site setting (AluRRR op rd rs1 rs2) start after s v
-alu_rrr_runs site setting start after s v op rd rs1 rs2 h h1 h2 e clear =
+pub alu_rrr_runs : (site : Site) (setting : EmitVState) (start after : ℕ) (s : State) (v : Values) (op : AluOPRRR) (rd : Writable Reg) (rs1 rs2 : Reg) → is_carry_line op (number_of rs2) ≡ false → IsUsable rd.reg → IsUsable rs1 → IsUsable rs2 → RunsHere site setting (AluRRR op rd rs1 rs2) start after s v
+alu_rrr_runs site setting start after s v op rd rs1 rs2 integer h h1 h2 e clear =
     let n = number_of rd.reg in let x = number_of rs1 in let y = number_of rs2 in
-    piece_sets (Do (Rrr op n x y)) n (alu_rrr op (reg v x) (reg v y)) h.1 (omega (arith, h.1), tt) (λ i. Some (point [] (set_reg s.values n (alu_rrr op (sym (e.same.regs x h1.1) i) (sym (e.same.regs y h2.1) i)))))
+    piece_sets (Do (Rrr op n x y)) n (alu_rrr op (reg v x) (reg v y)) h.1 (omega (arith, h.1), tt) (λ i. if not (integer i) then Some (point [] (set_reg s.values n (alu_rrr op (sym (e.same.regs x h1.1) i) (sym (e.same.regs y h2.1) i)))) else None)
     (rrr_fits op (reg v x) (reg v y) (e.are_values.fits x) (e.are_values.fits y)) e
 
-pub alu_rri_runs : (site : Site) (setting : EmitVState) (start after : ℕ) (s : State) (v : Values) (op : AluOPRRI) (rd : Writable Reg) (rs : Reg) (imm : Imm12) → IsUsable rd.reg → IsUsable rs → is_out_of_range (AluRRImm12 op rd rs imm) ≡ false →
+pub alu_rri_runs : (site : Site) (setting : EmitVState) (start after : ℕ) (s : State) (v : Values) (op : AluOPRRI) (rd : Writable Reg) (rs : Reg) (imm : Imm12) → is_carry_unary op ≡ false → IsUsable rd.reg → IsUsable rs → is_out_of_range (AluRRImm12 op rd rs imm) ≡ false →
     RunsHere site setting (AluRRImm12 op rd rs imm) start after s v
-alu_rri_runs site setting start after s v op rd rs imm h h1 range e clear =
+alu_rri_runs site setting start after s v op rd rs imm integer h h1 range e clear =
     let n = number_of rd.reg in let x = number_of rs in let small = low64_small imm.value imm.low imm.high in
-    piece_sets (Do (Rri op n x imm.value)) n (alu_rri op (reg v x) imm.value) h.1 ((omega (arith, h.1), range, small), tt) (λ i. Some (point [] (set_reg s.values n (alu_rri op (sym (e.same.regs x h1.1) i) imm.value))))
+    piece_sets (Do (Rri op n x imm.value)) n (alu_rri op (reg v x) imm.value) h.1 ((omega (arith, h.1), range, small), tt) (λ i. if not (integer i) then Some (point [] (set_reg s.values n (alu_rri op (sym (e.same.regs x h1.1) i) imm.value))) else None)
     (alu_result_fits (rri_op op) (reg v x) 0 (low64 imm.value) (e.are_values.fits x) (lit< tt) small) e
 
 -- ---- upper immediates, moves, and what is dropped

@@ -1,6 +1,7 @@
 -- Of integer registers, one of two values is chosen, and the low bits are extended.
+use Rattle.std.proofs.Common.{Some, None}
 use Rattle.{rv_code.{proofs.Operands.none_of_both, proofs.Reaching.{Reaches, goes_on, reaches_such}, specs.InstRuns.environment}, rv_full.specs.View.zero_units, rv_inst.{specs.Bits.extended, specs.Meaning.set_regs, specs.Operands.inst_registers, specs.Rules.{is_beyond, is_other_class}}}
-use Rattle.{rv_inst.specs.Sizes.right_shift, rv_ops.specs.Operations.{immediate_of, shift_limit}, rv_runs.{proofs.Exits.{RunsHere, SlotsOut, pieces_out, same_but}, proofs.FullChoices.{AreAllowed, choice_comes, choice_range, chosen_fits, chosen_same, is_fair, order_of, ordered}}}
+use Rattle.{rv_inst.specs.Sizes.right_shift, rv_ops.specs.Operations.{immediate_of, is_carry_unary, shift_limit}, rv_runs.{proofs.Exits.{RunsHere, SlotsOut, pieces_out, same_but}, proofs.FullChoices.{AreAllowed, choice_comes, choice_range, chosen_fits, chosen_same, is_fair, order_of, ordered}}}
 use Rattle.rv_runs.proofs.Words.{Andi, AreInRange, AreValues, ComesOut, Do, EmitVState, Enters, FullValues, Int, Keeps, Next, Piece, Reg, Rri, Same, SameBut, SelectInfo, Site, Slli, State, Values, all_of, alu_result_fits, alu_rri, and_then, are_values_set, chosen}
 use Rattle.rv_runs.proofs.Words.{class_of, compares, evaluate, extend_pieces, ints, is_byte, is_int_class, list_any, low64, nat_tests, number_of, or_parts, point, pow_pos, put_all, put_in, reads_back, reg, rri_op, same_set, set_reg, set_twice, signed, signed64}
 use Rattle.rv_runs.proofs.Words.{slots_alone, slots_of, small_shift, value_in, value_of, wrap, written_in}
@@ -102,6 +103,11 @@ extended_by x bits sign some few =
 
 -- ---- the sequence
 
+-- its second step is an operation of integers
+right_shift_is : (sign : Bool) → is_carry_unary (right_shift sign) ≡ false
+right_shift_is true = refl
+right_shift_is false = refl
+
 -- a register is computed in two steps, the second from the first
 twice_same : (v w : Values) (n x : ℕ) (back : ℕ → ℕ) → AreValues v → AreValues w → n < 32 → Same v w → Same (set_reg v n (back x)) (set_reg (set_reg w n x) n (back (reg (set_reg w n x) n)))
 twice_same v w zero x back hv hw lt same = same
@@ -131,8 +137,11 @@ extend_out {site} {start} {after} {s} {v} rd rn bits sign below read some few e 
           let low : low64 (pos k) < 2 ^ 64 = omega (arith, ints) in
           let x = alu_rri Slli (reg v rn) (pos k) in
           let back = λ (y : ℕ). alu_rri (right_shift sign) y (pos k) in
+          let whole = Do (Rri Slli rd rn (pos k)) ∷ Do (Rri (right_shift sign) rd rd (pos k)) ∷ [] in
+          let first = set_reg w rd (alu_rri Slli (reg w rn) (pos k)) in
+          let second = set_reg first rd (back (reg first rd)) in
           let fits : x < 2 ^ 64 = alu_result_fits (rri_op Slli) (reg v rn) 0 (low64 (pos k)) (e.are_values.fits rn) (lit< tt) low in
-          gives (Do (Rri Slli rd rn (pos k)) ∷ Do (Rri (right_shift sign) rd rd (pos k)) ∷ []) rd (back x) _ ((lt, small_shift k small, low), ((lt, elim sign as (λ c. is_beyond (shift_limit (immediate_of (right_shift c))) (pos k) ≡ false) [ true ↦ small_shift k small | false ↦ small_shift k small ], low), tt)) lt
+          gives whole rd (back x) _ ((lt, small_shift k small, low), ((lt, elim sign as (λ c. is_beyond (shift_limit (immediate_of (right_shift c))) (pos k) ≡ false) [ true ↦ small_shift k small | false ↦ small_shift k small ], low), tt)) lt
           (alu_result_fits (rri_op (right_shift sign)) x 0 (low64 (pos k)) fits (lit< tt) low) (extended_by (reg v rn) bits sign some few) e
-          (record { count = 2; values = _; ran = refl; such = subst (λ z. let w1 = set_reg w rd (alu_rri Slli z (pos k)) in Same (set_reg v rd (back x)) (set_reg w1 rd (back (reg w1 rd)))) (e.same.regs rn read) (twice_same v w rd x back e.are_values e.is_state.values lt e.same) })
+          (record { count = 2; values = second; ran = ap (λ c. and_then (if not c then Some (point [] second) else None) (evaluate (environment site start after) 0 whole)) (right_shift_is sign); such = subst (λ z. let w1 = set_reg w rd (alu_rri Slli z (pos k)) in Same (set_reg v rd (back x)) (set_reg w1 rd (back (reg w1 rd)))) (e.same.regs rn read) (twice_same v w rd x back e.are_values e.is_state.values lt e.same) })
     ]) refl e

@@ -1,4 +1,5 @@
 -- What the machine with all units does at an operation of a unit, and which instructions are one.
+use Rattle.{rv_full.proofs.RowsKeep.carry_fits, rv_full.specs.Carry.{carry_result, carry_row}, rv_full.specs.Rows.y_of, rv_machine.specs.declared.ops.CarryOp.CarryOp}
 use Rattle.{rv_code.{specs.InstParts.unit_parts, specs.UnitWrites.unit_writes, specs.UnitRuns.{Agree, IsUsableCsr, IsUsableShape, IsUsableSource, IsUsableTarget}}, rv_encode.specs.Operations.{decoded_atomic, decoded_fpu_rrr, decoded_fpu_rrrr, decoded_csr_imm, decoded_csr_reg}, rv_full.specs.Atomics.{csr_result, csr_row}}
 use Rattle.rv_full.{specs.Floats.{float_shape, is_move, put_number, shape_row}, specs.Rows.{Absent, OneNumber, Takes, bits_of, entry_of, fits, noted, x_of}, specs.Steps.{Asks, Goes, Halts, fiter, fnext, next_by, stepped, unit_on}, specs.Units.set_frm, specs.declared.answer.Answer.TheVariants.Bits}
 use Rattle.{rv_full.{specs.declared.shapes.FloatShape.FloatShape, specs.declared.shapes.FloatShape.TheVariants.{Answered, ToFloat, ToInteger}, specs.declared.shapes.Sources.Sources, specs.declared.shapes.Target.Target}, rv_inst.specs.Descriptions.{UnitWord, unit_word}}
@@ -124,6 +125,12 @@ module _ (d : Decoded) (v w : FullValues) (same : SameFull v w) (are_values : Ar
   csr_agrees Csrrs usable = frm_agrees Csrrs usable.0 (λ i. csr_result Csrrs (same.units i).frm (same.ints.regs d.rs1 usable.1 i) d.rs1)
   csr_agrees Csrrc usable = frm_agrees Csrrc usable.0 (λ i. csr_result Csrrc (same.units i).frm (same.ints.regs d.rs1 usable.1 i) d.rs1)
   csr_agrees op usable = frm_agrees op usable.0 (λ i. csr_result op (same.units i).frm 0 d.rs1)
+
+  -- an operation of Zbc or Zbkb computes the same of the same registers
+  pub carry_agrees : (op : CarryOp) → d.rd < 30 → d.rs1 < 30 → d.rs2 < 30 → RowsAgree none_written w (carry_row op d v) (carry_row op d w)
+  carry_agrees op low first second =
+      put_agree target.Integer (carry_result op (x_of d v) (y_of d v)) (carry_result op (x_of d w) (y_of d w)) v.units w.units low (λ i. carry_result op (same.ints.regs d.rs1 first i) (same.ints.regs d.rs2 second i))
+      (carry_fits op (x_of d w) (y_of d w) (is_values.fits d.rs1) (is_values.fits d.rs2)) same.units are_units refl
 
   pub shape_agrees : (shape : FloatShape) (format : FloatFormat) → IsUsableShape shape d → RowsAgree none_written w (shape_row shape format d v) (shape_row shape format d w)
   shape_agrees (Answered from to) format usable = number_agrees to from usable.0 usable.1

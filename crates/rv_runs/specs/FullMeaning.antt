@@ -10,7 +10,7 @@ use Rattle.rv_inst.specs.Context.{context_by}
 use Rattle.rv_inst.specs.declared.inst.Family.{Family}
 use Rattle.rv_inst.specs.declared.inst.Family.TheVariants.{Pseudo, Integer, Memory, Control, Loop, Symbols, Calls, Float}
 use Rattle.rv_inst.specs.declared.inst.Inst.{Inst}
-use Rattle.rv_inst.specs.declared.inst.Inst.TheVariants.{Load, Store, Mov, Select}
+use Rattle.rv_inst.specs.declared.inst.Inst.TheVariants.{AluRRR, AluRRImm12, Load, Store, Mov, Select}
 use Rattle.rv_inst.specs.declared.inst.Line.{Line}
 use Rattle.rv_inst.specs.declared.inst.Line.TheVariants.{Inst as Put}
 use Rattle.rv_inst.specs.Meaning.{Environment, address_of, addresses_from, writes_of, inst_effect}
@@ -21,6 +21,7 @@ use Rattle.rv_inst.specs.declared.tail_calls.TailCall.{TailCall}
 use Rattle.rv_machine.specs.declared.decoding.Decoded.{Decoded}
 use Rattle.rv_machine.specs.declared.ops.FloatFormat.{FloatFormat}
 use Rattle.rv_ops.specs.Memory.{load_format, store_format}
+use Rattle.rv_ops.specs.Operations.{is_carry_line, is_carry_unary}
 use Rattle.rv_full.specs.declared.answer.Answer.{Answer}
 use Rattle.rv_full.specs.Floats.{format_bytes}
 use Rattle.rv_full.specs.Rows.{Row, Absent, Does, Takes, row_takes}
@@ -147,10 +148,13 @@ of_memory entry (Load rd op flags from) =
 of_memory entry (Store src op flags to) = of_access (store_format op) (λ format. of_float_store format src to) (of_integers entry (Put (Store src op flags to)))
 of_memory entry inst = of_integers entry (Put inst)
 
--- of the instructions that write integer registers, moves and choices write floating-point registers as well
+-- of the instructions that write integer registers, moves and choices write floating-point registers as well, and an operation of Zbc or
+-- Zbkb is one that a unit has
 abbrev pub of_integer : Entry → Inst → FullMeaning
 of_integer entry (Mov rd rm type) = if is_float rd.reg then of_float_move (Mov rd rm type) else of_integers entry (Put (Mov rd rm type))
-of_integer entry (Select info) = if (operands_of (Select info)).floats then of_choice info else of_integers entry (Put (Select info))
+of_integer entry (Select info) = if (operands_of (Select info)).leaves_integers then of_choice info else of_integers entry (Put (Select info))
+of_integer entry (AluRRR op rd rs1 rs2) = if is_carry_line op (number_of rs2) then of_unit entry (AluRRR op rd rs1 rs2) else of_integers entry (Put (AluRRR op rd rs1 rs2))
+of_integer entry (AluRRImm12 op rd rs imm) = if is_carry_unary op then of_unit entry (AluRRImm12 op rd rs imm) else of_integers entry (Put (AluRRImm12 op rd rs imm))
 of_integer entry inst = of_integers entry (Put inst)
 
 -- what a call makes of the values: from its start a tail call takes its frame away, and any other does what it does on integers

@@ -1,6 +1,7 @@
 use Rattle.rv_base.specs.Regs.{number_of}
-use Rattle.rv_encode.proofs.ByFields.{r_alike, r_decodes}
+use Rattle.rv_encode.proofs.ByFields.{r_alike}
 use Rattle.rv_encode.proofs.FloatDecoding.{fli_by_row, fpu_rr_by_row, fpu_rrr_by_row, fpu_rrrr_by_row}
+use Rattle.rv_encode.proofs.RegisterDecoding.{r_decodes}
 use Rattle.rv_encode.proofs.layouts.encode_r_type.Goals as goal
 
 pub returns-clause-decodes : goal.returns-clause-decodes

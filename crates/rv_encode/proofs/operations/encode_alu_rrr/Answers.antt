@@ -1,6 +1,6 @@
 use Rattle.std.proofs.Common.{sym, ◌∙◌}
 use Rattle.rv_base.specs.Regs.{number_of}
-use Rattle.rv_encode.proofs.Decoding.{rrr_straight, rrr_exchanged}
+use Rattle.rv_encode.proofs.RegisterDecoding.{rrr_straight, rrr_exchanged}
 use Rattle.rv_encode.proofs.operations.encode_alu_rrr.Goals as goal
 
 pub returns-then-reverse_rs : goal.returns-then-reverse_rs
