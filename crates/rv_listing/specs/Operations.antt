@@ -20,7 +20,7 @@ every_rrr =
     rrr.Div ∷ rrr.DivU ∷ rrr.Rem ∷ rrr.RemU ∷ rrr.Mulw ∷ rrr.Divw ∷ rrr.Divuw ∷ rrr.Remw ∷ rrr.Remuw ∷ rrr.Adduw ∷
     rrr.Andn ∷ rrr.Bclr ∷ rrr.Bext ∷ rrr.Binv ∷ rrr.Bset ∷ rrr.Max ∷ rrr.Maxu ∷ rrr.Min ∷ rrr.Minu ∷ rrr.Orn ∷
     rrr.Rol ∷ rrr.Rolw ∷ rrr.Ror ∷ rrr.Rorw ∷ rrr.Sh1add ∷ rrr.Sh1adduw ∷ rrr.Sh2add ∷ rrr.Sh2adduw ∷ rrr.Sh3add ∷
-    rrr.Sh3adduw ∷ rrr.Xnor ∷ rrr.CzeroEqz ∷ rrr.CzeroNez ∷ []
+    rrr.Sh3adduw ∷ rrr.Xnor ∷ rrr.CzeroEqz ∷ rrr.CzeroNez ∷ rrr.Clmul ∷ rrr.Clmulh ∷ rrr.Clmulr ∷ rrr.Pack ∷ rrr.Packw ∷ rrr.Packh ∷ []
 
 -- the operation of two registers that has this name
 unfoldable pub alu_rrr : List ℕ → Option AluOPRRR
@@ -31,7 +31,7 @@ every_rri =
     rri.Addi ∷ rri.Slti ∷ rri.SltiU ∷ rri.Xori ∷ rri.Ori ∷ rri.Andi ∷ rri.Slli ∷ rri.Srli ∷ rri.Srai ∷ rri.Addiw ∷
     rri.Slliw ∷ rri.SrliW ∷ rri.Sraiw ∷ rri.Bclri ∷ rri.Bexti ∷ rri.Binvi ∷ rri.Bseti ∷ rri.Rori ∷ rri.Roriw ∷
     rri.SlliUw ∷ rri.Clz ∷ rri.Clzw ∷ rri.Cpop ∷ rri.Cpopw ∷ rri.Ctz ∷ rri.Ctzw ∷ rri.Rev8 ∷ rri.Sextb ∷ rri.Sexth ∷
-    rri.Zexth ∷ rri.Orcb ∷ []
+    rri.Zexth ∷ rri.Orcb ∷ rri.Brev8 ∷ []
 
 -- the operation of a register and an immediate that has this name
 unfoldable pub alu_rri : List ℕ → Option AluOPRRI

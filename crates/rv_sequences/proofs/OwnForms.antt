@@ -1,4 +1,5 @@
 -- What was chosen to stand for an operation in sixteen bits is the operation's own form: c.addi16sp, where that holds the immediate.
+use Rattle.{rv_machine.specs.declared.ops.CarryOp.TheVariants.Packw, rv_machine.specs.declared.ops.MOp.TheVariants.Carry}
 use Rattle.rv_sequences.proofs.Terms.{◌≡◌, ℕ, Bool, true, false, Option, Some, None, ℤ, pos, refl, ap, sym, ◌∙◌, arith, eqb-true, ◌==◌, ◌&&◌, not, if◌then◌else◌, true≢false, and_parts, IsaFlags, Decoded, MOp, Base, Alu, Lui, Jal, Jalr, Ebreak, AluOp, Int, Mul, Bit, IntOp, bare_form, compressed}
 use Rattle.rv_sequences.proofs.Terms.{AluOPRRR, AluOPRRI, LoadOP, StoreOP, load_format, store_format, decoded, load_op, load_of_format, store_op, store_of_format, decoded_rrr, decoded_rri, sp, is_short, is_equal, is_scaled, is_six_bits, form_where, chosen, either_form, zext_w_form, form_rrr}
 use Rattle.rv_sequences.proofs.Terms.{form_lui, form_jalr, form_ebreak, zca_rrr, zca_rri, addi_form, andi_form, move_form, is_move, is_addi16sp, is_addi4spn, is_li, is_addi, short_rrr, short_rri, short_lui, short_jalr, short_ebreak, short_load, short_store, IsAddi16spFirst, IsOwnForm, decoded_jump}
@@ -48,7 +49,7 @@ zca_rrr_other flags rrr.Adduw rd rs1 rs2 = if_other (flags.has_zcb && flags.has_
 zca_rrr_other flags _ rd rs1 rs2 = search where_other
 
 whole_rrr_other : (op : AluOPRRR) (rd rs1 rs2 : ℕ) → is_other (decoded_rrr op rd rs1 rs2)
-whole_rrr_other rrr.Add rd rs1 rs2 = refl
+whole_rrr_other rrr.Packw rd rs1 rs2 = elim (rs2 == 0) as (λ c. is_addi_op (if not c then Carry Packw else Alu (Bit bit.ZextH)) ≡ false) [ true ↦ refl | false ↦ refl ]
 whole_rrr_other _ rd rs1 rs2 = refl
 
 pub rrr_other : (flags : IsaFlags) (op : AluOPRRR) (rd rs1 rs2 : ℕ) → is_other (short_rrr flags op rd rs1 rs2)
