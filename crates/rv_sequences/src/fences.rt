@@ -21,13 +21,13 @@ use mach_buffer::MachBuffer;
 use rv_base::{IrType, IsaFlags, OutOfMemory, Reg, WritableReg};
 use rv_encode::encode_fence;
 use rv_imms::Imm12;
-use rv_inst::LabelUse;
+use rv_inst::{Inst, LabelUse};
 use rv_ops::{LoadOP, StoreOP};
 
 /// The sets of accesses of a fence.
-const READS: u8 = 2;
+const READS: u8 = Inst::FENCE_REQ_R;
 
-const WRITES: u8 = 1;
+const WRITES: u8 = Inst::FENCE_REQ_W;
 
 const READS_AND_WRITES: u8 = READS | WRITES;
 
