@@ -165,12 +165,8 @@ impl AluOPRRR {
             | Self::Rol
             | Self::Rolw
             | Self::Clmul => 0b001,
-            Self::Slt
-            | Self::Sgt
-            | Self::Mulhsu
-            | Self::Sh1add
-            | Self::Sh1adduw
-            | Self::Clmulr => 0b010,
+            Self::Slt | Self::Sgt | Self::Mulhsu | Self::Sh1add | Self::Sh1adduw | Self::Clmulr =>
+                0b010,
             Self::SltU | Self::Sgtu | Self::Mulhu | Self::Clmulh => 0b011,
             Self::Xor
             | Self::Div
