@@ -218,7 +218,7 @@ const HEADERS: [Form; 2] = [
 ];
 
 /// The lines of a listing, in the order of its page.
-const FORMS: [Form; 52] = [
+const FORMS: [Form; 56] = [
     Form("Bind", &[LABEL]),
     Form("AluRRR", &[Field("OP", Kind::Alu), RD, RS1, RS2]),
     Form(
