@@ -2,6 +2,7 @@
 //! emission.
 #![tactic(auto)]
 
+mod generators;
 mod summaries;
 
 use case_files::{Case, CaseError, Cases, blocks_of, expect_text, read, rows_of, run_cases};
@@ -24,6 +25,8 @@ enum Question {
     Job,
     /// The summary of a code of three bytes.
     Summary,
+    /// What a generator of instructions gives.
+    Generated,
 }
 
 fn question_of(ending: &str) -> Option<Question> {
@@ -32,6 +35,7 @@ fn question_of(ending: &str) -> Option<Question> {
         "texts" => Some(Question::Texts),
         "job" => Some(Question::Job),
         "summary" => Some(Question::Summary),
+        "generated" => Some(Question::Generated),
         _ => None,
     }
 }
@@ -72,6 +76,7 @@ fn answer(alloc: Global, question: Question, given: &str) -> Result<String, OutO
         Question::Texts => texts_read(alloc, true, given),
         Question::Job => texts_of_job(alloc, given),
         Question::Summary => summaries::summed(alloc, given),
+        Question::Generated => generators::generated(alloc, given),
     }
 }
 
@@ -101,7 +106,9 @@ impl Cases for Texts {
         };
         let text = read(rt, path)?;
         let cases = match question {
-            Question::Text | Question::Summary => rows_of(rt.alloc(), path, &text)?,
+            Question::Text | Question::Summary | Question::Generated => {
+                rows_of(rt.alloc(), path, &text)?
+            }
             Question::Texts | Question::Job => blocks_of(rt.alloc(), path, &text)?,
         };
         go_through_cases(rt.alloc(), question, &cases)
