@@ -4,6 +4,7 @@ use Rattle.std.proofs.Math.ListN.{get_or-append}
 use Rattle.std.proofs.Math.Seq.{get_or-append_seam}
 use Rattle.std.proofs.lemmas.Bool.{cases_eq}
 use Rattle.std.specs.Prelude.{map}
+use Rattle.rv_base.specs.declared.frame.FrameLayout.{FrameLayout}
 use Rattle.rv_base.specs.declared.regs.Reg.{Reg}
 use Rattle.rv_inst.specs.declared.inst.Line.{Line}
 use Rattle.rv_inst.specs.Meaning.{alu_rrr, set_regs}
@@ -11,7 +12,7 @@ use Rattle.rv_machine.specs.State.{State, Values, reg, set_reg, wrap}
 use Rattle.rv_machine.specs.Memory.{load_result}
 use Rattle.rv_machine.specs.declared.ops.LoadOp.TheVariants.{Ld}
 use Rattle.rv_asm.specs.Simulation.{At}
-use Rattle.rv_asm.specs.Users.{int_reg, number_of}
+use Rattle.rv_asm.specs.Users.{int_reg, is_integer_line, number_of}
 use Rattle.rv_asm.proofs.Laws.{same_are_loaded_alike}
 use Rattle.rv_expr.specs.declared.ops.BinOp.{BinOp}
 use Rattle.rv_expr.specs.declared.ops.BinOp.TheVariants.{Add, Sub, Mul, And, Or, Xor, Shl, Shr, Sar, DivU, RemU, Ltu}
@@ -22,7 +23,7 @@ use Rattle.rv_expr.specs.Listing.{load_from, store_to, constant, alu, alu_of, ch
 use Rattle.rv_expr.specs.Refusal.{fault_of}
 use Rattle.rv_expr.proofs.Accepted.{argument_below, binary_earlier, pick_earlier}
 use Rattle.rv_expr.proofs.Places.{place}
-use Rattle.rv_expr.proofs.Steps.{Run, IsRun, Stands, Goes, goes_on, is_changed, sp_of}
+use Rattle.rv_expr.proofs.Steps.{Run, IsRun, Stands, Goes, goes_on, is_changed, job_in, sp_of}
 use Rattle.rv_expr.proofs.Effects.{Computed, computes, loads, stores}
 
 -- ---- lines in order
@@ -133,6 +134,21 @@ alu_is DivU x y = refl
 alu_is RemU x y = refl
 alu_is Ltu x y = refl
 
+-- and the integer core has its line
+alu_integer : (frame : FrameLayout) (op : BinOp) → is_integer_line frame (alu op) ≡ true
+alu_integer frame Add = refl
+alu_integer frame Sub = refl
+alu_integer frame Mul = refl
+alu_integer frame And = refl
+alu_integer frame Or = refl
+alu_integer frame Xor = refl
+alu_integer frame Shl = refl
+alu_integer frame Shr = refl
+alu_integer frame Sar = refl
+alu_integer frame DivU = refl
+alu_integer frame RemU = refl
+alu_integer frame Ltu = refl
+
 -- where lines of operations follow, and the value of an operation is one more
 abbrev Runs : Run → List ℕ → List ℕ → ℕ → ExprOp → Type 0
 Runs r inputs known i op = (k : ℕ) (s : State) (rest : List Line) → IsRun r → Holds r inputs known k s → i ≡ length known → drop k r.lines ≡ op_lines i op ++ rest → 0 < length rest → fault_of i op ≡ None → i < 254 → 8 * i + 8 ≤ r.size → Advanced r inputs (known ++ value_of inputs known op ∷ []) rest s
@@ -184,7 +200,7 @@ alu_stored : (r : Run) (inputs known : List ℕ) (op : BinOp) (k x y : ℕ) (s :
 alu_stored r inputs known op k x y s rest h at follows more first second few room =
     let later = store_to (int_reg 5 (lit< tt)) (length known) ∷ rest in
     let made : alu_rrr (alu_of op) (reg s.values 5) (reg s.values 6) ≡ binary op x y = alu_is op (reg s.values 5) (reg s.values 6) ∙ (λ i. binary op (first i) (second i)) in
-    let c = computes r k (alu op) s 5 (binary op x y) h at.stands (listed_at r.lines k (alu op) later follows) (more_at r.lines k (alu op) later follows (omega arith)) (lit< tt) (lit< tt) refl refl refl (λ env. refl) (λ env. refl) (λ env. ap (set_reg s.values 5) made) in
+    let c = computes r k (alu op) s 5 (binary op x y) h at.stands (listed_at r.lines k (alu op) later follows) (more_at r.lines k (alu op) later follows (omega arith)) (lit< tt) (lit< tt) refl (alu_integer (job_in r).frame op) refl (λ env. refl) (λ env. refl) (λ env. ap (set_reg s.values 5) made) in
     advanced_after r inputs (known ++ binary op x y ∷ []) rest (suc k) s c.state c.reached
     (puts r inputs known (suc k) c.state 5 (binary op x y) (lit< tt) rest h (still_holds at (lit< tt) c) (next_at r.lines k (alu op) later follows) more (lit< tt) c.here few room)
 
