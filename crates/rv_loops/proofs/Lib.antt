@@ -1,0 +1,4 @@
+pub mod Alone
+pub mod AtomicWords
+pub mod SharedLoops
+pub mod SharedRuns
