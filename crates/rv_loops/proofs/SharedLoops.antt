@@ -123,8 +123,22 @@ module _ (site : Site) (allocated start end : ℕ) (u : Units) where
   -- what becomes of it: it asks; it stores, and then the bytes are what was loaded; or it fails, as it is told to or since others wrote
   data Ends (width : AtomicWidth) (t0 src address : ℕ) (ps : List Piece) (regs : List ℕ) (answers : List Answer) (held : ℕ → ℕ) (touched : Bool) (b : FullState) : Type 0 where
     ItAsks : fnext site.context.flags b ≡ Asks → Ends width t0 src address ps regs answers held touched b
-    ItStores : (more : List Answer) (c : FullState) → answers ≡ Success true ∷ more → fstep site.context.flags b ≡ Some c → c.state.values.mem ≡ number_put width (reg_of regs src) b.state.values.mem address → ((k : ℕ) → k < width_bytes width → byte b.state.values.mem (wrap (address + k)) ≡ held k) → c.units.reserved ≡ None → OnPieces site allocated start end ps (set_reg_of regs t0 0) u more c → Ends width t0 src address ps regs answers held touched b
-    ItFails : (x : Bool) (more : List Answer) (c : FullState) → answers ≡ Success x ∷ more → (x ≡ false) ⊎ (touched ≡ true) → fstep site.context.flags b ≡ Some c → c.state.values.mem ≡ b.state.values.mem → c.units.reserved ≡ None → OnPieces site allocated start end ps (set_reg_of regs t0 1) u more c → Ends width t0 src address ps regs answers held touched b
+    ItStores : (more : List Answer) (c : FullState) →
+        answers ≡ Success true ∷ more →
+        fstep site.context.flags b ≡ Some c →
+        c.state.values.mem ≡ number_put width (reg_of regs src) b.state.values.mem address →
+        ((k : ℕ) → k < width_bytes width → byte b.state.values.mem (wrap (address + k)) ≡ held k) →
+        c.units.reserved ≡ None →
+        OnPieces site allocated start end ps (set_reg_of regs t0 0) u more c →
+        Ends width t0 src address ps regs answers held touched b
+    ItFails : (x : Bool) (more : List Answer) (c : FullState) →
+        answers ≡ Success x ∷ more →
+        (x ≡ false) ⊎ (touched ≡ true) →
+        fstep site.context.flags b ≡ Some c →
+        c.state.values.mem ≡ b.state.values.mem →
+        c.units.reserved ≡ None →
+        OnPieces site allocated start end ps (set_reg_of regs t0 1) u more c →
+        Ends width t0 src address ps regs answers held touched b
 
   module _ (width : AtomicWidth) (t0 addr src address : ℕ) (ps : List Piece) (regs : List ℕ) (at_it : reg_of regs addr ≡ address) (held : ℕ → ℕ) (touched : Bool) (b : FullState) (store : Piece) (word : IsWord site.context.flags store (store_word width t0 addr src)) (lt : t0 < 32) (clear : AreOutside site.base (length site.bytes) (addresses_from address (width_bytes width))) where
     abbrev d : Decoded
@@ -136,11 +150,13 @@ module _ (site : Site) (allocated start end : ℕ) (u : Units) where
     abbrev v : FullValues
     v = values_of b
 
-    abbrev stored_values : FullValues
-    stored_values = put_units (set_reserved b.units None) (put_x d 0 (put_memory (number_put width (reg_of b.state.values.regs src) b.state.values.mem (reg_of b.state.values.regs addr)) v))
+    -- after it, by whether it stored
+    abbrev row_after : Bool → FullValues
+    row_after t = put_units (set_reserved b.units None) (if t then put_x d 0 (put_memory (number_put width (reg_of b.state.values.regs src) b.state.values.mem (reg_of b.state.values.regs addr)) v) else put_x d 1 v)
 
-    abbrev unstored : FullValues
-    unstored = put_units (set_reserved b.units None) (put_x d 1 v)
+    -- whether it stores where it is told so, with this reservation
+    abbrev may : Bool → Option Reservation → Bool
+    may x o = x && has_reserved o (reservation_at width (reg_of b.state.values.regs addr))
 
     module _ {answers : List Answer} (h : OnPieces site allocated start end (store ∷ ps) regs u answers b) (keeps : Keeps (reservation_at width address) held touched b) where
       same : b.state.values.regs ≡ regs
@@ -152,58 +168,63 @@ module _ (site : Site) (allocated start end : ℕ) (u : Units) where
       next_is : (l : List Answer) → b.answers ≡ l → fnext site.context.flags b ≡ row_next pc (unit_row d v) l
       next_is l e = unit_next b d [] refl (word_here store d word refl h.ints) (omega arith) (word_has store d word refl h.ints) ∙ ap (row_next pc (unit_row d v)) e
 
-      -- it is told whether it may go through, and whether it does
-      told : (x : Bool) (more : List Answer) → answers ≡ Success x ∷ more → (o : Option Reservation) → b.units.reserved ≡ o → (e : Bool) → (x && has_reserved o (reservation_at width (reg_of b.state.values.regs addr))) ≡ e → Ends width t0 src address ps regs answers held touched b
-      told x more is o left true e =
-          let p = h.ints in
-          let s = b.state in
-          let c = full_at pc stored_values more in
-          let step : fstep site.context.flags b ≡ Some c = ap stepped (next_is (Success x ∷ more) (h.answers ∙ is))
-          ∙ (λ i. Some (full_at pc (put_units (set_reserved b.units None) (if x && has_reserved (left i) (reservation_at width (reg_of s.values.regs addr)) then put_x d 0 (put_memory (number_put width (reg_of s.values.regs src) s.values.mem (reg_of s.values.regs addr)) v) else put_x d 1 v)) more))
-          ∙ ap (λ t. Some (full_at pc (put_units (set_reserved b.units None) (if t then put_x d 0 (put_memory (number_put width (reg_of s.values.regs src) s.values.mem (reg_of s.values.regs addr)) v) else put_x d 1 v)) more)) e in
-          let bytes = bytes_of width (reg_of s.values.regs src) in
-          let a = reg_of s.values.regs addr in
-          let out : AreOutside site.base (length site.bytes) (addresses_from a (length bytes)) = subst (λ n. AreOutside site.base (length site.bytes) (addresses_from a n)) (sym (bytes_long width (reg_of s.values.regs src))) (subst (λ n. AreOutside site.base (length site.bytes) (addresses_from n (width_bytes width))) (sym (here same)) clear) in
-          let stored = put_values s.values a bytes p.is_state.values (bytes_fit width (reg_of s.values.regs src)) in
-          ItStores more c (is ∙ ap (λ t. Success t ∷ more) (both x _ e)) step (λ i. number_put width (reg_of (same i) src) s.values.mem (here same i)) (kept x o left e) refl (record {
-            ints = word_next store d word refl p c.state (record { regs = set_reg_of regs t0 0; mem = s.values.mem }) refl (placed_after site s.values.mem a bytes p.here.placed out) (are_values_set (record { regs = s.values.regs; mem = store_at s.values.mem a bytes }) t0 0 stored lt (lit< tt))
-                (λ i. record { regs = set_reg_of (same i) t0 0; mem = store_at s.values.mem a bytes });
-            units = h.units;
-            answers = refl;
-          })
-        where
-          both : (x y : Bool) → (x && y) ≡ true → x ≡ true
-          both true y e = refl
-          both false y e = absurd (cc)
+      step_is : (x : Bool) (more : List Answer) → answers ≡ Success x ∷ more → (o : Option Reservation) → b.units.reserved ≡ o → (t : Bool) → may x o ≡ t → fstep site.context.flags b ≡ Some (full_at pc (row_after t) more)
+      step_is x more is o left t e = ap stepped (next_is (Success x ∷ more) (h.answers ∙ is)) ∙ (λ i. Some (full_at pc (row_after (may x (left i))) more)) ∙ ap (λ t. Some (full_at pc (row_after t) more)) e
 
-          kept : (x : Bool) (o : Option Reservation) → b.units.reserved ≡ o → (x && has_reserved o (reservation_at width (reg_of b.state.values.regs addr))) ≡ true → (k : ℕ) → k < width_bytes width → byte b.state.values.mem (wrap (address + k)) ≡ held k
-          kept false o left e k lt = absurd (cc)
-          kept true None left e k lt = absurd (cc)
-          kept true (Some r) left e k lt = ⊎_elim (λ (none : b.units.reserved ≡ None). absurd (cc)) (λ (some : (b.units.reserved ≡ Some (reservation_at width address)) × ((k : ℕ) → k < width_bytes width → byte b.state.values.mem (wrap (address + k)) ≡ held k)). some.1 k lt) keeps.left
-      told x more is o left false e =
+      told_so : (x : Bool) (o : Option Reservation) → may x o ≡ true → x ≡ true
+      told_so true o e = refl
+      told_so false o e = absurd (cc)
+
+      -- where it stores the bytes are those that were reserved
+      kept : (x : Bool) (o : Option Reservation) → b.units.reserved ≡ o → may x o ≡ true → (k : ℕ) → k < width_bytes width → byte b.state.values.mem (wrap (address + k)) ≡ held k
+      kept false o left e k lt = absurd (cc)
+      kept true None left e k lt = absurd (cc)
+      kept true (Some r) left e k lt =
+          ⊎_elim (λ (none : b.units.reserved ≡ None). absurd (cc))
+          (λ (some : (b.units.reserved ≡ Some (reservation_at width address)) × ((k : ℕ) → k < width_bytes width → byte b.state.values.mem (wrap (address + k)) ≡ held k)). some.1 k lt) keeps.left
+
+      why : (x : Bool) (o : Option Reservation) → b.units.reserved ≡ o → may x o ≡ false → (x ≡ false) ⊎ (touched ≡ true)
+      why false o left e = inl refl
+      why true o left e = inr (is_true touched (λ (untouched : touched ≡ false).
+          let alive : o ≡ Some (reservation_at width address) = sym left ∙ keeps.alive untouched in
+          let own : may true o ≡ true = (λ i. has_reserved (alive i) (reservation_at width (here same i))) ∙ own_reservation (reservation_at width address) in
+          let never : false ≡ true = sym e ∙ own in
+          absurd (cc)))
+
+      it_stores : (x : Bool) (more : List Answer) → answers ≡ Success x ∷ more → (o : Option Reservation) → b.units.reserved ≡ o → may x o ≡ true → Ends width t0 src address ps regs answers held touched b
+      it_stores x more is o left e =
           let p = h.ints in
           let s = b.state in
-          let c = full_at pc unstored more in
-          let step : fstep site.context.flags b ≡ Some c = ap stepped (next_is (Success x ∷ more) (h.answers ∙ is))
-          ∙ (λ i. Some (full_at pc (put_units (set_reserved b.units None) (if x && has_reserved (left i) (reservation_at width (reg_of s.values.regs addr)) then put_x d 0 (put_memory (number_put width (reg_of s.values.regs src) s.values.mem (reg_of s.values.regs addr)) v) else put_x d 1 v)) more))
-          ∙ ap (λ t. Some (full_at pc (put_units (set_reserved b.units None) (if t then put_x d 0 (put_memory (number_put width (reg_of s.values.regs src) s.values.mem (reg_of s.values.regs addr)) v) else put_x d 1 v)) more)) e in
-          ItFails x more c is (why x e) step refl refl (record {
-            ints = word_next store d word refl p c.state (record { regs = set_reg_of regs t0 1; mem = s.values.mem }) refl p.here.placed (are_values_set s.values t0 1 p.is_state.values lt (lit< tt)) (λ i. record { regs = set_reg_of (same i) t0 1; mem = s.values.mem });
-            units = h.units;
-            answers = refl;
-          })
-        where
-          why : (x : Bool) → (x && has_reserved o (reservation_at width (reg_of b.state.values.regs addr))) ≡ false → (x ≡ false) ⊎ (touched ≡ true)
-          why false e = inl refl
-          why true e = inr (is_true touched (λ (untouched : touched ≡ false).
-              let alive : o ≡ Some (reservation_at width address) = sym left ∙ keeps.alive untouched in
-              let own : has_reserved o (reservation_at width (reg_of b.state.values.regs addr)) ≡ true = (λ i. has_reserved (alive i) (reservation_at width (here same i))) ∙ own_reservation (reservation_at width address) in
-              let never : false ≡ true = sym e ∙ own in
-              absurd (cc)))
+          let c = full_at pc (row_after true) more in
+          let a = reg_of s.values.regs addr in
+          let bytes = bytes_of width (reg_of s.values.regs src) in
+          let out : AreOutside site.base (length site.bytes) (addresses_from a (length bytes)) =
+          subst (λ n. AreOutside site.base (length site.bytes) (addresses_from a n)) (sym (bytes_long width (reg_of s.values.regs src)))
+          (subst (λ n. AreOutside site.base (length site.bytes) (addresses_from n (width_bytes width))) (sym (here same)) clear) in
+          let stored = put_values s.values a bytes p.is_state.values (bytes_fit width (reg_of s.values.regs src)) in
+          let values = are_values_set (record { regs = s.values.regs; mem = store_at s.values.mem a bytes }) t0 0 stored lt (lit< tt) in
+          let ints = word_next store d word refl p c.state (record { regs = set_reg_of regs t0 0; mem = s.values.mem }) refl (placed_after site s.values.mem a bytes p.here.placed out) values
+          (λ i. record { regs = set_reg_of (same i) t0 0; mem = store_at s.values.mem a bytes }) in
+          ItStores more c (is ∙ ap (λ t. Success t ∷ more) (told_so x o e)) (step_is x more is o left true e) (λ i. number_put width (reg_of (same i) src) s.values.mem (here same i)) (kept x o left e) refl
+          (record { ints = ints; units = h.units; answers = refl })
+
+      it_fails : (x : Bool) (more : List Answer) → answers ≡ Success x ∷ more → (o : Option Reservation) → b.units.reserved ≡ o → may x o ≡ false → Ends width t0 src address ps regs answers held touched b
+      it_fails x more is o left e =
+          let p = h.ints in
+          let s = b.state in
+          let c = full_at pc (row_after false) more in
+          let ints = word_next store d word refl p c.state (record { regs = set_reg_of regs t0 1; mem = s.values.mem }) refl p.here.placed (are_values_set s.values t0 1 p.is_state.values lt (lit< tt))
+          (λ i. record { regs = set_reg_of (same i) t0 1; mem = s.values.mem }) in
+          ItFails x more c is (why x o left e) (step_is x more is o left false e) refl refl (record { ints = ints; units = h.units; answers = refl })
+
+      -- it is told whether it may go through, and whether it does
+      told : (x : Bool) (more : List Answer) → answers ≡ Success x ∷ more → (t : Bool) → may x b.units.reserved ≡ t → Ends width t0 src address ps regs answers held touched b
+      told x more is true e = it_stores x more is b.units.reserved refl e
+      told x more is false e = it_fails x more is b.units.reserved refl e
 
       sc_goes : (l : List Answer) → answers ≡ l → Ends width t0 src address ps regs answers held touched b
       sc_goes [] is = ItAsks (next_is [] (h.answers ∙ is))
-      sc_goes (Success x ∷ more) is = told x more is b.units.reserved refl (x && has_reserved b.units.reserved (reservation_at width (reg_of b.state.values.regs addr))) refl
+      sc_goes (Success x ∷ more) is = told x more is (may x b.units.reserved) refl
       sc_goes (Bits n ∷ more) is = ItAsks (next_is (Bits n ∷ more) (h.answers ∙ is))
       sc_goes (Vectors rs ∷ more) is = ItAsks (next_is (Vectors rs ∷ more) (h.answers ∙ is))
       sc_goes (Stored bs ∷ more) is = ItAsks (next_is (Stored bs ∷ more) (h.answers ∙ is))
@@ -237,7 +258,19 @@ module _ (site : Site) (first last allocated start end most : ℕ) (u : Units) (
   abbrev Ended : List Answer → Shared → Type 0
   Ended answers a = LoopEnds site env allocated start end most store whole ps tail leave width dst src t0 address Again u answers a
 
-  module _ (loops : after 0 whole ≡ Some (load ∷ ps)) (load_is : IsWord site.context.flags load (load_word width dst addr)) (store_is : IsWord site.context.flags store (store_word width t0 addr src)) (dst_lt : dst < 32) (quiet : AreQuiet ps) (quiet_tail : AreQuiet tail) (small : address < 2 ^ 64) (some : 0 < t0) (lt : t0 < 32) (clear : AreOutside site.base (length site.bytes) (addresses_from address (width_bytes width))) (addressed : (regs : List ℕ) → Again regs → reg_of regs addr ≡ address) (middle : (regs : List ℕ) (n : ℕ) (mem : Memory) → Again regs → n < 2 ^ 64 → AreValues (record { regs = set_reg_of regs dst n; mem = mem }) → Middle env most whole ps store_pieces leave addr t0 address Again (record { regs = set_reg_of regs dst n; mem = mem })) where
+  module _
+      (loops : after 0 whole ≡ Some (load ∷ ps))
+      (load_is : IsWord site.context.flags load (load_word width dst addr))
+      (store_is : IsWord site.context.flags store (store_word width t0 addr src))
+      (dst_lt : dst < 32)
+      (quiet : AreQuiet ps)
+      (quiet_tail : AreQuiet tail)
+      (small : address < 2 ^ 64)
+      (some : 0 < t0)
+      (lt : t0 < 32)
+      (clear : AreOutside site.base (length site.bytes) (addresses_from address (width_bytes width)))
+      (addressed : (regs : List ℕ) → Again regs → reg_of regs addr ≡ address)
+      (middle : (regs : List ℕ) (n : ℕ) (mem : Memory) → Again regs → n < 2 ^ 64 → AreValues (record { regs = set_reg_of regs dst n; mem = mem }) → Middle env most whole ps store_pieces leave addr t0 address Again (record { regs = set_reg_of regs dst n; mem = mem })) where
     -- a pass before others
     earlier : {qs : List Piece} {took : List Answer} {b : Shared} (x : Bool) (a : Shared) → FailedPass site.context.flags r most x a b → LastPass site env most whole ps qs width dst address Again took b → LastPass site env most whole ps qs width dst address Again (Success x ∷ took) a
     earlier {b = b} x a failed p = record {
