@@ -66,7 +66,7 @@ LoopRuns Again =
     Again regs →
     LoopEnds site (environment site first last) allocated start end most store whole ps tail leave width dst src t0 address Again u answers a
 
--- whatever tests of the registers say it
+-- whatever tests of the registers say it; the lemma `loop_runs` is for whatever types do
 abbrev pub LoopsRun : Type 0
 LoopsRun = (test : ℕ → List ℕ → Bool) → LoopRuns (λ regs. (k : ℕ) → test k regs ≡ true)
 
