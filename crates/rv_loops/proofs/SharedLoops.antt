@@ -7,7 +7,7 @@ use Rattle.rv_code.specs.Evaluation.{StandIn, and_then, evaluate, point, at as p
 use Rattle.rv_code.specs.InstRuns.{environment}
 use Rattle.rv_code.specs.Pieces.{Branch, Piece}
 use Rattle.rv_loops.specs.Laws.{LoopRuns}
-use Rattle.rv_loops.specs.SharedLoops.{FailedPass, LastPass, Leaves, LoopEnds, Middle, Quiet, Stores, IsWord, load_word, reservation_at, store_word, stores}
+use Rattle.rv_loops.specs.SharedLoops.{EachMiddle, FailedPass, LastPass, Leaves, LoopEnds, Middle, Quiet, Stores, IsWord, load_word, reservation_at, store_word, stores}
 use Rattle.rv_loops.specs.SharedRuns.{AllClear, AreQuiet, ComesStill, Keeps, OnPieces, Still, next_writes, touches}
 use Rattle.rv_base.specs.declared.condcodes.IntCC.TheVariants.{NotEqual}
 use Rattle.rv_full.specs.Atomics.{number_at, width_bytes}
@@ -62,7 +62,7 @@ module _ (site : Site) (first last allocated start end most : ℕ) (u : Units) (
       (lt : t0 < 32)
       (clear : AreOutside site.base (length site.bytes) (addresses_from address (width_bytes width)))
       (addressed : (regs : List ℕ) → Again regs → reg_of regs addr ≡ address)
-      (middle : (regs : List ℕ) (n : ℕ) (mem : Memory) → Again regs → n < 2 ^ 64 → AreValues (record { regs = set_reg_of regs dst n; mem = mem }) → Middle env most whole ps store_pieces leave addr t0 address Again (record { regs = set_reg_of regs dst n; mem = mem })) where
+      (middle : EachMiddle env most whole ps store_pieces leave dst addr t0 address Again) where
     -- a pass before others
     earlier : {qs : List Piece} {took : List Answer} {b : Shared} (x : Bool) (a : Shared) → FailedPass site.context.flags r most x a b → LastPass site env most whole ps qs width dst address Again took b → LastPass site env most whole ps qs width dst address Again (Success x ∷ took) a
     earlier {b = b} x a failed p = record {

@@ -1,7 +1,7 @@
 -- What pieces and atomic loops do on the machine with all units, wherever they stand in finished code and whatever others write meanwhile.
 use Rattle.std.specs.Prelude.{◌≡◌, ℕ, ◌^◌, ◌<◌, Bool, true, List, [], ◌∷◌, length, Some}
 use Rattle.rv_base.specs.declared.flags.IsaFlags.{IsaFlags}
-use Rattle.rv_machine.specs.State.{AreValues, Memory, reg_of, set_reg_of}
+use Rattle.rv_machine.specs.State.{reg_of}
 use Rattle.rv_machine.specs.declared.ops.AtomicWidth.{AtomicWidth}
 use Rattle.rv_ops.specs.declared.atomic.AMO.TheVariants.{SeqCst}
 use Rattle.rv_inst.specs.Meaning.{AreOutside, addresses_from}
@@ -15,7 +15,7 @@ use Rattle.rv_code.specs.InstRuns.{environment}
 use Rattle.rv_code.specs.Pieces.{Amo, Do, Piece, after}
 use Rattle.rv_code.specs.Sites.{Site}
 use Rattle.rv_loops.specs.Alone.{AlonePasses}
-use Rattle.rv_loops.specs.SharedLoops.{IsWord, LoopEnds, Middle, Passes, load_reserved, load_word, store_conditional, store_word, stores}
+use Rattle.rv_loops.specs.SharedLoops.{EachMiddle, IsWord, LoopEnds, Passes, load_reserved, load_word, store_conditional, store_word, stores}
 use Rattle.rv_loops.specs.SharedRuns.{AllClear, AreQuiet, ComesStill, Keeps, OnPieces}
 
 -- what an evaluation gives of quiet pieces is what the machine comes to in as many steps at most, whatever others write between them
@@ -55,11 +55,7 @@ LoopRuns Again =
     address < 2 ^ 64 →
     AreOutside site.base (length site.bytes) (addresses_from address (width_bytes width)) →
     ((regs : List ℕ) → Again regs → reg_of regs addr ≡ address) →
-    ((regs : List ℕ) (n : ℕ) (mem : Memory) →
-    Again regs →
-    n < 2 ^ 64 →
-    AreValues (record { regs = set_reg_of regs dst n; mem = mem }) →
-    Middle (environment site first last) most whole ps (stores store t0 tail) leave addr t0 address Again (record { regs = set_reg_of regs dst n; mem = mem })) →
+    EachMiddle (environment site first last) most whole ps (stores store t0 tail) leave dst addr t0 address Again →
     (u : Units) (answers : List Answer) (regs : List ℕ) (a : Shared) →
     OnPieces site allocated start end (load ∷ ps) regs u answers a.full →
     AllClear site a.later →
@@ -83,5 +79,6 @@ pub record AtomicWords (flags : IsaFlags) (width : AtomicWidth) (addr : ℕ) : T
   pub load : (dst : ℕ) → IsWord flags (Do (Amo (load_reserved width) SeqCst dst addr 0)) (load_word width dst addr)
   pub store : (t0 src : ℕ) → IsWord flags (Do (Amo (store_conditional width) SeqCst t0 addr src)) (store_word width t0 addr src)
 
+-- under all flags, of both widths, at the address in any register
 abbrev pub AreAtomicWords : Type 0
 AreAtomicWords = (flags : IsaFlags) (width : AtomicWidth) (addr : ℕ) → AtomicWords flags width addr

@@ -1,6 +1,6 @@
 -- Atomic loops: a number is loaded and reserved, another is computed on registers alone, and it is stored where no one else wrote to it
 -- meanwhile; otherwise the loop begins again. Links of the proof.
-use Rattle.std.specs.Prelude.{◌≡◌, ◌⊎◌, ℕ, zero, suc, ◌+◌, ◌<◌, ◌≤◌, Bool, true, false, List, [], ◌∷◌, ◌++◌, Some, None, pos}
+use Rattle.std.specs.Prelude.{◌≡◌, ◌⊎◌, ℕ, zero, suc, ◌+◌, ◌^◌, ◌<◌, ◌≤◌, Bool, true, false, List, [], ◌∷◌, ◌++◌, Some, None, pos}
 use Rattle.rv_base.specs.declared.condcodes.IntCC.TheVariants.{NotEqual}
 use Rattle.rv_base.specs.declared.flags.IsaFlags.{IsaFlags}
 use Rattle.rv_machine.specs.declared.ops.AtomicOp.TheVariants.{Lr, Sc}
@@ -8,7 +8,7 @@ use Rattle.rv_machine.specs.declared.ops.AtomicWidth.{AtomicWidth}
 use Rattle.rv_machine.specs.declared.ops.AtomicWidth.TheVariants.{W, D}
 use Rattle.rv_ops.specs.declared.atomic.AtomicOP.{AtomicOP}
 use Rattle.rv_ops.specs.declared.atomic.AtomicOP.TheVariants.{LrW, ScW, LrD, ScD}
-use Rattle.rv_machine.specs.State.{Values, byte, reg_of, set_reg_of, wrap}
+use Rattle.rv_machine.specs.State.{AreValues, Memory, Values, byte, reg_of, set_reg_of, wrap}
 use Rattle.rv_inst.specs.Meaning.{Environment}
 use Rattle.rv_full.specs.declared.answer.Answer.{Answer}
 use Rattle.rv_full.specs.declared.answer.Answer.TheVariants.{Success}
@@ -67,6 +67,15 @@ pub data Middle (env : Environment) (most : ℕ) (whole ps store_on leave : List
       n ≤ most →
       evaluate env n whole (point ps v) ≡ Some (point leave w) →
       Middle env most whole ps store_on leave addr t0 address Again v
+
+-- from wherever a pass may begin, and whatever number it loads
+abbrev pub EachMiddle : Environment → ℕ → List Piece → List Piece → List Piece → List Piece → ℕ → ℕ → ℕ → ℕ → (List ℕ → Type 0) → Type 0
+EachMiddle env most whole ps store_on leave dst addr t0 address Again =
+    (regs : List ℕ) (n : ℕ) (mem : Memory) →
+    Again regs →
+    n < 2 ^ 64 →
+    AreValues (record { regs = set_reg_of regs dst n; mem = mem }) →
+    Middle env most whole ps store_on leave addr t0 address Again (record { regs = set_reg_of regs dst n; mem = mem })
 
 -- ---- its run
 
