@@ -1,0 +1,5 @@
+pub mod Alone
+pub mod AtomicSteps
+pub mod AtomicWords
+pub mod SharedLoops
+pub mod SharedRuns

@@ -1,0 +1,23 @@
+//! What this crate proves: laws of the definitions, each the contract of a function that does nothing.
+
+ghost use Rattle.rv_loops.specs.Laws.{AreAtomicWords, LoopsAlone, LoopsRun, StillRuns};
+
+/// What an evaluation gives of pieces on registers alone is what the machine comes to, whatever others write between its steps.
+pub fn still_runs()
+    ensures { StillRuns }
+{}
+
+/// An atomic loop ends with one change, with none, or asking, for every list of answers and whatever others write meanwhile.
+pub fn loops_run()
+    ensures { LoopsRun }
+{}
+
+/// Where no one else writes, its passes that failed are a run of the machine alone, and each was told to fail.
+pub fn loops_alone()
+    ensures { LoopsAlone }
+{}
+
+/// The load and the store of such a loop are each one word of the machine.
+pub fn atomic_words()
+    ensures { AreAtomicWords }
+{}

@@ -1,0 +1,6 @@
+//! How an atomic loop runs on the machine with all units, whatever others write to its memory between its steps.
+#![tactic(auto)]
+
+mod laws;
+
+pub use laws::{atomic_words, loops_alone, loops_run, still_runs};
