@@ -56,7 +56,7 @@ pub use operand_list::OperandList;
 pub use operands::OperandVisitor;
 pub use out_of_memory::OutOfMemory;
 pub use preg_set::PRegSet;
-pub use reg_names::reg_name;
+pub use reg_names::{float_reg_name, int_reg_name, reg_name};
 pub use regs::{PReg, Reg, RegClass, VirtualIndex, Writable, WritableReg};
 pub use reloc::{Reloc, RelocTarget};
 pub use trap::{TrapCode, UserTrap};

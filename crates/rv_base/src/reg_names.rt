@@ -1,7 +1,8 @@
 //! The names of registers: those of the psABI's "Register Convention", and a number for a vector or a virtual register.
 
 ghost use Rattle.std.specs.Prelude.{◌≡◌, ◌<◌, Some, IfOk, string_bytes};
-ghost use Rattle.rv_base.specs.RegNames.{int_names, float_names, name_at, name_of};
+ghost use Rattle.rv_base.specs.declared.regs.RegClass.TheVariants.{Int, Float};
+ghost use Rattle.rv_base.specs.RegNames.{real_name, name_of};
 
 use crate::out_of_memory::OutOfMemory;
 use crate::regs::{Reg, RegClass};
@@ -21,8 +22,8 @@ impl fmt::Display for Reg {
     fn fmt<W: fmt::Write>(&self, f: &mut fmt::Formatter<W>) -> fmt::Result {
         match self {
             Reg::Real(reg) => match reg.class {
-                RegClass::Int => f.write_str(int_name(reg.hw_enc())),
-                RegClass::Float => f.write_str(float_name(reg.hw_enc())),
+                RegClass::Int => f.write_str(int_reg_name(u64::from(reg.hw_enc()))),
+                RegClass::Float => f.write_str(float_reg_name(u64::from(reg.hw_enc()))),
                 RegClass::Vector => {
                     let number = reg.hw_enc();
                     write!(f, "v{number}")
@@ -36,9 +37,10 @@ impl fmt::Display for Reg {
     }
 }
 
-fn int_name(number: u8) -> &'static str
+/// The name of an integer register, x0 to x31.
+pub fn int_reg_name(number: u64) -> &'static str
     requires { number < 32 }
-    ensures { result.now ≡ name_at int_names number }
+    ensures { result.now ≡ real_name Int number }
 {
     match number {
         0 => "zero",
@@ -76,9 +78,10 @@ fn int_name(number: u8) -> &'static str
     }
 }
 
-fn float_name(number: u8) -> &'static str
+/// The name of a floating-point register, f0 to f31.
+pub fn float_reg_name(number: u64) -> &'static str
     requires { number < 32 }
-    ensures { result.now ≡ name_at float_names number }
+    ensures { result.now ≡ real_name Float number }
 {
     match number {
         0 => "ft0",
