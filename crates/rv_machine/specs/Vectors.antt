@@ -65,29 +65,15 @@ opivv funct6 =
     if funct6 == 0x29 then Some Any else
     None
 
--- OPFVV
-abbrev pub opfvv : ℕ → Option VecFields
-opfvv funct6 =
+-- the rows that OPFVV and OPFVF share
+abbrev pub opf : ℕ → Option VecFields
+opf funct6 =
     -- vfadd
     if funct6 == 0x00 then Some Any else
     -- vfsub
     if funct6 == 0x02 then Some Any else
-    -- vfmin
-    if funct6 == 0x04 then Some Any else
-    -- vfmax
-    if funct6 == 0x06 then Some Any else
     -- vfsgnj
     if funct6 == 0x08 then Some Any else
-    -- vfsgnjn
-    if funct6 == 0x09 then Some Any else
-    -- vfsgnjx
-    if funct6 == 0x0a then Some Any else
-    -- vfmv.f.s
-    if funct6 == 0x10 then Some ToScalar else
-    -- conversions
-    if funct6 == 0x12 then Some FloatUnary else
-    -- vfsqrt
-    if funct6 == 0x13 then Some Root else
     -- vmfeq
     if funct6 == 0x18 then Some Any else
     -- vmfle
@@ -110,27 +96,28 @@ opfvv funct6 =
     if funct6 == 0x2f then Some Any else
     None
 
--- OPMVV
-abbrev pub opmvv : ℕ → Option VecFields
-opmvv funct6 =
-    -- vredminu
+-- OPFVV
+abbrev pub opfvv : ℕ → Option VecFields
+opfvv funct6 =
+    -- vfmin
     if funct6 == 0x04 then Some Any else
-    -- vredmaxu
+    -- vfmax
     if funct6 == 0x06 then Some Any else
-    -- vmv.x.s
+    -- vfsgnjn
+    if funct6 == 0x09 then Some Any else
+    -- vfsgnjx
+    if funct6 == 0x0a then Some Any else
+    -- vfmv.f.s
     if funct6 == 0x10 then Some ToScalar else
-    -- extensions, counts and reversals
-    if funct6 == 0x12 then Some IntUnary else
-    -- vcompress
-    if funct6 == 0x17 then Some Unmasked else
-    -- vmand
-    if funct6 == 0x19 then Some Unmasked else
-    -- vmor
-    if funct6 == 0x1a then Some Unmasked else
-    -- vmnand
-    if funct6 == 0x1d then Some Unmasked else
-    -- vmnor
-    if funct6 == 0x1e then Some Unmasked else
+    -- conversions
+    if funct6 == 0x12 then Some FloatUnary else
+    -- vfsqrt
+    if funct6 == 0x13 then Some Root else
+    opf funct6
+
+-- the rows that OPMVV and OPMVX share
+abbrev pub opm : ℕ → Option VecFields
+opm funct6 =
     -- vmulhu
     if funct6 == 0x24 then Some Any else
     -- vmul
@@ -158,6 +145,29 @@ opmvv funct6 =
     -- vwsub.w
     if funct6 == 0x37 then Some Any else
     None
+
+-- OPMVV
+abbrev pub opmvv : ℕ → Option VecFields
+opmvv funct6 =
+    -- vredminu
+    if funct6 == 0x04 then Some Any else
+    -- vredmaxu
+    if funct6 == 0x06 then Some Any else
+    -- vmv.x.s
+    if funct6 == 0x10 then Some ToScalar else
+    -- extensions, counts and reversals
+    if funct6 == 0x12 then Some IntUnary else
+    -- vcompress
+    if funct6 == 0x17 then Some Unmasked else
+    -- vmand
+    if funct6 == 0x19 then Some Unmasked else
+    -- vmor
+    if funct6 == 0x1a then Some Unmasked else
+    -- vmnand
+    if funct6 == 0x1d then Some Unmasked else
+    -- vmnor
+    if funct6 == 0x1e then Some Unmasked else
+    opm funct6
 
 -- OPIVI
 abbrev pub opivi : ℕ → Option VecFields
@@ -214,117 +224,35 @@ opivi funct6 =
     if funct6 == 0x2f then Some Any else
     None
 
--- OPIVX
+-- OPIVX: the rows of OPIVV, and those that have no form of two vectors
 abbrev pub opivx : ℕ → Option VecFields
 opivx funct6 =
-    -- vadd
-    if funct6 == 0x00 then Some Any else
-    -- vandn
-    if funct6 == 0x01 then Some Any else
-    -- vsub
-    if funct6 == 0x02 then Some Any else
     -- vrsub
     if funct6 == 0x03 then Some Any else
-    -- vminu
-    if funct6 == 0x04 then Some Any else
-    -- vmin
-    if funct6 == 0x05 then Some Any else
-    -- vmaxu
-    if funct6 == 0x06 then Some Any else
-    -- vmax
-    if funct6 == 0x07 then Some Any else
-    -- vand
-    if funct6 == 0x09 then Some Any else
-    -- vor
-    if funct6 == 0x0a then Some Any else
-    -- vxor
-    if funct6 == 0x0b then Some Any else
-    -- vrgather
-    if funct6 == 0x0c then Some Any else
     -- vslidedown
     if funct6 == 0x0f then Some Any else
-    -- vror
-    if funct6 == 0x14 then Some Any else
-    -- vrol
-    if funct6 == 0x15 then Some Any else
-    -- vmerge, vmv.v
-    if funct6 == 0x17 then Some Merge else
-    -- vmseq
-    if funct6 == 0x18 then Some Any else
-    -- vmsne
-    if funct6 == 0x19 then Some Any else
-    -- vmsltu
-    if funct6 == 0x1a then Some Any else
-    -- vmslt
-    if funct6 == 0x1b then Some Any else
-    -- vmsleu
-    if funct6 == 0x1c then Some Any else
-    -- vmsle
-    if funct6 == 0x1d then Some Any else
     -- vmsgtu
     if funct6 == 0x1e then Some Any else
     -- vmsgt
     if funct6 == 0x1f then Some Any else
-    -- vsaddu
-    if funct6 == 0x20 then Some Any else
-    -- vsadd
-    if funct6 == 0x21 then Some Any else
-    -- vssubu
-    if funct6 == 0x22 then Some Any else
-    -- vssub
-    if funct6 == 0x23 then Some Any else
-    -- vsll
-    if funct6 == 0x25 then Some Any else
-    -- vsmul
-    if funct6 == 0x27 then Some Any else
-    -- vsrl
-    if funct6 == 0x28 then Some Any else
-    -- vsra
-    if funct6 == 0x29 then Some Any else
-    None
+    opivv funct6
 
 -- OPFVF
 abbrev pub opfvf : ℕ → Option VecFields
 opfvf funct6 =
-    -- vfadd
-    if funct6 == 0x00 then Some Any else
-    -- vfsub
-    if funct6 == 0x02 then Some Any else
-    -- vfsgnj
-    if funct6 == 0x08 then Some Any else
     -- vfmv.s.f
     if funct6 == 0x10 then Some FromScalar else
     -- vfmerge, vfmv.v
     if funct6 == 0x17 then Some Merge else
-    -- vmfeq
-    if funct6 == 0x18 then Some Any else
-    -- vmfle
-    if funct6 == 0x19 then Some Any else
-    -- vmflt
-    if funct6 == 0x1b then Some Any else
-    -- vmfne
-    if funct6 == 0x1c then Some Any else
     -- vmfgt
     if funct6 == 0x1d then Some Any else
     -- vmfge
     if funct6 == 0x1f then Some Any else
-    -- vfdiv
-    if funct6 == 0x20 then Some Any else
     -- vfrdiv
     if funct6 == 0x21 then Some Any else
-    -- vfmul
-    if funct6 == 0x24 then Some Any else
     -- vfrsub
     if funct6 == 0x27 then Some Any else
-    -- vfmacc
-    if funct6 == 0x2c then Some Any else
-    -- vfnmacc
-    if funct6 == 0x2d then Some Any else
-    -- vfmsac
-    if funct6 == 0x2e then Some Any else
-    -- vfnmsac
-    if funct6 == 0x2f then Some Any else
-    None
+    opf funct6
 
 -- OPMVX
 abbrev pub opmvx : ℕ → Option VecFields
@@ -333,33 +261,7 @@ opmvx funct6 =
     if funct6 == 0x0e then Some Any else
     -- vmv.s.x
     if funct6 == 0x10 then Some FromScalar else
-    -- vmulhu
-    if funct6 == 0x24 then Some Any else
-    -- vmul
-    if funct6 == 0x25 then Some Any else
-    -- vmulh
-    if funct6 == 0x27 then Some Any else
-    -- vmacc
-    if funct6 == 0x2d then Some Any else
-    -- vnmsac
-    if funct6 == 0x2f then Some Any else
-    -- vwaddu
-    if funct6 == 0x30 then Some Any else
-    -- vwadd
-    if funct6 == 0x31 then Some Any else
-    -- vwsubu
-    if funct6 == 0x32 then Some Any else
-    -- vwsub
-    if funct6 == 0x33 then Some Any else
-    -- vwaddu.w
-    if funct6 == 0x34 then Some Any else
-    -- vwadd.w
-    if funct6 == 0x35 then Some Any else
-    -- vwsubu.w
-    if funct6 == 0x36 then Some Any else
-    -- vwsub.w
-    if funct6 == 0x37 then Some Any else
-    None
+    opm funct6
 
 abbrev pub vector_fields : ℕ → ℕ → Option VecFields
 vector_fields funct6 funct3 =

@@ -1,7 +1,7 @@
 //! Vector arithmetic: which fields make an operation.
 
 ghost use Rattle.std.specs.Prelude.{◌≡◌};
-ghost use Rattle.rv_machine.specs.Vectors.{opivv, opfvv, opmvv, opivi, opivx, opfvf, opmvx, vector_fields, is_int_unary, is_float_unary, is_whole, is_move, are_fields};
+ghost use Rattle.rv_machine.specs.Vectors.{opivv, opf, opfvv, opm, opmvv, opivi, opivx, opfvf, opmvx, vector_fields, is_int_unary, is_float_unary, is_whole, is_move, are_fields};
 
 use crate::ops::VecFields;
 
@@ -42,21 +42,14 @@ fn opivv(funct6: u8) -> Option<VecFields>
     }
 }
 
-/// OPFVV.
-fn opfvv(funct6: u8) -> Option<VecFields>
-    ensures { result ≡ opfvv funct6 }
+/// The rows that OPFVV and OPFVF share.
+fn opf(funct6: u8) -> Option<VecFields>
+    ensures { result ≡ opf funct6 }
 {
     match funct6 {
         0x00 => Some(VecFields::Any),
         0x02 => Some(VecFields::Any),
-        0x04 => Some(VecFields::Any),
-        0x06 => Some(VecFields::Any),
         0x08 => Some(VecFields::Any),
-        0x09 => Some(VecFields::Any),
-        0x0a => Some(VecFields::Any),
-        0x10 => Some(VecFields::ToScalar),
-        0x12 => Some(VecFields::FloatUnary),
-        0x13 => Some(VecFields::Root),
         0x18 => Some(VecFields::Any),
         0x19 => Some(VecFields::Any),
         0x1b => Some(VecFields::Any),
@@ -67,6 +60,44 @@ fn opfvv(funct6: u8) -> Option<VecFields>
         0x2d => Some(VecFields::Any),
         0x2e => Some(VecFields::Any),
         0x2f => Some(VecFields::Any),
+        _ => None,
+    }
+}
+
+/// OPFVV.
+fn opfvv(funct6: u8) -> Option<VecFields>
+    ensures { result ≡ opfvv funct6 }
+{
+    match funct6 {
+        0x04 => Some(VecFields::Any),
+        0x06 => Some(VecFields::Any),
+        0x09 => Some(VecFields::Any),
+        0x0a => Some(VecFields::Any),
+        0x10 => Some(VecFields::ToScalar),
+        0x12 => Some(VecFields::FloatUnary),
+        0x13 => Some(VecFields::Root),
+        _ => opf(funct6),
+    }
+}
+
+/// The rows that OPMVV and OPMVX share.
+fn opm(funct6: u8) -> Option<VecFields>
+    ensures { result ≡ opm funct6 }
+{
+    match funct6 {
+        0x24 => Some(VecFields::Any),
+        0x25 => Some(VecFields::Any),
+        0x27 => Some(VecFields::Any),
+        0x2d => Some(VecFields::Any),
+        0x2f => Some(VecFields::Any),
+        0x30 => Some(VecFields::Any),
+        0x31 => Some(VecFields::Any),
+        0x32 => Some(VecFields::Any),
+        0x33 => Some(VecFields::Any),
+        0x34 => Some(VecFields::Any),
+        0x35 => Some(VecFields::Any),
+        0x36 => Some(VecFields::Any),
+        0x37 => Some(VecFields::Any),
         _ => None,
     }
 }
@@ -85,20 +116,7 @@ fn opmvv(funct6: u8) -> Option<VecFields>
         0x1a => Some(VecFields::Unmasked),
         0x1d => Some(VecFields::Unmasked),
         0x1e => Some(VecFields::Unmasked),
-        0x24 => Some(VecFields::Any),
-        0x25 => Some(VecFields::Any),
-        0x27 => Some(VecFields::Any),
-        0x2d => Some(VecFields::Any),
-        0x2f => Some(VecFields::Any),
-        0x30 => Some(VecFields::Any),
-        0x31 => Some(VecFields::Any),
-        0x32 => Some(VecFields::Any),
-        0x33 => Some(VecFields::Any),
-        0x34 => Some(VecFields::Any),
-        0x35 => Some(VecFields::Any),
-        0x36 => Some(VecFields::Any),
-        0x37 => Some(VecFields::Any),
-        _ => None,
+        _ => opm(funct6),
     }
 }
 
@@ -136,44 +154,16 @@ fn opivi(funct6: u8) -> Option<VecFields>
     }
 }
 
-/// OPIVX.
+/// OPIVX: the rows of OPIVV, and those that have no form of two vectors.
 fn opivx(funct6: u8) -> Option<VecFields>
     ensures { result ≡ opivx funct6 }
 {
     match funct6 {
-        0x00 => Some(VecFields::Any),
-        0x01 => Some(VecFields::Any),
-        0x02 => Some(VecFields::Any),
         0x03 => Some(VecFields::Any),
-        0x04 => Some(VecFields::Any),
-        0x05 => Some(VecFields::Any),
-        0x06 => Some(VecFields::Any),
-        0x07 => Some(VecFields::Any),
-        0x09 => Some(VecFields::Any),
-        0x0a => Some(VecFields::Any),
-        0x0b => Some(VecFields::Any),
-        0x0c => Some(VecFields::Any),
         0x0f => Some(VecFields::Any),
-        0x14 => Some(VecFields::Any),
-        0x15 => Some(VecFields::Any),
-        0x17 => Some(VecFields::Merge),
-        0x18 => Some(VecFields::Any),
-        0x19 => Some(VecFields::Any),
-        0x1a => Some(VecFields::Any),
-        0x1b => Some(VecFields::Any),
-        0x1c => Some(VecFields::Any),
-        0x1d => Some(VecFields::Any),
         0x1e => Some(VecFields::Any),
         0x1f => Some(VecFields::Any),
-        0x20 => Some(VecFields::Any),
-        0x21 => Some(VecFields::Any),
-        0x22 => Some(VecFields::Any),
-        0x23 => Some(VecFields::Any),
-        0x25 => Some(VecFields::Any),
-        0x27 => Some(VecFields::Any),
-        0x28 => Some(VecFields::Any),
-        0x29 => Some(VecFields::Any),
-        _ => None,
+        _ => opivv(funct6),
     }
 }
 
@@ -182,26 +172,13 @@ fn opfvf(funct6: u8) -> Option<VecFields>
     ensures { result ≡ opfvf funct6 }
 {
     match funct6 {
-        0x00 => Some(VecFields::Any),
-        0x02 => Some(VecFields::Any),
-        0x08 => Some(VecFields::Any),
         0x10 => Some(VecFields::FromScalar),
         0x17 => Some(VecFields::Merge),
-        0x18 => Some(VecFields::Any),
-        0x19 => Some(VecFields::Any),
-        0x1b => Some(VecFields::Any),
-        0x1c => Some(VecFields::Any),
         0x1d => Some(VecFields::Any),
         0x1f => Some(VecFields::Any),
-        0x20 => Some(VecFields::Any),
         0x21 => Some(VecFields::Any),
-        0x24 => Some(VecFields::Any),
         0x27 => Some(VecFields::Any),
-        0x2c => Some(VecFields::Any),
-        0x2d => Some(VecFields::Any),
-        0x2e => Some(VecFields::Any),
-        0x2f => Some(VecFields::Any),
-        _ => None,
+        _ => opf(funct6),
     }
 }
 
@@ -212,20 +189,7 @@ fn opmvx(funct6: u8) -> Option<VecFields>
     match funct6 {
         0x0e => Some(VecFields::Any),
         0x10 => Some(VecFields::FromScalar),
-        0x24 => Some(VecFields::Any),
-        0x25 => Some(VecFields::Any),
-        0x27 => Some(VecFields::Any),
-        0x2d => Some(VecFields::Any),
-        0x2f => Some(VecFields::Any),
-        0x30 => Some(VecFields::Any),
-        0x31 => Some(VecFields::Any),
-        0x32 => Some(VecFields::Any),
-        0x33 => Some(VecFields::Any),
-        0x34 => Some(VecFields::Any),
-        0x35 => Some(VecFields::Any),
-        0x36 => Some(VecFields::Any),
-        0x37 => Some(VecFields::Any),
-        _ => None,
+        _ => opm(funct6),
     }
 }
 
