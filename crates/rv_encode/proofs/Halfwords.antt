@@ -29,7 +29,7 @@ use Rattle.rv_ops.specs.declared.compressed.CbOp.{CbOp}
 use Rattle.rv_ops.specs.declared.compressed.CbOp.TheVariants as cb
 use Rattle.rv_ops.specs.declared.compressed.CsznOp.{CsznOp}
 use Rattle.rv_ops.specs.declared.compressed.CsznOp.TheVariants as cszn
-use Rattle.rv_ops.specs.Compressed.{space_bits, cr_space, cr_funct4, ca_space, ca_funct2, ca_funct6, cj_space, cj_funct3, ci_space, ci_funct3, ciw_space, ciw_funct3, cb_space, cb_funct3, cb_funct2, cszn_space, cszn_funct6, cszn_funct5}
+use Rattle.rv_ops.specs.Compressed.{space_bits, cr_numbers, ca_numbers, cj_numbers, ci_numbers, ciw_numbers, cb_numbers, cszn_numbers}
 use Rattle.rv_encode.specs.Layouts.{IsCrType, IsCaType, IsCjType, IsCiType, IsCiwType, IsCbType, IsCuType, cj_low_of, cj_high_of}
 use Rattle.rv_encode.specs.Compressed.{DecodesCr, DecodesCr2, ca_op, ca_needs, DecodesCi, decoded_cb, decoded_cszn, cszn_needs}
 use Rattle.rv_encode.proofs.Numbers.{signed-low_bits, low_bits_nonzero, signed_sixteens}
@@ -110,7 +110,7 @@ record Funct4 (half funct3 bit12 : ℕ) : Type 0 where
 funct4_of : (half funct4 : ℕ) → bits half 15 12 ≡ funct4 → Funct4 half (funct4 / 2) (funct4 % 2)
 funct4_of half funct4 h = record { funct3_is = omega (arith, h); bit12_is = omega (arith, h) }
 
-pub cr_decodes : (flags : IsaFlags) (op : CrOp) (half rs2 rd : ℕ) → flags.has_zca ≡ true → IsCrType half (space_bits (cr_space op)) rs2 rd (cr_funct4 op) → DecodesCr op rd rs2 (decode_half flags half)
+pub cr_decodes : (flags : IsaFlags) (op : CrOp) (half rs2 rd : ℕ) → flags.has_zca ≡ true → IsCrType half (space_bits (cr_numbers op).space) rs2 rd (cr_numbers op).funct4 → DecodesCr op rd rs2 (decode_half flags half)
 cr_decodes flags cr.CJr half rs2 rd zca h = tt
 cr_decodes flags cr.CMv half rs2 rd zca h =
     λ some. let f = funct4_of half _ h.funct4_is in quadrant_decodes flags half _ zca h.op_is (rw (f.funct3_is, f.bit12_is, h.rs2_is, h.rd_is, nonzero rs2 some))
@@ -120,7 +120,7 @@ cr_decodes flags cr.CJalr half rs2 rd zca h = tt
 cr_decodes flags cr.CAdd half rs2 rd zca h =
     λ some. let f = funct4_of half _ h.funct4_is in quadrant_decodes flags half _ zca h.op_is (rw (f.funct3_is, f.bit12_is, h.rs2_is, h.rd_is, nonzero rs2 some))
 
-pub cr2_decodes : (flags : IsaFlags) (op : CrOp) (half rs1 : ℕ) → flags.has_zca ≡ true → IsCrType half (space_bits (cr_space op)) 0 rs1 (cr_funct4 op) → DecodesCr2 op rs1 (decode_half flags half)
+pub cr2_decodes : (flags : IsaFlags) (op : CrOp) (half rs1 : ℕ) → flags.has_zca ≡ true → IsCrType half (space_bits (cr_numbers op).space) 0 rs1 (cr_numbers op).funct4 → DecodesCr2 op rs1 (decode_half flags half)
 cr2_decodes flags cr.CJr half rs1 zca h =
     λ some. let f = funct4_of half _ h.funct4_is in quadrant_decodes flags half _ zca h.op_is (rw (f.funct3_is, f.bit12_is, h.rs2_is, h.rd_is, nonzero rs1 some))
 cr2_decodes flags cr.CMv half rs1 zca h = tt
@@ -140,7 +140,7 @@ record Funct6 (half funct3 bit12 bits11 : ℕ) : Type 0 where
 funct6_of : (half funct6 : ℕ) → bits half 15 10 ≡ funct6 → Funct6 half (funct6 / 8) (funct6 / 4 % 2) (funct6 % 4)
 funct6_of half funct6 h = record { funct3_is = omega (arith, h); bit12_is = omega (arith, h); bits11_is = omega (arith, h) }
 
-pub ca_decodes : (flags : IsaFlags) (op : CaOp) (half rs2 rd : ℕ) → ca_needs flags op ≡ true → IsCaType half (space_bits (ca_space op)) rs2 (ca_funct2 op) rd (ca_funct6 op) → decode_half flags half ≡ Some (compressed (Alu (ca_op op)) (8 + rd) (8 + rd) (8 + rs2) (pos 0))
+pub ca_decodes : (flags : IsaFlags) (op : CaOp) (half rs2 rd : ℕ) → ca_needs flags op ≡ true → IsCaType half (space_bits (ca_numbers op).space) rs2 (ca_numbers op).funct2 rd (ca_numbers op).funct6 → decode_half flags half ≡ Some (compressed (Alu (ca_op op)) (8 + rd) (8 + rd) (8 + rs2) (pos 0))
 ca_decodes flags ca.CMul half rs2 rd needs h =
     let f = funct6_of half _ h.funct6_is in
     let (further, m) = both (flags.has_zca && flags.has_zcb) flags.has_m needs in
@@ -148,7 +148,7 @@ ca_decodes flags ca.CMul half rs2 rd needs h =
     quadrant_decodes flags half _ zca h.op_is (rw (f.funct3_is, f.bits11_is, f.bit12_is, h.funct2_is, zcb, m, h.rd_is, h.rs2_is))
 ca_decodes flags _ half rs2 rd needs h = let f = funct6_of half _ h.funct6_is in quadrant_decodes flags half _ needs h.op_is (rw (f.funct3_is, f.bits11_is, f.bit12_is, h.funct2_is, h.rd_is, h.rs2_is))
 
-pub ca_without : (flags : IsaFlags) (op : CaOp) (half rs2 rd : ℕ) → ca_needs flags op ≡ false → IsCaType half (space_bits (ca_space op)) rs2 (ca_funct2 op) rd (ca_funct6 op) → decode_half flags half ≡ None
+pub ca_without : (flags : IsaFlags) (op : CaOp) (half rs2 rd : ℕ) → ca_needs flags op ≡ false → IsCaType half (space_bits (ca_numbers op).space) rs2 (ca_numbers op).funct2 rd (ca_numbers op).funct6 → decode_half flags half ≡ None
 ca_without flags ca.CMul half rs2 rd off h =
     let f = funct6_of half _ h.funct6_is in
     quadrant_1_is flags half h.op_is ∙ rw (f.funct3_is, f.bits11_is, f.bit12_is, h.funct2_is) (joined_guards flags.has_zca flags.has_zcb flags.has_m _ off)
@@ -159,7 +159,7 @@ ca_without flags _ half rs2 rd off h = without_zca flags half off
 ci_imm_is : (half : ℕ) (imm : Imm6) → ci_bits half ≡ low_bits (2 ^ 6) imm.value → ci_imm half ≡ imm.value
 ci_imm_is half imm h = ap (signed (2 ^ 5)) h ∙ signed-low_bits (2 ^ 5) imm.value (omega (arith, ints)) (omega (arith, ints))
 
-pub ci_decodes : (flags : IsaFlags) (op : CiOp) (half rd : ℕ) (imm : Imm6) → flags.has_zca ≡ true → IsCiType ci_bits half (space_bits (ci_space op)) (low_bits (2 ^ 6) imm.value) rd (ci_funct3 op) → DecodesCi op rd imm.value (decode_half flags half)
+pub ci_decodes : (flags : IsaFlags) (op : CiOp) (half rd : ℕ) (imm : Imm6) → flags.has_zca ≡ true → IsCiType ci_bits half (space_bits (ci_numbers op).space) (low_bits (2 ^ 6) imm.value) rd (ci_numbers op).funct3 → DecodesCi op rd imm.value (decode_half flags half)
 ci_decodes flags ci.CAddi half rd imm zca h = quadrant_decodes flags half _ zca h.op_is (rw (h.funct3_is, h.rd_is, ci_imm_is half imm h.imm_is))
 ci_decodes flags ci.CAddiw half rd imm zca h = λ some. quadrant_decodes flags half _ zca h.op_is (rw (h.funct3_is, h.rd_is, nonzero rd some, ci_imm_is half imm h.imm_is))
 ci_decodes flags ci.CLi half rd imm zca h = quadrant_decodes flags half _ zca h.op_is (rw (h.funct3_is, h.rd_is, ci_imm_is half imm h.imm_is))
@@ -209,19 +209,19 @@ cj_bits_are half n small low high =
     let h = high_pieces half (n / 2 ^ 10 % 2) (n / 2 ^ 8 % 2 ^ 2) (n / 2 ^ 4 % 2) (n / 2 ^ 11) (omega arith) (omega arith) (omega arith) (omega arith) high in
     rw (h.bit12_is, h.bit8_is, h.bits9_is, l.bit6_is, l.bit7_is, l.bit2_is, h.bit11_is, l.bits3_is) (pieces_sum n)
 
-pub cj_decodes : (flags : IsaFlags) (op : CjOp) (half : ℕ) (imm : Imm12) → flags.has_zca ≡ true → IsCjType half (space_bits (cj_space op)) (low_bits (2 ^ 12) imm.value) (cj_funct3 op) → decode_half flags half ≡ Some (compressed (Base Jal) 0 0 0 imm.value)
+pub cj_decodes : (flags : IsaFlags) (op : CjOp) (half : ℕ) (imm : Imm12) → flags.has_zca ≡ true → IsCjType half (space_bits (cj_numbers op).space) (low_bits (2 ^ 12) imm.value) (cj_numbers op).funct3 → decode_half flags half ≡ Some (compressed (Base Jal) 0 0 0 imm.value)
 cj_decodes flags cj.CJ half imm zca h =
     let value : cj_imm half ≡ imm.value = ap (signed (2 ^ 11)) h.imm_is ∙ signed-low_bits (2 ^ 11) imm.value (omega (arith, ints)) (omega (arith, ints)) in
     quadrant_decodes flags half _ zca h.op_is (rw (h.funct3_is, value))
 
 -- ---- CIW
 
-pub ciw_decodes : (flags : IsaFlags) (op : CiwOp) (half rd imm : ℕ) → flags.has_zca ≡ true → 0 < imm → IsCiwType half (space_bits (ciw_space op)) rd (4 * imm) (ciw_funct3 op) → decode_half flags half ≡ Some (compressed (Alu (Int Addi)) (8 + rd) 2 0 (pos (4 * imm)))
+pub ciw_decodes : (flags : IsaFlags) (op : CiwOp) (half rd imm : ℕ) → flags.has_zca ≡ true → 0 < imm → IsCiwType half (space_bits (ciw_numbers op).space) rd (4 * imm) (ciw_numbers op).funct3 → decode_half flags half ≡ Some (compressed (Alu (Int Addi)) (8 + rd) 2 0 (pos (4 * imm)))
 ciw_decodes flags ciw.CAddi4spn half rd imm zca some h = quadrant_decodes flags half _ zca h.op_is (rw (h.funct3_is, h.rd_is, h.imm_is, nonzero (4 * imm) (omega arith)))
 
 -- ---- CB
 
-pub cb_decodes : (flags : IsaFlags) (op : CbOp) (half rd : ℕ) (imm : Imm6) → flags.has_zca ≡ true → IsCbType half (space_bits (cb_space op)) (low_bits (2 ^ 6) imm.value) rd (cb_funct2 op) (cb_funct3 op) → decode_half flags half ≡ Some (decoded_cb op (8 + rd) imm.value)
+pub cb_decodes : (flags : IsaFlags) (op : CbOp) (half rd : ℕ) (imm : Imm6) → flags.has_zca ≡ true → IsCbType half (space_bits (cb_numbers op).space) (low_bits (2 ^ 6) imm.value) rd (cb_numbers op).funct2 (cb_numbers op).funct3 → decode_half flags half ≡ Some (decoded_cb op (8 + rd) imm.value)
 cb_decodes flags cb.CSrli half rd imm zca h = quadrant_decodes flags half _ zca h.op_is (rw (h.funct3_is, h.funct2_is, h.rd_is, h.imm_is))
 cb_decodes flags cb.CSrai half rd imm zca h = quadrant_decodes flags half _ zca h.op_is (rw (h.funct3_is, h.funct2_is, h.rd_is, h.imm_is))
 cb_decodes flags cb.CAndi half rd imm zca h = quadrant_decodes flags half _ zca h.op_is (rw (h.funct3_is, h.funct2_is, h.rd_is, ci_imm_is half imm h.imm_is))
@@ -240,7 +240,7 @@ cu_decodes flags half funct5 rd needs h among unary =
     let (zca, zcb) = both flags.has_zca flags.has_zcb needs in
     quadrant_decodes flags half _ zca h.op_is (rw (f.funct3_is, f.bits11_is, f.bit12_is, high, zcb) unary)
 
-pub cszn_decodes : (flags : IsaFlags) (op : CsznOp) (half rd : ℕ) → cszn_needs flags op ≡ true → IsCuType half (space_bits (cszn_space op)) (cszn_funct5 op) rd (cszn_funct6 op) → decode_half flags half ≡ Some (decoded_cszn op (8 + rd))
+pub cszn_decodes : (flags : IsaFlags) (op : CsznOp) (half rd : ℕ) → cszn_needs flags op ≡ true → IsCuType half (space_bits (cszn_numbers op).space) (cszn_numbers op).funct5 rd (cszn_numbers op).funct6 → decode_half flags half ≡ Some (decoded_cszn op (8 + rd))
 cszn_decodes flags cszn.CZextb half rd needs h = cu_decodes flags half _ rd needs h refl (rw (low_of half _ h.funct5_is, h.rd_is))
 cszn_decodes flags cszn.CSextb half rd needs h =
     let (zcb, zbb) = both (flags.has_zca && flags.has_zcb) flags.has_zbb needs in
@@ -263,7 +263,7 @@ cu_is flags half funct5 rd h among =
     let high : bits half 6 5 ≡ 3 = omega (arith, is, among) in
     quadrant_1_is flags half h.op_is ∙ rw (f.funct3_is, f.bits11_is, f.bit12_is, high)
 
-pub cszn_without : (flags : IsaFlags) (op : CsznOp) (half rd : ℕ) → cszn_needs flags op ≡ false → IsCuType half (space_bits (cszn_space op)) (cszn_funct5 op) rd (cszn_funct6 op) → decode_half flags half ≡ None
+pub cszn_without : (flags : IsaFlags) (op : CsznOp) (half rd : ℕ) → cszn_needs flags op ≡ false → IsCuType half (space_bits (cszn_numbers op).space) (cszn_numbers op).funct5 rd (cszn_numbers op).funct6 → decode_half flags half ≡ None
 cszn_without flags cszn.CZextb half rd off h = cu_is flags half _ rd h refl ∙ two_guards flags.has_zca flags.has_zcb _ off
 cszn_without flags cszn.CSextb half rd off h = cu_is flags half _ rd h refl ∙ rw (low_of half _ h.funct5_is) (three_guards flags.has_zca flags.has_zcb flags.has_zbb _ off)
 cszn_without flags cszn.CZexth half rd off h = cu_is flags half _ rd h refl ∙ rw (low_of half _ h.funct5_is) (three_guards flags.has_zca flags.has_zcb flags.has_zbb _ off)

@@ -37,7 +37,7 @@ use Rattle.rv_machine.specs.declared.ops.MulOp.TheVariants as mul
 use Rattle.rv_machine.specs.declared.ops.BitOp.TheVariants as bit
 use Rattle.rv_machine.specs.Layout.{compressed}
 use Rattle.rv_machine.specs.Compressed.{ci_bits, addi16sp_bits, lwsp_imm, ldsp_imm, swsp_imm, sdsp_imm, lw_imm, ld_imm}
-use Rattle.rv_ops.specs.Compressed.{space_bits, zcb_funct6, zcb_space}
+use Rattle.rv_ops.specs.Compressed.{space_bits, zcb_numbers}
 use Rattle.rv_encode.specs.Layouts.{IsClbType, IsClhType}
 use Rattle.rv_encode.specs.Operations.{load_op, store_op}
 
@@ -203,11 +203,11 @@ decoded_zcb CSh r base imm = compressed (Store (store_op stores.Sh)) 0 base r (p
 
 -- the fields of a load or a store of a byte, or of a halfword, with the operation's bit 6
 abbrev pub IsZcbType : ZcbMemOp → ℕ → ℕ → ℕ → ℕ → Type 0
-IsZcbType CLbu half r imm rs1 = IsClbType half (space_bits (zcb_space CLbu)) r imm rs1 (zcb_funct6 CLbu)
-IsZcbType CLhu half r imm rs1 = IsClhType half (space_bits (zcb_space CLhu)) r (2 * imm) 0 rs1 (zcb_funct6 CLhu)
-IsZcbType CLh half r imm rs1 = IsClhType half (space_bits (zcb_space CLh)) r (2 * imm) 1 rs1 (zcb_funct6 CLh)
-IsZcbType CSb half r imm rs1 = IsClbType half (space_bits (zcb_space CSb)) r imm rs1 (zcb_funct6 CSb)
-IsZcbType CSh half r imm rs1 = IsClhType half (space_bits (zcb_space CSh)) r (2 * imm) 0 rs1 (zcb_funct6 CSh)
+IsZcbType CLbu half r imm rs1 = IsClbType half (space_bits (zcb_numbers CLbu).space) r imm rs1 (zcb_numbers CLbu).funct6
+IsZcbType CLhu half r imm rs1 = IsClhType half (space_bits (zcb_numbers CLhu).space) r (2 * imm) 0 rs1 (zcb_numbers CLhu).funct6
+IsZcbType CLh half r imm rs1 = IsClhType half (space_bits (zcb_numbers CLh).space) r (2 * imm) 1 rs1 (zcb_numbers CLh).funct6
+IsZcbType CSb half r imm rs1 = IsClbType half (space_bits (zcb_numbers CSb).space) r imm rs1 (zcb_numbers CSb).funct6
+IsZcbType CSh half r imm rs1 = IsClhType half (space_bits (zcb_numbers CSh).space) r (2 * imm) 0 rs1 (zcb_numbers CSh).funct6
 
 abbrev pub zcb_needs : IsaFlags → Bool
 zcb_needs flags = flags.has_zca && flags.has_zcb

@@ -11,7 +11,7 @@ ghost use Rattle.rv_machine.specs.declared.ops.IntOp.TheVariants.{Addi};
 ghost use Rattle.rv_machine.specs.Layout.{compressed};
 ghost use Rattle.rv_machine.specs.Compressed.{ci_bits, addi16sp_bits, decode_half};
 ghost use Rattle.rv_ops.specs.declared.compressed.CiOp.TheVariants.{CAddi16sp};
-ghost use Rattle.rv_ops.specs.Compressed.{space_bits, cr_space, cr_funct4, ca_space, ca_funct2, ca_funct6, ci_space, ci_funct3, ciw_space, ciw_funct3, cb_space, cb_funct2, cb_funct3, cj_space, cj_funct3, cszn_space, cszn_funct5, cszn_funct6};
+ghost use Rattle.rv_ops.specs.Compressed.{space_bits, cr_numbers, ca_numbers, ci_numbers, ciw_numbers, cb_numbers, cj_numbers, cszn_numbers};
 ghost use Rattle.rv_encode.specs.Registers.{IsRealRegister, IsShortRegister};
 ghost use Rattle.rv_encode.specs.Layouts.{IsEven, IsCrType, IsCaType, IsCiType, IsCiwType, IsCbType, IsCuType, IsCjType, IsCjParts, cj_low_of, cj_high_of};
 ghost use Rattle.rv_encode.specs.Compressed.{DecodesCr, DecodesCr2, ca_op, ca_needs, DecodesCi, decoded_cb, decoded_cszn, cszn_needs};
@@ -39,7 +39,7 @@ pub fn reg_to_compressed_gpr_num(m: Reg) -> u32
 pub fn encode_cr_type(op: CrOp, rd: WritableReg, rs2: Reg) -> u16
     requires rd { IsRealRegister rd.reg }
     requires rs2 { IsRealRegister rs2 }
-    ensures layout { IsCrType result (space_bits (cr_space op)) (number_of rs2) (number_of rd.reg) (cr_funct4 op) }
+    ensures layout { IsCrType result (space_bits (cr_numbers op).space) (number_of rs2) (number_of rd.reg) (cr_numbers op).funct4 }
     ensures decodes { (flags : IsaFlags) → flags.has_zca ≡ true → DecodesCr op (number_of rd.reg) (number_of rs2) (decode_half flags result) }
     ensures without { (flags : IsaFlags) → flags.has_zca ≡ false → decode_half flags result ≡ None }
     ensures narrow { nat_eq (result % 4) 3 ≡ false }
@@ -60,7 +60,7 @@ pub fn encode_cr_type(op: CrOp, rd: WritableReg, rs2: Reg) -> u16
 /// ```
 pub fn encode_cr2_type(op: CrOp, rs1: Reg) -> u16
     requires { IsRealRegister rs1 }
-    ensures layout { IsCrType result (space_bits (cr_space op)) 0 (number_of rs1) (cr_funct4 op) }
+    ensures layout { IsCrType result (space_bits (cr_numbers op).space) 0 (number_of rs1) (cr_numbers op).funct4 }
     ensures decodes { (flags : IsaFlags) → flags.has_zca ≡ true → DecodesCr2 op (number_of rs1) (decode_half flags result) }
     ensures without { (flags : IsaFlags) → flags.has_zca ≡ false → decode_half flags result ≡ None }
     ensures narrow { nat_eq (result % 4) 3 ≡ false }
@@ -77,7 +77,7 @@ pub fn encode_cr2_type(op: CrOp, rs1: Reg) -> u16
 pub fn encode_ca_type(op: CaOp, rd: WritableReg, rs2: Reg) -> u16
     requires rd { IsShortRegister rd.reg }
     requires rs2 { IsShortRegister rs2 }
-    ensures layout { IsCaType result (space_bits (ca_space op)) (number_of rs2 - 8) (ca_funct2 op) (number_of rd.reg - 8) (ca_funct6 op) }
+    ensures layout { IsCaType result (space_bits (ca_numbers op).space) (number_of rs2 - 8) (ca_numbers op).funct2 (number_of rd.reg - 8) (ca_numbers op).funct6 }
     ensures decodes { (flags : IsaFlags) → ca_needs flags op ≡ true → decode_half flags result ≡ Some (compressed (Alu (ca_op op)) (number_of rd.reg) (number_of rd.reg) (number_of rs2) (pos 0)) }
     ensures without { (flags : IsaFlags) → ca_needs flags op ≡ false → decode_half flags result ≡ None }
     ensures narrow { nat_eq (result % 4) 3 ≡ false }
@@ -99,7 +99,7 @@ pub fn encode_ca_type(op: CaOp, rd: WritableReg, rs2: Reg) -> u16
 /// ```
 pub fn encode_cj_type(op: CjOp, imm: Imm12) -> u16
     requires { IsEven imm.value }
-    ensures layout { IsCjType result (space_bits (cj_space op)) (low_bits (2 ^ 12) imm.value) (cj_funct3 op) }
+    ensures layout { IsCjType result (space_bits (cj_numbers op).space) (low_bits (2 ^ 12) imm.value) (cj_numbers op).funct3 }
     ensures decodes { (flags : IsaFlags) → flags.has_zca ≡ true → decode_half flags result ≡ Some (compressed (Base base_op.Jal) 0 0 0 imm.value) }
     ensures without { (flags : IsaFlags) → flags.has_zca ≡ false → decode_half flags result ≡ None }
     ensures narrow { nat_eq (result % 4) 3 ≡ false }
@@ -116,7 +116,7 @@ pub fn encode_cj_type(op: CjOp, imm: Imm12) -> u16
 /// ```
 pub fn encode_ci_type(op: CiOp, rd: WritableReg, imm: Imm6) -> u16
     requires { IsRealRegister rd.reg }
-    ensures layout { IsCiType ci_bits result (space_bits (ci_space op)) (low_bits (2 ^ 6) imm.value) (number_of rd.reg) (ci_funct3 op) }
+    ensures layout { IsCiType ci_bits result (space_bits (ci_numbers op).space) (low_bits (2 ^ 6) imm.value) (number_of rd.reg) (ci_numbers op).funct3 }
     ensures decodes { (flags : IsaFlags) → flags.has_zca ≡ true → DecodesCi op (number_of rd.reg) imm.value (decode_half flags result) }
     ensures without { (flags : IsaFlags) → flags.has_zca ≡ false → decode_half flags result ≡ None }
     ensures narrow { nat_eq (result % 4) 3 ≡ false }
@@ -136,7 +136,7 @@ pub fn encode_ci_type(op: CiOp, rd: WritableReg, imm: Imm6) -> u16
 /// | funct3 | imm[9] |   2    | imm[4|6|8:7|5] | op |
 /// ```
 pub fn encode_c_addi16sp(imm: Imm6) -> u16
-    ensures layout { IsCiType addi16sp_bits result (space_bits (ci_space CAddi16sp)) (16 * low_bits (2 ^ 6) imm.value) 2 (ci_funct3 CAddi16sp) }
+    ensures layout { IsCiType addi16sp_bits result (space_bits (ci_numbers CAddi16sp).space) (16 * low_bits (2 ^ 6) imm.value) 2 (ci_numbers CAddi16sp).funct3 }
     ensures decodes { (flags : IsaFlags) → flags.has_zca ≡ true → imm.value ≢ pos 0 → decode_half flags result ≡ Some (compressed (Alu (Int Addi)) 2 2 0 (pos 16 *ℤ imm.value)) }
     ensures without { (flags : IsaFlags) → flags.has_zca ≡ false → decode_half flags result ≡ None }
     ensures narrow { nat_eq (result % 4) 3 ≡ false }
@@ -157,7 +157,7 @@ pub fn encode_c_addi16sp(imm: Imm6) -> u16
 /// ```
 pub fn encode_ciw_type(op: CiwOp, rd: WritableReg, imm: u8) -> u16
     requires { IsShortRegister rd.reg }
-    ensures layout { IsCiwType result (space_bits (ciw_space op)) (number_of rd.reg - 8) (4 * imm) (ciw_funct3 op) }
+    ensures layout { IsCiwType result (space_bits (ciw_numbers op).space) (number_of rd.reg - 8) (4 * imm) (ciw_numbers op).funct3 }
     ensures decodes { (flags : IsaFlags) → flags.has_zca ≡ true → 0 < imm → decode_half flags result ≡ Some (compressed (Alu (Int Addi)) (number_of rd.reg) 2 0 (pos (4 * imm))) }
     ensures without { (flags : IsaFlags) → flags.has_zca ≡ false → decode_half flags result ≡ None }
     ensures narrow { nat_eq (result % 4) 3 ≡ false }
@@ -178,7 +178,7 @@ pub fn encode_ciw_type(op: CiwOp, rd: WritableReg, imm: u8) -> u16
 /// ```
 pub fn encode_cb_type(op: CbOp, rd: WritableReg, imm: Imm6) -> u16
     requires { IsShortRegister rd.reg }
-    ensures layout { IsCbType result (space_bits (cb_space op)) (low_bits (2 ^ 6) imm.value) (number_of rd.reg - 8) (cb_funct2 op) (cb_funct3 op) }
+    ensures layout { IsCbType result (space_bits (cb_numbers op).space) (low_bits (2 ^ 6) imm.value) (number_of rd.reg - 8) (cb_numbers op).funct2 (cb_numbers op).funct3 }
     ensures decodes { (flags : IsaFlags) → flags.has_zca ≡ true → decode_half flags result ≡ Some (decoded_cb op (number_of rd.reg) imm.value) }
     ensures without { (flags : IsaFlags) → flags.has_zca ≡ false → decode_half flags result ≡ None }
     ensures narrow { nat_eq (result % 4) 3 ≡ false }
@@ -200,7 +200,7 @@ pub fn encode_cb_type(op: CbOp, rd: WritableReg, imm: Imm6) -> u16
 /// ```
 pub fn encode_cszn_type(op: CsznOp, rd: WritableReg) -> u16
     requires { IsShortRegister rd.reg }
-    ensures layout { IsCuType result (space_bits (cszn_space op)) (cszn_funct5 op) (number_of rd.reg - 8) (cszn_funct6 op) }
+    ensures layout { IsCuType result (space_bits (cszn_numbers op).space) (cszn_numbers op).funct5 (number_of rd.reg - 8) (cszn_numbers op).funct6 }
     ensures decodes { (flags : IsaFlags) → cszn_needs flags op ≡ true → decode_half flags result ≡ Some (decoded_cszn op (number_of rd.reg)) }
     ensures without { (flags : IsaFlags) → cszn_needs flags op ≡ false → decode_half flags result ≡ None }
     ensures narrow { nat_eq (result % 4) 3 ≡ false }

@@ -6,7 +6,7 @@ ghost use Rattle.rv_base.specs.declared.flags.IsaFlags.{IsaFlags};
 ghost use Rattle.rv_base.specs.Regs.{number_of};
 ghost use Rattle.rv_machine.specs.Compressed.{ld_imm, ldsp_imm, sdsp_imm, decode_half};
 ghost use Rattle.rv_ops.specs.declared.compressed.CFloatOp.TheVariants.{CFld, CFsd, CFldsp, CFsdsp};
-ghost use Rattle.rv_ops.specs.Compressed.{space_bits, c_float_space, c_float_funct3};
+ghost use Rattle.rv_ops.specs.Compressed.{space_bits, c_float_numbers};
 ghost use Rattle.rv_encode.specs.Registers.{IsRealRegister, IsShortRegister};
 ghost use Rattle.rv_encode.specs.Layouts.{IsCiType, IsClType, IsCssType};
 ghost use Rattle.rv_encode.specs.Compressed.{decoded_fld, decoded_fsd, decoded_fldsp, decoded_fsdsp};
@@ -27,7 +27,7 @@ use rv_ops::CFloatOp;
 pub fn encode_c_fld(dest: WritableReg, base: Reg, imm: Uimm5) -> u16
     requires dest { IsShortRegister dest.reg }
     requires base { IsShortRegister base }
-    ensures layout { IsClType ld_imm result (space_bits (c_float_space CFld)) (number_of dest.reg - 8) (8 * imm.value) (number_of base - 8) (c_float_funct3 CFld) }
+    ensures layout { IsClType ld_imm result (space_bits (c_float_numbers CFld).space) (number_of dest.reg - 8) (8 * imm.value) (number_of base - 8) (c_float_numbers CFld).funct3 }
     ensures decodes { (flags : IsaFlags) → flags.has_zca ≡ true → flags.has_zcd ≡ true → decode_half flags result ≡ Some (decoded_fld (number_of dest.reg) (number_of base) imm.value) }
     ensures without { (flags : IsaFlags) → (flags.has_zca && flags.has_zcd) ≡ false → decode_half flags result ≡ None }
     ensures narrow { nat_eq (result % 4) 3 ≡ false }
@@ -51,7 +51,7 @@ pub fn encode_c_fld(dest: WritableReg, base: Reg, imm: Uimm5) -> u16
 pub fn encode_c_fsd(src: Reg, base: Reg, imm: Uimm5) -> u16
     requires src { IsShortRegister src }
     requires base { IsShortRegister base }
-    ensures layout { IsClType ld_imm result (space_bits (c_float_space CFsd)) (number_of src - 8) (8 * imm.value) (number_of base - 8) (c_float_funct3 CFsd) }
+    ensures layout { IsClType ld_imm result (space_bits (c_float_numbers CFsd).space) (number_of src - 8) (8 * imm.value) (number_of base - 8) (c_float_numbers CFsd).funct3 }
     ensures decodes { (flags : IsaFlags) → flags.has_zca ≡ true → flags.has_zcd ≡ true → decode_half flags result ≡ Some (decoded_fsd (number_of src) (number_of base) imm.value) }
     ensures without { (flags : IsaFlags) → (flags.has_zca && flags.has_zcd) ≡ false → decode_half flags result ≡ None }
     ensures narrow { nat_eq (result % 4) 3 ≡ false }
@@ -74,7 +74,7 @@ pub fn encode_c_fsd(src: Reg, base: Reg, imm: Uimm5) -> u16
 /// ```
 pub fn encode_c_fldsp(rd: WritableReg, imm: Uimm6) -> u16
     requires { IsRealRegister rd.reg }
-    ensures layout { IsCiType ldsp_imm result (space_bits (c_float_space CFldsp)) (8 * imm.value) (number_of rd.reg) (c_float_funct3 CFldsp) }
+    ensures layout { IsCiType ldsp_imm result (space_bits (c_float_numbers CFldsp).space) (8 * imm.value) (number_of rd.reg) (c_float_numbers CFldsp).funct3 }
     ensures decodes { (flags : IsaFlags) → flags.has_zca ≡ true → flags.has_zcd ≡ true → decode_half flags result ≡ Some (decoded_fldsp (number_of rd.reg) imm.value) }
     ensures without { (flags : IsaFlags) → (flags.has_zca && flags.has_zcd) ≡ false → decode_half flags result ≡ None }
     ensures narrow { nat_eq (result % 4) 3 ≡ false }
@@ -96,7 +96,7 @@ pub fn encode_c_fldsp(rd: WritableReg, imm: Uimm6) -> u16
 /// ```
 pub fn encode_c_fsdsp(src: Reg, imm: Uimm6) -> u16
     requires { IsRealRegister src }
-    ensures layout { IsCssType sdsp_imm result (space_bits (c_float_space CFsdsp)) (number_of src) (8 * imm.value) (c_float_funct3 CFsdsp) }
+    ensures layout { IsCssType sdsp_imm result (space_bits (c_float_numbers CFsdsp).space) (number_of src) (8 * imm.value) (c_float_numbers CFsdsp).funct3 }
     ensures decodes { (flags : IsaFlags) → flags.has_zca ≡ true → flags.has_zcd ≡ true → decode_half flags result ≡ Some (decoded_fsdsp (number_of src) imm.value) }
     ensures without { (flags : IsaFlags) → (flags.has_zca && flags.has_zcd) ≡ false → decode_half flags result ≡ None }
     ensures narrow { nat_eq (result % 4) 3 ≡ false }

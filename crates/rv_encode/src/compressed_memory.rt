@@ -6,7 +6,7 @@ ghost use Rattle.rv_base.specs.declared.flags.IsaFlags.{IsaFlags};
 ghost use Rattle.rv_base.specs.Regs.{number_of};
 ghost use Rattle.rv_machine.specs.Compressed.{lwsp_imm, ldsp_imm, swsp_imm, sdsp_imm, lw_imm, ld_imm, decode_half};
 ghost use Rattle.rv_ops.specs.declared.memory.LoadOP.{LoadOP};
-ghost use Rattle.rv_ops.specs.Compressed.{space_bits, ci_space, ci_funct3, css_space, css_funct3, cs_space, cs_funct3, cl_space, cl_funct3, zcb_imm_bits};
+ghost use Rattle.rv_ops.specs.Compressed.{space_bits, ci_numbers, css_numbers, cs_numbers, cl_numbers, zcb_numbers};
 ghost use Rattle.rv_ops.specs.Memory.{load_size, store_size};
 ghost use Rattle.rv_encode.specs.Registers.{IsRealRegister, IsShortRegister};
 ghost use Rattle.rv_encode.specs.Layouts.{IsCiType, IsCssType, IsClType, IsClbType, IsClhType};
@@ -28,7 +28,7 @@ use rv_ops::{CiOp, ClOp, CsOp, CssOp, ZcbMemOp};
 pub fn encode_ci_sp_load(op: CiOp, rd: WritableReg, imm: Uimm6) -> u16
     requires op { IsSome (sp_load op) }
     requires rd { IsRealRegister rd.reg }
-    ensures layout { (load : LoadOP) → sp_load op ≡ Some load → IsCiType (read_of op) result (space_bits (ci_space op)) (load_size load * imm.value) (number_of rd.reg) (ci_funct3 op) }
+    ensures layout { (load : LoadOP) → sp_load op ≡ Some load → IsCiType (read_of op) result (space_bits (ci_numbers op).space) (load_size load * imm.value) (number_of rd.reg) (ci_numbers op).funct3 }
     ensures decodes { (flags : IsaFlags) (load : LoadOP) → flags.has_zca ≡ true → sp_load op ≡ Some load → 0 < number_of rd.reg → decode_half flags result ≡ Some (decoded_sp_load load (number_of rd.reg) imm.value) }
     ensures without { (flags : IsaFlags) → flags.has_zca ≡ false → decode_half flags result ≡ None }
     ensures narrow { nat_eq (result % 4) 3 ≡ false }
@@ -51,7 +51,7 @@ pub fn encode_ci_sp_load(op: CiOp, rd: WritableReg, imm: Uimm6) -> u16
 /// ```
 pub fn encode_css_type(op: CssOp, src: Reg, imm: Uimm6) -> u16
     requires { IsRealRegister src }
-    ensures layout { IsCssType (css_read op) result (space_bits (css_space op)) (number_of src) (store_size (css_store op) * imm.value) (css_funct3 op) }
+    ensures layout { IsCssType (css_read op) result (space_bits (css_numbers op).space) (number_of src) (store_size (css_store op) * imm.value) (css_numbers op).funct3 }
     ensures decodes { (flags : IsaFlags) → flags.has_zca ≡ true → decode_half flags result ≡ Some (decoded_css op (number_of src) imm.value) }
     ensures without { (flags : IsaFlags) → flags.has_zca ≡ false → decode_half flags result ≡ None }
     ensures narrow { nat_eq (result % 4) 3 ≡ false }
@@ -75,7 +75,7 @@ pub fn encode_css_type(op: CssOp, src: Reg, imm: Uimm6) -> u16
 pub fn encode_cs_type(op: CsOp, src: Reg, base: Reg, imm: Uimm5) -> u16
     requires src { IsShortRegister src }
     requires base { IsShortRegister base }
-    ensures layout { IsClType (cs_read op) result (space_bits (cs_space op)) (number_of src - 8) (store_size (cs_store op) * imm.value) (number_of base - 8) (cs_funct3 op) }
+    ensures layout { IsClType (cs_read op) result (space_bits (cs_numbers op).space) (number_of src - 8) (store_size (cs_store op) * imm.value) (number_of base - 8) (cs_numbers op).funct3 }
     ensures decodes { (flags : IsaFlags) → flags.has_zca ≡ true → decode_half flags result ≡ Some (decoded_cs op (number_of src) (number_of base) imm.value) }
     ensures without { (flags : IsaFlags) → flags.has_zca ≡ false → decode_half flags result ≡ None }
     ensures narrow { nat_eq (result % 4) 3 ≡ false }
@@ -100,7 +100,7 @@ pub fn encode_cs_type(op: CsOp, src: Reg, base: Reg, imm: Uimm5) -> u16
 pub fn encode_cl_type(op: ClOp, dest: WritableReg, base: Reg, imm: Uimm5) -> u16
     requires dest { IsShortRegister dest.reg }
     requires base { IsShortRegister base }
-    ensures layout { IsClType (cl_read op) result (space_bits (cl_space op)) (number_of dest.reg - 8) (load_size (cl_load op) * imm.value) (number_of base - 8) (cl_funct3 op) }
+    ensures layout { IsClType (cl_read op) result (space_bits (cl_numbers op).space) (number_of dest.reg - 8) (load_size (cl_load op) * imm.value) (number_of base - 8) (cl_numbers op).funct3 }
     ensures decodes { (flags : IsaFlags) → flags.has_zca ≡ true → decode_half flags result ≡ Some (decoded_cl op (number_of dest.reg) (number_of base) imm.value) }
     ensures without { (flags : IsaFlags) → flags.has_zca ≡ false → decode_half flags result ≡ None }
     ensures narrow { nat_eq (result % 4) 3 ≡ false }
@@ -126,7 +126,7 @@ pub fn encode_cl_type(op: ClOp, dest: WritableReg, base: Reg, imm: Uimm5) -> u16
 pub fn encode_zcbmem_load(op: ZcbMemOp, rd: WritableReg, base: Reg, imm: Uimm2) -> u16
     requires rd { IsShortRegister rd.reg }
     requires base { IsShortRegister base }
-    requires imm { imm.value < 2 ^ zcb_imm_bits op }
+    requires imm { imm.value < 2 ^ (zcb_numbers op).imm_bits }
     ensures layout { IsZcbType op result (number_of rd.reg - 8) imm.value (number_of base - 8) }
     ensures decodes { (flags : IsaFlags) → zcb_needs flags ≡ true → decode_half flags result ≡ Some (decoded_zcb op (number_of rd.reg) (number_of base) imm.value) }
     ensures without { (flags : IsaFlags) → zcb_needs flags ≡ false → decode_half flags result ≡ None }
@@ -145,7 +145,7 @@ pub fn encode_zcbmem_load(op: ZcbMemOp, rd: WritableReg, base: Reg, imm: Uimm2) 
 pub fn encode_zcbmem_store(op: ZcbMemOp, src: Reg, base: Reg, imm: Uimm2) -> u16
     requires src { IsShortRegister src }
     requires base { IsShortRegister base }
-    requires imm { imm.value < 2 ^ zcb_imm_bits op }
+    requires imm { imm.value < 2 ^ (zcb_numbers op).imm_bits }
     ensures layout { IsZcbType op result (number_of src - 8) imm.value (number_of base - 8) }
     ensures decodes { (flags : IsaFlags) → zcb_needs flags ≡ true → decode_half flags result ≡ Some (decoded_zcb op (number_of src) (number_of base) imm.value) }
     ensures without { (flags : IsaFlags) → zcb_needs flags ≡ false → decode_half flags result ≡ None }
@@ -158,7 +158,7 @@ pub fn encode_zcbmem_store(op: ZcbMemOp, src: Reg, base: Reg, imm: Uimm2) -> u16
 fn zcbmem_half(op: ZcbMemOp, dest_src: Reg, base: Reg, imm: Uimm2) -> u16
     requires dest_src { IsShortRegister dest_src }
     requires base { IsShortRegister base }
-    requires imm { imm.value < 2 ^ zcb_imm_bits op }
+    requires imm { imm.value < 2 ^ (zcb_numbers op).imm_bits }
     ensures layout { IsZcbType op result (number_of dest_src - 8) imm.value (number_of base - 8) }
     ensures decodes { (flags : IsaFlags) → zcb_needs flags ≡ true → decode_half flags result ≡ Some (decoded_zcb op (number_of dest_src) (number_of base) imm.value) }
     ensures without { (flags : IsaFlags) → zcb_needs flags ≡ false → decode_half flags result ≡ None }

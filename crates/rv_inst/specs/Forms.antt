@@ -16,7 +16,7 @@ use Rattle.rv_machine.specs.declared.ops.BitOp.TheVariants as bit
 use Rattle.rv_machine.specs.Compressed.{half_funct3}
 use Rattle.rv_machine.specs.Layout.{bare_form, compressed}
 use Rattle.rv_ops.specs.declared.compressed.CiOp.TheVariants.{CAddi16sp}
-use Rattle.rv_ops.specs.Compressed.{ci_funct3}
+use Rattle.rv_ops.specs.Compressed.{ci_numbers}
 use Rattle.rv_ops.specs.declared.alu.AluOPRRR.{AluOPRRR}
 use Rattle.rv_ops.specs.declared.alu.AluOPRRI.{AluOPRRI}
 use Rattle.rv_ops.specs.Operations.{RegisterForm, AddForm, EitherForm, FirstForm, MulForm, ZextWForm, rrr_operation, rrr_op}
@@ -139,7 +139,7 @@ is_addi rd rs imm = (rd == rs) && not (rs == 0) && not (is_equal imm (pos 0))
 -- Which halfword it is: c.addi16sp and c.addi of sp by one immediate expand to one operation, and differ in bits 15 to 13. The form is
 -- c.addi16sp wherever that holds the immediate.
 abbrev pub IsAddi16spFirst : ℕ → ℕ → ℤ → ℕ → Type 0
-IsAddi16spFirst rd rs imm half = is_addi16sp rd rs imm ≡ true → half_funct3 half ≡ ci_funct3 CAddi16sp
+IsAddi16spFirst rd rs imm half = is_addi16sp rd rs imm ≡ true → half_funct3 half ≡ (ci_numbers CAddi16sp).funct3
 
 -- so a halfword that stands for an operation is that operation's own form
 abbrev pub IsOwnForm : Decoded → ℕ → Type 0

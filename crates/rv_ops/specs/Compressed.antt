@@ -1,5 +1,5 @@
 -- Compressed operations, by the layout of their halfword (chapters "C" and "Zcb", "RVC Instruction Set Listings"): their
--- quadrant, which is bits 1 to 0, and their other fixed fields.
+-- quadrant, which is bits 1 to 0, and their other fixed fields; a row an operation.
 use Rattle.std.specs.Prelude.{ℕ}
 use Rattle.rv_ops.specs.declared.compressed.COpcodeSpace.{COpcodeSpace}
 use Rattle.rv_ops.specs.declared.compressed.COpcodeSpace.TheVariants.{C0, C1, C2}
@@ -33,196 +33,138 @@ space_bits C0 = 0
 space_bits C1 = 1
 space_bits C2 = 2
 
+-- ---- funct3, bits 15 to 13, alone: CJ, CI, CIW, CSS, CS and CL
+
+pub record Funct3Numbers : Type 0 where
+  pub space : COpcodeSpace
+  pub funct3 : ℕ
+
+abbrev pub in_c0 : ℕ → Funct3Numbers
+in_c0 funct3 = record { space = C0; funct3 = funct3 }
+
+abbrev pub in_c1 : ℕ → Funct3Numbers
+in_c1 funct3 = record { space = C1; funct3 = funct3 }
+
+abbrev pub in_c2 : ℕ → Funct3Numbers
+in_c2 funct3 = record { space = C2; funct3 = funct3 }
+
+abbrev pub cj_numbers : CjOp → Funct3Numbers
+cj_numbers CJ = in_c1 0b101
+
+abbrev pub ci_numbers : CiOp → Funct3Numbers
+ci_numbers CAddi = in_c1 0b000
+ci_numbers CAddiw = in_c1 0b001
+ci_numbers CLi = in_c1 0b010
+ci_numbers CAddi16sp = in_c1 0b011
+ci_numbers CLui = in_c1 0b011
+ci_numbers CSlli = in_c2 0b000
+ci_numbers CLwsp = in_c2 0b010
+ci_numbers CLdsp = in_c2 0b011
+
+abbrev pub ciw_numbers : CiwOp → Funct3Numbers
+ciw_numbers CAddi4spn = in_c0 0b000
+
+abbrev pub css_numbers : CssOp → Funct3Numbers
+css_numbers CSwsp = in_c2 0b110
+css_numbers CSdsp = in_c2 0b111
+
+abbrev pub cs_numbers : CsOp → Funct3Numbers
+cs_numbers CSw = in_c0 0b110
+cs_numbers CSd = in_c0 0b111
+
+abbrev pub cl_numbers : ClOp → Funct3Numbers
+cl_numbers CLw = in_c0 0b010
+cl_numbers CLd = in_c0 0b011
+
+-- loads and stores of floating-point registers
+abbrev pub c_float_numbers : CFloatOp → Funct3Numbers
+c_float_numbers CFld = in_c0 0b001
+c_float_numbers CFsd = in_c0 0b101
+c_float_numbers CFldsp = in_c2 0b001
+c_float_numbers CFsdsp = in_c2 0b101
+
 -- ---- CR
 
-abbrev pub cr_funct4 : CrOp → ℕ
-cr_funct4 CJr = 0b1000
-cr_funct4 CMv = 0b1000
-cr_funct4 CEbreak = 0b1001
-cr_funct4 CJalr = 0b1001
-cr_funct4 CAdd = 0b1001
+pub record CrNumbers : Type 0 where
+  pub space : COpcodeSpace
+  pub funct4 : ℕ
 
-abbrev pub cr_space : CrOp → COpcodeSpace
-cr_space CJr = C2
-cr_space CMv = C2
-cr_space CEbreak = C2
-cr_space CJalr = C2
-cr_space CAdd = C2
+abbrev pub cr : ℕ → CrNumbers
+cr funct4 = record { space = C2; funct4 = funct4 }
+
+abbrev pub cr_numbers : CrOp → CrNumbers
+cr_numbers CJr = cr 0b1000
+cr_numbers CMv = cr 0b1000
+cr_numbers CEbreak = cr 0b1001
+cr_numbers CJalr = cr 0b1001
+cr_numbers CAdd = cr 0b1001
 
 -- ---- CA
 
-abbrev pub ca_funct2 : CaOp → ℕ
-ca_funct2 CSub = 0b00
-ca_funct2 CXor = 0b01
-ca_funct2 COr = 0b10
-ca_funct2 CAnd = 0b11
-ca_funct2 CSubw = 0b00
-ca_funct2 CAddw = 0b01
-ca_funct2 CMul = 0b10
+pub record CaNumbers : Type 0 where
+  pub space : COpcodeSpace
+  pub funct6 : ℕ
+  pub funct2 : ℕ
 
-abbrev pub ca_funct6 : CaOp → ℕ
-ca_funct6 CSub = 0b100011
-ca_funct6 CXor = 0b100011
-ca_funct6 COr = 0b100011
-ca_funct6 CAnd = 0b100011
-ca_funct6 CSubw = 0b100111
-ca_funct6 CAddw = 0b100111
-ca_funct6 CMul = 0b100111
+abbrev pub ca : ℕ → ℕ → CaNumbers
+ca funct6 funct2 = record { space = C1; funct6 = funct6; funct2 = funct2 }
 
-abbrev pub ca_space : CaOp → COpcodeSpace
-ca_space CSub = C1
-ca_space CXor = C1
-ca_space COr = C1
-ca_space CAnd = C1
-ca_space CSubw = C1
-ca_space CAddw = C1
-ca_space CMul = C1
-
--- ---- CJ
-
-abbrev pub cj_funct3 : CjOp → ℕ
-cj_funct3 CJ = 0b101
-
-abbrev pub cj_space : CjOp → COpcodeSpace
-cj_space CJ = C1
-
--- ---- CI
-
-abbrev pub ci_funct3 : CiOp → ℕ
-ci_funct3 CAddi = 0b000
-ci_funct3 CAddiw = 0b001
-ci_funct3 CLi = 0b010
-ci_funct3 CAddi16sp = 0b011
-ci_funct3 CLui = 0b011
-ci_funct3 CSlli = 0b000
-ci_funct3 CLwsp = 0b010
-ci_funct3 CLdsp = 0b011
-
-abbrev pub ci_space : CiOp → COpcodeSpace
-ci_space CAddi = C1
-ci_space CAddiw = C1
-ci_space CLi = C1
-ci_space CAddi16sp = C1
-ci_space CLui = C1
-ci_space CSlli = C2
-ci_space CLwsp = C2
-ci_space CLdsp = C2
-
--- ---- CIW
-
-abbrev pub ciw_funct3 : CiwOp → ℕ
-ciw_funct3 CAddi4spn = 0b000
-
-abbrev pub ciw_space : CiwOp → COpcodeSpace
-ciw_space CAddi4spn = C0
+abbrev pub ca_numbers : CaOp → CaNumbers
+ca_numbers CSub = ca 0b100011 0b00
+ca_numbers CXor = ca 0b100011 0b01
+ca_numbers COr = ca 0b100011 0b10
+ca_numbers CAnd = ca 0b100011 0b11
+ca_numbers CSubw = ca 0b100111 0b00
+ca_numbers CAddw = ca 0b100111 0b01
+ca_numbers CMul = ca 0b100111 0b10
 
 -- ---- CB
 
-abbrev pub cb_funct3 : CbOp → ℕ
-cb_funct3 CSrli = 0b100
-cb_funct3 CSrai = 0b100
-cb_funct3 CAndi = 0b100
+pub record CbNumbers : Type 0 where
+  pub space : COpcodeSpace
+  pub funct3 : ℕ
+  pub funct2 : ℕ
 
-abbrev pub cb_funct2 : CbOp → ℕ
-cb_funct2 CSrli = 0b00
-cb_funct2 CSrai = 0b01
-cb_funct2 CAndi = 0b10
+abbrev pub cb : ℕ → ℕ → CbNumbers
+cb funct3 funct2 = record { space = C1; funct3 = funct3; funct2 = funct2 }
 
-abbrev pub cb_space : CbOp → COpcodeSpace
-cb_space CSrli = C1
-cb_space CSrai = C1
-cb_space CAndi = C1
-
--- ---- CSS
-
-abbrev pub css_funct3 : CssOp → ℕ
-css_funct3 CSwsp = 0b110
-css_funct3 CSdsp = 0b111
-
-abbrev pub css_space : CssOp → COpcodeSpace
-css_space CSwsp = C2
-css_space CSdsp = C2
-
--- ---- CS
-
-abbrev pub cs_funct3 : CsOp → ℕ
-cs_funct3 CSw = 0b110
-cs_funct3 CSd = 0b111
-
-abbrev pub cs_space : CsOp → COpcodeSpace
-cs_space CSw = C0
-cs_space CSd = C0
-
--- ---- CL
-
-abbrev pub cl_funct3 : ClOp → ℕ
-cl_funct3 CLw = 0b010
-cl_funct3 CLd = 0b011
-
-abbrev pub cl_space : ClOp → COpcodeSpace
-cl_space CLw = C0
-cl_space CLd = C0
-
--- ---- loads and stores of floating-point registers
-
-abbrev pub c_float_funct3 : CFloatOp → ℕ
-c_float_funct3 CFld = 0b001
-c_float_funct3 CFsd = 0b101
-c_float_funct3 CFldsp = 0b001
-c_float_funct3 CFsdsp = 0b101
-
-abbrev pub c_float_space : CFloatOp → COpcodeSpace
-c_float_space CFld = C0
-c_float_space CFsd = C0
-c_float_space CFldsp = C2
-c_float_space CFsdsp = C2
+abbrev pub cb_numbers : CbOp → CbNumbers
+cb_numbers CSrli = cb 0b100 0b00
+cb_numbers CSrai = cb 0b100 0b01
+cb_numbers CAndi = cb 0b100 0b10
 
 -- ---- Zcb, of one register
 
-abbrev pub cszn_funct6 : CsznOp → ℕ
-cszn_funct6 CZextb = 0b100111
-cszn_funct6 CSextb = 0b100111
-cszn_funct6 CZexth = 0b100111
-cszn_funct6 CSexth = 0b100111
-cszn_funct6 CZextw = 0b100111
-cszn_funct6 CNot = 0b100111
+pub record CsznNumbers : Type 0 where
+  pub space : COpcodeSpace
+  pub funct6 : ℕ
+  pub funct5 : ℕ
 
-abbrev pub cszn_funct5 : CsznOp → ℕ
-cszn_funct5 CZextb = 0b11000
-cszn_funct5 CSextb = 0b11001
-cszn_funct5 CZexth = 0b11010
-cszn_funct5 CSexth = 0b11011
-cszn_funct5 CZextw = 0b11100
-cszn_funct5 CNot = 0b11101
+abbrev pub cszn : ℕ → ℕ → CsznNumbers
+cszn funct6 funct5 = record { space = C1; funct6 = funct6; funct5 = funct5 }
 
-abbrev pub cszn_space : CsznOp → COpcodeSpace
-cszn_space CZextb = C1
-cszn_space CSextb = C1
-cszn_space CZexth = C1
-cszn_space CSexth = C1
-cszn_space CZextw = C1
-cszn_space CNot = C1
+abbrev pub cszn_numbers : CsznOp → CsznNumbers
+cszn_numbers CZextb = cszn 0b100111 0b11000
+cszn_numbers CSextb = cszn 0b100111 0b11001
+cszn_numbers CZexth = cszn 0b100111 0b11010
+cszn_numbers CSexth = cszn 0b100111 0b11011
+cszn_numbers CZextw = cszn 0b100111 0b11100
+cszn_numbers CNot = cszn 0b100111 0b11101
 
 -- ---- Zcb, loads and stores
 
-abbrev pub zcb_funct6 : ZcbMemOp → ℕ
-zcb_funct6 CLbu = 0b100000
-zcb_funct6 CLhu = 0b100001
-zcb_funct6 CLh = 0b100001
-zcb_funct6 CSb = 0b100010
-zcb_funct6 CSh = 0b100011
+-- imm_bits: how many bits the immediate has; a byte's counts bytes, a halfword's halfwords
+pub record ZcbNumbers : Type 0 where
+  pub space : COpcodeSpace
+  pub funct6 : ℕ
+  pub imm_bits : ℕ
 
--- how many bits the immediate has: a byte's counts bytes, a halfword's halfwords
-abbrev pub zcb_imm_bits : ZcbMemOp → ℕ
-zcb_imm_bits CLbu = 2
-zcb_imm_bits CLhu = 1
-zcb_imm_bits CLh = 1
-zcb_imm_bits CSb = 2
-zcb_imm_bits CSh = 1
+abbrev pub zcb : ℕ → ℕ → ZcbNumbers
+zcb funct6 imm_bits = record { space = C0; funct6 = funct6; imm_bits = imm_bits }
 
-abbrev pub zcb_space : ZcbMemOp → COpcodeSpace
-zcb_space CLbu = C0
-zcb_space CLhu = C0
-zcb_space CLh = C0
-zcb_space CSb = C0
-zcb_space CSh = C0
+abbrev pub zcb_numbers : ZcbMemOp → ZcbNumbers
+zcb_numbers CLbu = zcb 0b100000 2
+zcb_numbers CLhu = zcb 0b100001 1
+zcb_numbers CLh = zcb 0b100001 1
+zcb_numbers CSb = zcb 0b100010 2
+zcb_numbers CSh = zcb 0b100011 1

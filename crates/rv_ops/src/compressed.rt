@@ -37,11 +37,11 @@ pub enum CrOp {
 
 impl CrOp {
     ghost use Rattle.std.specs.Prelude.{◌≡◌, ◌<◌, ◌^◌};
-    ghost use Rattle.rv_ops.specs.Compressed.{cr_funct4, cr_space};
+    ghost use Rattle.rv_ops.specs.Compressed.{cr_numbers};
 
     /// Bits 15 to 12 of the halfword.
     pub fn funct4(&self) -> u32
-        ensures value { result ≡ cr_funct4 self.now }
+        ensures value { result ≡ (cr_numbers self.now).funct4 }
         ensures width { result < 2 ^ 4 }
     {
         match self {
@@ -52,7 +52,7 @@ impl CrOp {
 
     /// Its quadrant.
     pub fn op(&self) -> COpcodeSpace
-        ensures { result ≡ cr_space self.now }
+        ensures { result ≡ (cr_numbers self.now).space }
     {
         match self {
             CrOp::CMv | CrOp::CAdd | CrOp::CJr | CrOp::CJalr | CrOp::CEbreak => COpcodeSpace::C2,
@@ -74,11 +74,11 @@ pub enum CaOp {
 
 impl CaOp {
     ghost use Rattle.std.specs.Prelude.{◌≡◌, ◌<◌, ◌^◌};
-    ghost use Rattle.rv_ops.specs.Compressed.{ca_funct2, ca_funct6, ca_space};
+    ghost use Rattle.rv_ops.specs.Compressed.{ca_numbers};
 
     /// Bits 6 to 5 of the halfword.
     pub fn funct2(&self) -> u32
-        ensures value { result ≡ ca_funct2 self.now }
+        ensures value { result ≡ (ca_numbers self.now).funct2 }
         ensures width { result < 2 ^ 2 }
     {
         match self {
@@ -91,7 +91,7 @@ impl CaOp {
 
     /// Bits 15 to 10 of the halfword.
     pub fn funct6(&self) -> u32
-        ensures value { result ≡ ca_funct6 self.now }
+        ensures value { result ≡ (ca_numbers self.now).funct6 }
         ensures width { result < 2 ^ 6 }
     {
         match self {
@@ -102,7 +102,7 @@ impl CaOp {
 
     /// Its quadrant.
     pub fn op(&self) -> COpcodeSpace
-        ensures { result ≡ ca_space self.now }
+        ensures { result ≡ (ca_numbers self.now).space }
     {
         match self {
             CaOp::CAnd
@@ -124,11 +124,11 @@ pub enum CjOp {
 
 impl CjOp {
     ghost use Rattle.std.specs.Prelude.{◌≡◌, ◌<◌, ◌^◌};
-    ghost use Rattle.rv_ops.specs.Compressed.{cj_funct3, cj_space};
+    ghost use Rattle.rv_ops.specs.Compressed.{cj_numbers};
 
     /// Bits 15 to 13 of the halfword.
     pub fn funct3(&self) -> u32
-        ensures value { result ≡ cj_funct3 self.now }
+        ensures value { result ≡ (cj_numbers self.now).funct3 }
         ensures width { result < 2 ^ 3 }
     {
         match self {
@@ -138,7 +138,7 @@ impl CjOp {
 
     /// Its quadrant.
     pub fn op(&self) -> COpcodeSpace
-        ensures { result ≡ cj_space self.now }
+        ensures { result ≡ (cj_numbers self.now).space }
     {
         match self {
             CjOp::CJ => COpcodeSpace::C1,
@@ -161,11 +161,11 @@ pub enum CiOp {
 
 impl CiOp {
     ghost use Rattle.std.specs.Prelude.{◌≡◌, ◌<◌, ◌^◌};
-    ghost use Rattle.rv_ops.specs.Compressed.{ci_funct3, ci_space};
+    ghost use Rattle.rv_ops.specs.Compressed.{ci_numbers};
 
     /// Bits 15 to 13 of the halfword.
     pub fn funct3(&self) -> u32
-        ensures value { result ≡ ci_funct3 self.now }
+        ensures value { result ≡ (ci_numbers self.now).funct3 }
         ensures width { result < 2 ^ 3 }
     {
         match self {
@@ -178,7 +178,7 @@ impl CiOp {
 
     /// Its quadrant.
     pub fn op(&self) -> COpcodeSpace
-        ensures { result ≡ ci_space self.now }
+        ensures { result ≡ (ci_numbers self.now).space }
     {
         match self {
             CiOp::CAddi | CiOp::CAddiw | CiOp::CAddi16sp | CiOp::CLi | CiOp::CLui =>
@@ -196,11 +196,11 @@ pub enum CiwOp {
 
 impl CiwOp {
     ghost use Rattle.std.specs.Prelude.{◌≡◌, ◌<◌, ◌^◌};
-    ghost use Rattle.rv_ops.specs.Compressed.{ciw_funct3, ciw_space};
+    ghost use Rattle.rv_ops.specs.Compressed.{ciw_numbers};
 
     /// Bits 15 to 13 of the halfword.
     pub fn funct3(&self) -> u32
-        ensures value { result ≡ ciw_funct3 self.now }
+        ensures value { result ≡ (ciw_numbers self.now).funct3 }
         ensures width { result < 2 ^ 3 }
     {
         match self {
@@ -210,7 +210,7 @@ impl CiwOp {
 
     /// Its quadrant.
     pub fn op(&self) -> COpcodeSpace
-        ensures { result ≡ ciw_space self.now }
+        ensures { result ≡ (ciw_numbers self.now).space }
     {
         match self {
             CiwOp::CAddi4spn => COpcodeSpace::C0,
@@ -228,11 +228,11 @@ pub enum CbOp {
 
 impl CbOp {
     ghost use Rattle.std.specs.Prelude.{◌≡◌, ◌<◌, ◌^◌};
-    ghost use Rattle.rv_ops.specs.Compressed.{cb_funct3, cb_funct2, cb_space};
+    ghost use Rattle.rv_ops.specs.Compressed.{cb_numbers};
 
     /// Bits 15 to 13 of the halfword.
     pub fn funct3(&self) -> u32
-        ensures value { result ≡ cb_funct3 self.now }
+        ensures value { result ≡ (cb_numbers self.now).funct3 }
         ensures width { result < 2 ^ 3 }
     {
         match self {
@@ -242,7 +242,7 @@ impl CbOp {
 
     /// Bits 11 to 10 of the halfword.
     pub fn funct2(&self) -> u32
-        ensures value { result ≡ cb_funct2 self.now }
+        ensures value { result ≡ (cb_numbers self.now).funct2 }
         ensures width { result < 2 ^ 2 }
     {
         match self {
@@ -254,7 +254,7 @@ impl CbOp {
 
     /// Its quadrant.
     pub fn op(&self) -> COpcodeSpace
-        ensures { result ≡ cb_space self.now }
+        ensures { result ≡ (cb_numbers self.now).space }
     {
         match self {
             CbOp::CSrli | CbOp::CSrai | CbOp::CAndi => COpcodeSpace::C1,
@@ -271,11 +271,11 @@ pub enum CssOp {
 
 impl CssOp {
     ghost use Rattle.std.specs.Prelude.{◌≡◌, ◌<◌, ◌^◌};
-    ghost use Rattle.rv_ops.specs.Compressed.{css_funct3, css_space};
+    ghost use Rattle.rv_ops.specs.Compressed.{css_numbers};
 
     /// Bits 15 to 13 of the halfword.
     pub fn funct3(&self) -> u32
-        ensures value { result ≡ css_funct3 self.now }
+        ensures value { result ≡ (css_numbers self.now).funct3 }
         ensures width { result < 2 ^ 3 }
     {
         match self {
@@ -286,7 +286,7 @@ impl CssOp {
 
     /// Its quadrant.
     pub fn op(&self) -> COpcodeSpace
-        ensures { result ≡ css_space self.now }
+        ensures { result ≡ (css_numbers self.now).space }
     {
         match self {
             CssOp::CSwsp | CssOp::CSdsp => COpcodeSpace::C2,
@@ -303,11 +303,11 @@ pub enum CsOp {
 
 impl CsOp {
     ghost use Rattle.std.specs.Prelude.{◌≡◌, ◌<◌, ◌^◌};
-    ghost use Rattle.rv_ops.specs.Compressed.{cs_funct3, cs_space};
+    ghost use Rattle.rv_ops.specs.Compressed.{cs_numbers};
 
     /// Bits 15 to 13 of the halfword.
     pub fn funct3(&self) -> u32
-        ensures value { result ≡ cs_funct3 self.now }
+        ensures value { result ≡ (cs_numbers self.now).funct3 }
         ensures width { result < 2 ^ 3 }
     {
         match self {
@@ -318,7 +318,7 @@ impl CsOp {
 
     /// Its quadrant.
     pub fn op(&self) -> COpcodeSpace
-        ensures { result ≡ cs_space self.now }
+        ensures { result ≡ (cs_numbers self.now).space }
     {
         match self {
             CsOp::CSw | CsOp::CSd => COpcodeSpace::C0,
@@ -335,11 +335,11 @@ pub enum ClOp {
 
 impl ClOp {
     ghost use Rattle.std.specs.Prelude.{◌≡◌, ◌<◌, ◌^◌};
-    ghost use Rattle.rv_ops.specs.Compressed.{cl_funct3, cl_space};
+    ghost use Rattle.rv_ops.specs.Compressed.{cl_numbers};
 
     /// Bits 15 to 13 of the halfword.
     pub fn funct3(&self) -> u32
-        ensures value { result ≡ cl_funct3 self.now }
+        ensures value { result ≡ (cl_numbers self.now).funct3 }
         ensures width { result < 2 ^ 3 }
     {
         match self {
@@ -350,7 +350,7 @@ impl ClOp {
 
     /// Its quadrant.
     pub fn op(&self) -> COpcodeSpace
-        ensures { result ≡ cl_space self.now }
+        ensures { result ≡ (cl_numbers self.now).space }
     {
         match self {
             ClOp::CLw | ClOp::CLd => COpcodeSpace::C0,
@@ -370,11 +370,11 @@ pub enum CFloatOp {
 
 impl CFloatOp {
     ghost use Rattle.std.specs.Prelude.{◌≡◌, ◌<◌, ◌^◌};
-    ghost use Rattle.rv_ops.specs.Compressed.{c_float_funct3, c_float_space};
+    ghost use Rattle.rv_ops.specs.Compressed.{c_float_numbers};
 
     /// Bits 15 to 13 of the halfword.
     pub fn funct3(&self) -> u32
-        ensures value { result ≡ c_float_funct3 self.now }
+        ensures value { result ≡ (c_float_numbers self.now).funct3 }
         ensures width { result < 2 ^ 3 }
     {
         match self {
@@ -385,7 +385,7 @@ impl CFloatOp {
 
     /// Its quadrant.
     pub fn op(&self) -> COpcodeSpace
-        ensures { result ≡ c_float_space self.now }
+        ensures { result ≡ (c_float_numbers self.now).space }
     {
         match self {
             CFloatOp::CFld | CFloatOp::CFsd => COpcodeSpace::C0,
@@ -407,11 +407,11 @@ pub enum CsznOp {
 
 impl CsznOp {
     ghost use Rattle.std.specs.Prelude.{◌≡◌, ◌<◌, ◌^◌};
-    ghost use Rattle.rv_ops.specs.Compressed.{cszn_funct6, cszn_funct5, cszn_space};
+    ghost use Rattle.rv_ops.specs.Compressed.{cszn_numbers};
 
     /// Bits 15 to 10 of the halfword.
     pub fn funct6(&self) -> u32
-        ensures value { result ≡ cszn_funct6 self.now }
+        ensures value { result ≡ (cszn_numbers self.now).funct6 }
         ensures width { result < 2 ^ 6 }
     {
         match self {
@@ -426,7 +426,7 @@ impl CsznOp {
 
     /// Bits 6 to 2 of the halfword.
     pub fn funct5(&self) -> u32
-        ensures value { result ≡ cszn_funct5 self.now }
+        ensures value { result ≡ (cszn_numbers self.now).funct5 }
         ensures width { result < 2 ^ 5 }
     {
         match self {
@@ -441,7 +441,7 @@ impl CsznOp {
 
     /// Its quadrant.
     pub fn op(&self) -> COpcodeSpace
-        ensures { result ≡ cszn_space self.now }
+        ensures { result ≡ (cszn_numbers self.now).space }
     {
         match self {
             CsznOp::CNot
@@ -466,11 +466,11 @@ pub enum ZcbMemOp {
 
 impl ZcbMemOp {
     ghost use Rattle.std.specs.Prelude.{◌≡◌, ◌<◌, ◌^◌};
-    ghost use Rattle.rv_ops.specs.Compressed.{zcb_funct6, zcb_imm_bits, zcb_space};
+    ghost use Rattle.rv_ops.specs.Compressed.{zcb_numbers};
 
     /// Bits 15 to 10 of the halfword.
     pub fn funct6(&self) -> u32
-        ensures value { result ≡ zcb_funct6 self.now }
+        ensures value { result ≡ (zcb_numbers self.now).funct6 }
         ensures width { result < 2 ^ 6 }
     {
         match self {
@@ -483,7 +483,7 @@ impl ZcbMemOp {
 
     /// How many bits its immediate has: two where it counts bytes, one where it counts halfwords.
     pub fn imm_bits(&self) -> u8
-        ensures { result ≡ zcb_imm_bits self.now }
+        ensures { result ≡ (zcb_numbers self.now).imm_bits }
     {
         match self {
             ZcbMemOp::CLhu | ZcbMemOp::CLh | ZcbMemOp::CSh => 1,
@@ -493,7 +493,7 @@ impl ZcbMemOp {
 
     /// Its quadrant.
     pub fn op(&self) -> COpcodeSpace
-        ensures { result ≡ zcb_space self.now }
+        ensures { result ≡ (zcb_numbers self.now).space }
     {
         match self {
             ZcbMemOp::CLbu | ZcbMemOp::CLhu | ZcbMemOp::CLh | ZcbMemOp::CSb | ZcbMemOp::CSh =>

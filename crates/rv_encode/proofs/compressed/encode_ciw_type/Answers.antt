@@ -1,20 +1,20 @@
 use Rattle.std.proofs.Common.{◌≡◌, ◌*◌, ◌-◌, arith, subst}
 use Rattle.rv_base.specs.Regs.{number_of}
-use Rattle.rv_ops.specs.Compressed.{space_bits, ciw_space, ciw_funct3}
+use Rattle.rv_ops.specs.Compressed.{space_bits, ciw_numbers}
 use Rattle.rv_encode.specs.Layouts.{IsCiwType}
 use Rattle.rv_encode.proofs.Halfwords.{ciw_decodes, without_zca}
 use Rattle.rv_encode.proofs.compressed.encode_ciw_type.Goals as goal
 use Rattle.rv_encode.proofs.compressed.encode_ciw_type.Goals.{After-ciw_half}
 
 -- with the register's number as three bits hold it
-layout : (c : After-ciw_half) → IsCiwType c.ciw_half.result (space_bits (ciw_space c.args.op)) c.reg_to_compressed_gpr_num.result (4 * c.args.imm) (ciw_funct3 c.args.op)
+layout : (c : After-ciw_half) → IsCiwType c.ciw_half.result (space_bits (ciw_numbers c.args.op).space) c.reg_to_compressed_gpr_num.result (4 * c.args.imm) (ciw_numbers c.args.op).funct3
 layout c = rw (c.bits.ensures.value, c.op.ensures, c.from.ensures, c.funct3.ensures.value) at c.ciw_half.ensures
 
 pub returns-clause-layout : goal.returns-clause-layout
 returns-clause-layout c =
     let value = c.reg_to_compressed_gpr_num.ensures.value in
     let low : c.reg_to_compressed_gpr_num.result ≡ number_of c.args.rd.reg - 8 = omega (arith, value) in
-    subst (λ n. IsCiwType c.ciw_half.result (space_bits (ciw_space c.args.op)) n (4 * c.args.imm) (ciw_funct3 c.args.op)) low (layout (goal.at.returns-clause-layout c).After-ciw_half)
+    subst (λ n. IsCiwType c.ciw_half.result (space_bits (ciw_numbers c.args.op).space) n (4 * c.args.imm) (ciw_numbers c.args.op).funct3) low (layout (goal.at.returns-clause-layout c).After-ciw_half)
 
 pub returns-clause-decodes : goal.returns-clause-decodes
 returns-clause-decodes c =
