@@ -14,11 +14,11 @@ use std::alloc::Global;
 /// below it.
 const CODE_LIMIT: u128 = (1 << 31) - 4096;
 
-/// How many bytes an instruction has at most for which no island is asked among its own.
-const INST_SPACE: u64 = 88;
+/// Before so many bytes an island is asked for at each line: at most 84 of an instruction that asks for none, and 4 to jump over one.
+pub const LINE_SPACE: u32 = 88;
 
 /// How many bytes past the end are counted for when queues are tidied, so that an instruction's island is asked for of tidy ones.
-const AHEAD: u64 = INST_SPACE + ISLAND_MARGIN;
+const AHEAD: u64 = LINE_SPACE as u64 + ISLAND_MARGIN;
 
 /// What is kept for the alignment of a constant that doesn't stand yet: less than that many zero bytes are put before it.
 const ALIGNMENT_RESERVE: u128 = 16;

@@ -8,7 +8,7 @@ mod finish;
 mod islands;
 mod patches;
 
-pub use buffer::MachBuffer;
+pub use buffer::{LINE_SPACE, MachBuffer};
 pub use finish::Finished;
 pub use mach_records::{
     ConstPlace, Event, FinalizedMachExceptionHandler, FinalizedRelocTarget, MachPatchable,

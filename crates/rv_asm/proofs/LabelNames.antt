@@ -3,7 +3,7 @@ use Rattle.{mach_uses.specs.declared.uses.LabelPlace.LabelPlace, rv_asm.proofs.L
 use Rattle.rv_asm.proofs.Words.{[], allocated_of, ap, append-nil, append_each, Appends, AppendsIsland, AppendsSequence, arith, asked_by, before_last, Bind, binding_line, binds_from, Bool, both_lists, bound_kept, Branches, broken_rule, Buffer, bytes_of, CanFinish, CanReach, cases_eq, cases_lt, code_long}
 use Rattle.rv_asm.proofs.Words.{comes_from, cond, Constant, constant_label, constants_sum, Context, core, deadlines, due_by, due_total, Each, each_more, each_none, emitted_keeps, end_after, ends_within, Fallthrough, false, few_allocated, few_ways, Finishes, first_constant, first_inner, fits_most}
 use Rattle.rv_asm.proofs.Words.{Gap, has_veneer_of, HasSlack, high_kept, inl, inr, Inst, inst_code, inst_labels, inst_rule, inst_size, inst_sum, inst_ways, is_bound, is_far, is_some, IsConstantLabel, IsFarUse, IslandAsked, IslandIfNeeded, IsNamed, IsSoundBuffer, IsUsable, Jal20, jump_kind, Jumps}
-use Rattle.rv_asm.proofs.Words.{keeps, label_kinds, labels_of, LabelUse, last_end, last_near, leb-false, length, length-append, Line, line_space, line_sum, lines_sum, LineSpan, LinesStand, List, listed, lt-ltb, MachLabel, map-append, most_counts, Named, named_labels, named_of, nat_le, nat_tests}
+use Rattle.rv_asm.proofs.Words.{keeps, label_kinds, labels_of, LabelUse, last_end, last_near, leb-false, length, length-append, Line, line_size, line_space, line_sum, lines_sum, LineSpan, LinesStand, List, listed, lt-ltb, MachLabel, map-append, most_counts, Named, named_labels, named_of, nat_le, nat_tests}
 use Rattle.rv_asm.proofs.Words.{no_own, None, none-some, Nowhere, Option, PCRelLo12I, pending, pending_adds, pending_at, place_of, Put, reach_from_slack, reaches_from_slack, recorded, recorded_get, Refers, RefersConstant, refl, registered_of, Request, request_of, reserve_from, reserve_of}
 use Rattle.rv_asm.proofs.Words.{reserve_other, room_by, room_keeps, shape_of, size_limit, size_sum, Sized, slack_from_reach, slack_same, slice_get, slice_get-append, slice_get-append_last, Some, space_in, start_of, still_pending, subst, suc, sym, table_of, target_names, target_uses, Targets}
 use Rattle.rv_asm.proofs.Words.{targets_of, ToLabel as Label, total, true, true≢false, try_call_of, try_labels, TryCallInfo, Use, use_at, use_usable, uses_by, uses_in, uses_kinds, uses_of, uses_start, veneers_reach, ℕ, ⊎_elim, ◌*◌, ◌++◌, ◌+◌, ◌-◌, ◌<◌, ◌||◌, ◌∙◌, ◌∷◌, ◌≡◌, ◌≤◌, ◌⊎◌}
@@ -204,8 +204,8 @@ lines_append context (line ∷ lines) more = let rest = lines_append context lin
 pub sum_next : (context : Context) (lines : List Line) (line : Line) → size_sum context (lines ++ line ∷ []) ≡ size_sum context lines + line_sum context line
 sum_next context lines line = let whole = lines_append context lines (line ∷ []) in omega arith
 
--- each line counts for 128 bytes and more
-pub sum_least : (context : Context) (line : Line) → 128 ≤ line_sum context line
+-- each line counts for that of each, and more
+pub sum_least : (context : Context) (line : Line) → line_size ≤ line_sum context line
 sum_least context (Bind label) = omega arith
 sum_least context (Put inst) = omega arith
 

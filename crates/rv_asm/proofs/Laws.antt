@@ -1,7 +1,7 @@
 -- What the crates above cite of this one's proofs: laws about its definitions, by subject.
 use Rattle.rv_asm.proofs.LinesJoin.{same_itself}
 use Rattle.rv_asm.proofs.Words.{[], Addresses, ap, arith, At, AtReturn, AtStart, below, Bind, binds, Bool, broken_from, byte, calls_in, Code, cond, Context, context_of, core, effect_from, effect_of, EmitError, end_of, Entry, entry_point, environment_of, Err, exit_from, exit_of, false, Finds}
-use Rattle.rv_asm.proofs.Words.{fits_most, from_of, if◌then◌else◌, inst_size, Int, int_reg, is_bound, is_unfit, IsGapOf, IsReal, IsSpan, iter_after, iter_none, Job, label_start, le-ltb, Leads, length, Line, lines_sum, LineSpan, List, list_any, lit<, lit≤, load_result, lt-leb, maps_in, Memory}
+use Rattle.rv_asm.proofs.Words.{fits_most, from_of, if◌then◌else◌, inst_size, Int, int_reg, is_bound, is_unfit, IsGapOf, IsReal, IsSpan, iter_after, iter_none, Job, label_start, le-ltb, Leads, length, Line, line_size, lines_sum, LineSpan, List, list_any, lit<, lit≤, load_result, lt-leb, maps_in, Memory}
 use Rattle.rv_asm.proofs.Words.{nat_tests, None, Option, patches_in, Point, Put, Real, records_from, refl, Reg, RegClass, relocs_in, SameBut, size_limit, size_sum, slice_get, slice_index, Some, start_of, store, store_bytes, subst, suc, temporaries_from, temporaries_of, to_of, traps_in, tries_in}
 use Rattle.rv_asm.proofs.Words.{twice_from, unbound_in, unwinds_in, unwrap_or, Values, Virtual, wrap, zero, ℕ, ◌*◌, ◌+◌, ◌<◌, ◌==◌, ◌^◌, ◌||◌, ◌∙◌, ◌∷◌, ◌≡◌, ◌≢◌, ◌≤◌}
 use Rattle.{rv_asm.specs.FineLines.{AreFine, AreSilent, FineLinesAccepted, IsOutOfMemory, OnlyMemoryLeft, SilentLinesUnrecorded, StackLoadsFine, StackStoresFine}, rv_asm.specs.LineRuns.{EntryIsFirstLine, LinesRun, NothingRuns, RunsCompose}, rv_asm.specs.Refusal.{lines_refusal, refusal}}
@@ -124,7 +124,7 @@ record HaveNoFault (context : Context) (index : ℕ) (bound known : ℕ → Bool
   unbroken : broken_from context index lines ≡ None
   once : twice_from bound lines ≡ None
   known_all : unbound_in known lines ≡ None
-  few : lines_sum context lines ≤ 128 * length lines
+  few : lines_sum context lines ≤ line_size * length lines
 
 no_fault : (context : Context) (index : ℕ) (bound known : ℕ → Bool) (lines : List Line) → AreFine context lines → HaveNoFault context index bound known lines
 no_fault context index bound known [] f = record { fit = refl; unbroken = refl; once = refl; known_all = refl; few = lit≤ tt }

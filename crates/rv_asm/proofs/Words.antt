@@ -24,7 +24,7 @@ pub use Rattle.rv_emit.{proofs.Laws.{room_named, room_records, room_sound, same_
 pub use Rattle.{rv_encode.specs.Operations.decoded_branch, rv_full.specs.Steps.fiter, rv_inst.{specs.Context.context_of, specs.Forms.{jump_kind, IsOwnForm}, specs.LabelUse.{Aims, backward_of, forward_of, has_veneer_of, label_kinds, marks_of}}}
 pub use Rattle.rv_inst.specs.Meaning.{Break, resumed_by, target_exit, Data, effect_of, exit_of, return_exit, temporaries_of, Trap, writes_of}
 pub use Rattle.rv_inst.{specs.Operands.{inst_registers, named_labels, handler_label, inst_constant, inst_labels, inst_ways, labels_of as target_names, named_by, table_of, target_labels, targets_of, try_labels}, specs.Records.{access_records, IsRecorded, IsTrapAt, patch_records, return_records}}
-pub use Rattle.rv_inst.{specs.Relocations.{field_size, IsOutside}, specs.Rules.{broken_rule, first_of, is_buffer_label}, specs.Sizes.{first_in, inst_code, inst_records, inst_size, inst_sum, IsOfSize, line_space, line_sum, Request, request_of, space_in, trap_size}}
+pub use Rattle.rv_inst.{specs.Relocations.{field_size, IsOutside}, specs.Rules.{broken_rule, first_of, is_buffer_label}, specs.Sizes.{first_in, inst_code, inst_records, inst_size, inst_sum, IsOfSize, line_size, line_space, line_sum, Request, request_of, space_in, trap_size}}
 pub use Rattle.rv_inst.{specs.Uses.{target_uses, use_at, uses_by, uses_in, uses_start}, specs.declared.code.CallReturn.CallReturn, specs.declared.code.Code.Code, specs.declared.code.LineSpan.LineSpan, specs.declared.error.EmitError.EmitError, specs.declared.inst.CondBrTarget.CondBrTarget}
 pub use Rattle.rv_inst.{specs.declared.inst.CondBrTarget.TheVariants.{Fallthrough, Label as ToLabel}, specs.declared.inst.Line.Line, specs.declared.inst.Line.TheVariants.Bind}
 pub use Rattle.rv_inst.{specs.declared.job.Job.Job, specs.declared.label_use.LabelUse.LabelUse, specs.declared.label_use.LabelUse.TheVariants.{B12, PCRel32, PCRelLo12I, Jal20, PCRelHi20, RVCJump}, specs.declared.targets.Targets.Targets}

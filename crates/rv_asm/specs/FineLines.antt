@@ -13,7 +13,7 @@ use Rattle.rv_inst.specs.Context.{Context, context_of}
 use Rattle.rv_inst.specs.Frames.{is_bad_frame}
 use Rattle.rv_inst.specs.Operands.{named_labels}
 use Rattle.rv_inst.specs.Rules.{broken_rule}
-use Rattle.rv_inst.specs.Sizes.{line_sum}
+use Rattle.rv_inst.specs.Sizes.{line_size, line_sum}
 use Rattle.rv_inst.specs.declared.code.Code.{Code}
 use Rattle.rv_inst.specs.declared.error.EmitError.{EmitError}
 use Rattle.rv_inst.specs.declared.error.EmitError.TheVariants.{OutOfMemory, BadFrame, Malformed, LabelTwice, UnboundLabel, TooLarge}
@@ -29,13 +29,13 @@ use Rattle.rv_asm.specs.Reported.{Reported, line_records}
 abbrev pub plain_job : List Line → IsaFlags → Job
 plain_job lines flags = job_of lines flags no_frame []
 
--- a line that breaks no rule, can restore the frame, has to do with no label, and counts for at most 128 bytes
+-- a line that breaks no rule, can restore the frame, has to do with no label, and counts for no more than each line does
 pub record IsFine (context : Context) (line : Line) : Type 0 where
   pub rule : broken_rule context line ≡ None
   pub fit : is_unfit context.frame line ≡ false
   pub binds_none : (bound : ℕ → Bool) → twice_in bound line ≡ None
   pub names_none : named_labels line ≡ []
-  pub size : line_sum context line ≤ 128
+  pub size : line_sum context line ≤ line_size
 
 abbrev pub AreFine : Context → List Line → Type 0
 AreFine context lines = AllByRecursion (IsFine context) lines
@@ -74,7 +74,7 @@ FineLinesAccepted =
     (job : Job) →
     is_bad_frame job.frame ≡ false →
     AreFine (context_of job) job.lines →
-    constants_sum job.constants + 128 * length job.lines ≤ size_limit →
+    constants_sum job.constants + line_size * length job.lines ≤ size_limit →
     refusal job ≡ None
 
 -- a job that is refused for no cause has no error but out of memory

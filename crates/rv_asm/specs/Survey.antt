@@ -4,15 +4,15 @@ use Rattle.mach_labels.specs.declared.table.LabelTable.{LabelTable}
 use Rattle.rv_inst.specs.declared.inst.Line.{Line}
 use Rattle.rv_inst.specs.Context.{Context}
 use Rattle.rv_inst.specs.Rules.{broken_rule}
-use Rattle.rv_inst.specs.Sizes.{line_sum}
+use Rattle.rv_inst.specs.Sizes.{line_size, line_sum}
 use Rattle.rv_asm.specs.BoundLabels.{is_in}
 use Rattle.rv_asm.specs.Refusal.{is_unfit, has_bad_frame, broken_from, is_bound, twice_from, size_sum, size_limit}
 
--- a line that breaks no rule, can restore any frame, and counts for 128 bytes
+-- a line that breaks no rule, can restore any frame, and counts for what each line does
 pub record IsPlainLine (context : Context) (line : Line) : Type 0 where
   pub fit : is_unfit context.frame line ≡ false
   pub rule : broken_rule context line ≡ None
-  pub size : line_sum context line ≡ 128
+  pub size : line_sum context line ≡ line_size
 
 -- a line that breaks no rule and can restore the frame, and how many of the bytes that are left it leaves
 pub record IsPassed (context : Context) (line : Line) (left rest : ℕ) : Type 0 where

@@ -18,15 +18,12 @@ ghost use Rattle.rv_emit.specs.State.{setting_after, setting_beyond};
 ghost use Rattle.rv_listing.specs.CodeRanges.{SpanFits};
 ghost use Rattle.rv_asm.specs.LinesInBuffer.{CanPut, InstPut, BindPut, InstSetting, LinePut, LineSetting};
 
-use mach_buffer::MachBuffer;
+use mach_buffer::{LINE_SPACE, MachBuffer};
 use mach_records::copy_of_map;
 use rv_base::{MachLabel, OutOfMemory, UserStackMap};
 use rv_emit::{EmitInfo, EmitState, MachInstEmit, MachInstEmitState, emit_island_if_needed};
 use rv_inst::{Inst, LabelUse, Line, LineSpan};
 use std::alloc::Global;
-
-/// Before each instruction an island is put where one is needed before so many bytes.
-const LINE_SPACE: u32 = 88;
 
 /// Puts a line, after an island where one is needed, and gives its span.
 pub fn put_line(

@@ -6,7 +6,7 @@ ghost use Rattle.rv_asm.specs.Survey.{IsPlainLine, IsPassed, IsSurveyed};
 
 use crate::refusal::{bind_label_of, is_unfit, left_by_constants};
 use mach_labels::{FIRST_INNER, LabelTable};
-use rv_inst::{Context, Line, is_bad_frame};
+use rv_inst::{Context, LINE_SIZE, Line, is_bad_frame};
 use std::alloc::Global;
 
 /// The labels that the lines bind; none where there may be another cause to refuse the job than a label that isn't bound, or where
@@ -36,7 +36,7 @@ fn left_after(line: &Line, context: &Context<'_>, left: u64) -> Option<u64>
     ensures { IfSome result (IsPassed context.now line.now left) }
 {
     if is_plain(line) {
-        left_of(left, 128)
+        left_of(left, LINE_SIZE)
     } else {
         left_after_other(line, context, left)
     }

@@ -4,7 +4,7 @@ use Rattle.rv_code.{proofs.Operands.{Keeps, AreUsable, are_usable, not_zero, lis
 use Rattle.rv_code.proofs.StackLoads.{IsLoadable, IsLoadableAs, AreStackLoads, IsOtherAs, AreOthersAs}
 use Rattle.rv_code.proofs.Words.{address_targets, AllByRecursion, AMode, AreFineResults, AreOfClass, AreReal, breaks_none, CallInfo, CallRetPair, class_of, Const, Context, def_registers, differ_in_class, either_into, eqb-false, exceeds_arguments, ExternalName, Float, FrameLayout, I8, InReg, Inst}
 use Rattle.rv_code.proofs.Words.{inst_rule, inst_sum, Int, ints, is_base, is_buffer_label, is_distant, is_fifth, is_high, is_high_at, is_int_class, is_int_type, is_into_stack, is_loaded_from, is_not_of, is_on_stack, is_other_class, is_out_of_place, is_reserved, is_shorter, is_stack, is_unloadable}
-use Rattle.rv_code.proofs.Words.{is_vector_class, is_virtual, is_zero, IsFineAddress, IsFineResult, IsFineUnit, IsIntRegister, IsUsable, labels_of, lacks_constant, lacks_named, Ld, leb-false, list_any, load_class, load_format, load_size, LoadOP, loads_unless, location_differs, location_loads}
+use Rattle.rv_code.proofs.Words.{is_vector_class, is_virtual, is_zero, IsFineAddress, IsFineResult, IsFineUnit, IsIntRegister, IsUsable, labels_of, lacks_constant, lacks_named, Ld, leb-false, line_size, list_any, load_class, load_format, load_size, LoadOP, loads_unless, location_differs, location_loads}
 use Rattle.rv_code.proofs.Words.{location_of, location_registers, ltb-false, MemFlagsData, number_of, OnStack, or_parts, PReg, Real, Reg, RegClass, registers_in, RegOffset, restores, result_loads, results_clash, RetLocation, same_class, saved_load, saves_from, setup_loads, slice_get_within}
 use Rattle.{rv_code.{proofs.Words.{sp_to_args_end, sp_to_fp_of, StackLoad, inst_registers, is_float_load, is_misplaced, IsRealRegister, store_class, StoreOP, tail_call_of, UnitWord, use_registers, Vector, Virtual, Writable}, specs.Usable.{IsFineSequence, KeepsRules}}, rv_inst.specs.Context.context_by}
 use Rattle.rv_inst.{specs.Descriptions.{sequence_of, sequence_registers, third, unit_word}, specs.Frames.{is_unsaved, is_t0, is_bad_frame, is_bad_frame_for}, specs.declared.inst.Inst.TheVariants.{Nop0, Call, CallInd, Load, LoadAddr, ReturnCall, ReturnCallInd, Store}, specs.declared.sequence.Sequence.Sequence}
@@ -236,10 +236,10 @@ pub tail_kept : (context : Context) (inst : Inst) (tail : TailCall) → tail_cal
 tail_kept context inst tail is none = ltb-false context.frame.tail_args_size tail.stack_arg_size (ap (exceeds_arguments context.frame) (sym is) ∙ breaks_none context inst none rule.TailArgs)
 
 -- how many bytes it counts for
-pub tail_sum : (context : Context) (inst : Inst) (info : ReturnCallInfo ExternalName) → inst ≡ ReturnCall info → inst_sum context inst ≡ 128 + 32 * length context.frame.clobbered_callee_saves
+pub tail_sum : (context : Context) (inst : Inst) (info : ReturnCallInfo ExternalName) → inst ≡ ReturnCall info → inst_sum context inst ≡ line_size + 32 * length context.frame.clobbered_callee_saves
 tail_sum context inst info is = ap (inst_sum context) is ∙ omega arith
 
-pub jump_sum : (context : Context) (inst : Inst) (info : ReturnCallInfo Reg) → inst ≡ ReturnCallInd info → inst_sum context inst ≡ 128 + 32 * length context.frame.clobbered_callee_saves
+pub jump_sum : (context : Context) (inst : Inst) (info : ReturnCallInfo Reg) → inst ≡ ReturnCallInd info → inst_sum context inst ≡ line_size + 32 * length context.frame.clobbered_callee_saves
 jump_sum context inst info is = ap (inst_sum context) is ∙ omega arith
 
 -- ---- words of units, and sequences.

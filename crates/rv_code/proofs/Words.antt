@@ -24,7 +24,7 @@ pub use Rattle.rv_inst.{specs.Operands.{try_labels, use_registers, written_in}, 
 pub use Rattle.rv_inst.specs.Rules.{clash, differ_at_places, differ_in_class, either_into, exceeds_arguments, inst_rule, is_base, is_beyond, is_buffer_label, is_fifth, is_high, is_high_at, is_int_class, is_int_type, is_into_stack, is_loaded_from, is_movable, is_not_of}
 pub use Rattle.rv_inst.specs.Rules.{is_on_stack, is_one_of, is_other_class, is_out_of_place, is_real_x, is_reserved, is_shorter, is_stack, is_stack_or_frame, is_uneven, is_unloadable, is_vector, is_vector_class, is_virtual, is_word_type, is_zero, lacks_named}
 pub use Rattle.rv_inst.{specs.Rules.{location_differs, results_clash, same_class, same_register, values_differ}, specs.SameValues.{Same, SameBut, is_among}}
-pub use Rattle.rv_inst.{specs.Sizes.{AtMost, Exactly, IsOfSize, bit_shift, inst_records, inst_size, inst_sum, is_byte, move_op, move_size, request_of, right_shift, trap_size}, specs.Uses.{target_uses, use_at, uses_in, uses_start}, specs.declared.inst.Inst.Inst}
+pub use Rattle.rv_inst.{specs.Sizes.{AtMost, Exactly, IsOfSize, bit_shift, inst_records, inst_size, inst_sum, is_byte, line_size, move_op, move_size, request_of, right_shift, trap_size}, specs.Uses.{target_uses, use_at, uses_in, uses_start}, specs.declared.inst.Inst.Inst}
 pub use Rattle.{rv_inst.{specs.declared.inst.SelectInfo.SelectInfo, specs.declared.label_use.LabelUse.LabelUse, specs.declared.label_use.LabelUse.TheVariants.{B12, Jal20, PCRelHi20, PCRelLo12I, RVCJump}}, rv_machine.{proofs.Ranges.alu_result_fits, specs.Arithmetic.{extend_word, low_word}}}
 pub use Rattle.rv_machine.{specs.Effects.{act, act_on, alu_result}, specs.Memory.{load_bytes, load_result, store_bytes}, specs.State.{AreValues, IsState, Memory, State, Values, at, byte, low64, reg, reg_of, set_reg, set_reg_of, signed, store, wrap}, specs.Steps.{fetch, istep, step_on, then_step}}
 pub use Rattle.rv_machine.{specs.declared.decoding.Decoded.Decoded, specs.declared.ops.FloatFormat.FloatFormat, specs.declared.ops.MOp.TheVariants.{Alu, Base, FloatLoad, FloatStore}}

@@ -35,7 +35,7 @@ pub use Rattle.rv_inst.{specs.LabelUse.{Aims, backward_of, forward_of, has_venee
 pub use Rattle.rv_inst.{specs.Limits.{call_limit, load_limit, sequence_limit, step_limit, store_limit, table_space}, specs.Operands.{family_of, Return, address_targets, inst_constant, inst_ways, named_by, return_of, table_of, tail_call_of, targets_of, try_call_of, ways_by, ways_of}}
 pub use Rattle.rv_inst.{specs.Records.{access_records, patch_records, return_records, site_event}, specs.Returns.{StackLoad, frame_above, loads_unless, location_loads, restores, result_load, result_loads, saved_load, saves_from, setup_loads, typed_loads}}
 pub use Rattle.rv_inst.{specs.Rules.{inst_rule, is_on_stack, is_stacked, is_word_type}, specs.SameValues.Same}
-pub use Rattle.rv_inst.specs.Sizes.{AtMost, Exactly, IsOfSize, Request, Size, branch_size, call_end, call_request, fall, first_in, inst_code, inst_records, inst_size, inst_sum, line_space, most_bytes, most_of, move_size, request_of, results_space, space_in, trap_size}
+pub use Rattle.rv_inst.specs.Sizes.{AtMost, Exactly, IsOfSize, Request, Size, branch_size, call_end, call_request, fall, first_in, inst_code, inst_records, inst_size, inst_sum, line_size, line_space, most_bytes, most_of, move_size, request_of, results_space, space_in, trap_size}
 pub use Rattle.rv_inst.{specs.Uses.{inst_reach, jump_reach, least_reach, target_reach, target_uses, use_at, uses_by, uses_in, uses_start}, specs.declared.inst.CondBrTarget.CondBrTarget, specs.declared.inst.CondBrTarget.TheVariants.Fallthrough, specs.declared.inst.Family.Family}
 pub use Rattle.rv_inst.{specs.declared.inst.Family.TheVariants.Calls, specs.declared.inst.Inst.Inst}
 pub use Rattle.rv_inst.specs.declared.label_use.LabelUse.{LabelUse}

@@ -35,7 +35,7 @@ use Rattle.rv_inst.specs.Addresses.{is_distant}
 use Rattle.rv_inst.specs.Context.{Context}
 use Rattle.rv_inst.specs.Faults.{lacks_constant}
 use Rattle.rv_inst.specs.Rules.{is_virtual, is_other_class, is_reserved, is_int_class, same_class, is_not_of, differ_in_class, is_int_type, is_buffer_label, is_beyond, is_fallthrough, has_other_class, faults_of, is_zero, lacks_named, exceeds_arguments, every_rule, breaks, is_movable}
-use Rattle.rv_inst.specs.Sizes.{inst_sum}
+use Rattle.rv_inst.specs.Sizes.{inst_sum, line_size}
 use Rattle.rv_inst.specs.Plain.{is_usable, is_plain_address, IsPlain, is_plain}
 
 -- ---- registers
@@ -103,7 +103,7 @@ none_found test [] fails = refl
 none_found test (x ∷ xs) fails = (λ i. cond (fails x i) (Some x) (find test xs)) ∙ none_found test xs fails
 
 -- one whose registers are usable, and that breaks none of the other rules
-plain : (inst : Inst) → list_all is_usable (inst_registers inst) ≡ true → faults_of inst ≡ has_other_class false → ((constants : List Constant) → lacks_constant constants inst ≡ false) → list_any is_buffer_label (inst_labels inst) ≡ false → tail_call_of inst ≡ None → ((context : Context) → inst_sum context inst ≡ 128) → IsPlain inst
+plain : (inst : Inst) → list_all is_usable (inst_registers inst) ≡ true → faults_of inst ≡ has_other_class false → ((constants : List Constant) → lacks_constant constants inst ≡ false) → list_any is_buffer_label (inst_labels inst) ≡ false → tail_call_of inst ≡ None → ((context : Context) → inst_sum context inst ≡ line_size) → IsPlain inst
 plain inst usable sound named labels tail size = record {
   rules = λ context. none_found (breaks context inst) every_rule (kept context);
   size = size;

@@ -20,7 +20,7 @@ most_of (Exactly n) = n
 most_of (AtMost n) = n
 
 -- An island that an instruction asks for among its own bytes, where one is needed: how many of these stand before it; before how many bytes
--- it is needed, by how many of them follow it; and what the instruction counts for beside 128 bytes.
+-- it is needed, by how many of them follow it; and what the instruction counts for beside what each line does.
 pub record Request : Type 0 where
   pub first : Size
   pub space : ℕ → ℕ

@@ -13,7 +13,7 @@ use Rattle.rv_inst.specs.Addresses.{is_distant}
 use Rattle.rv_inst.specs.Context.{Context}
 use Rattle.rv_inst.specs.Operands.{tail_call_of, target_labels}
 use Rattle.rv_inst.specs.Rules.{is_virtual, is_other_class, is_reserved, is_int_type, is_beyond, is_fallthrough, is_buffer_label, inst_rule}
-use Rattle.rv_inst.specs.Sizes.{inst_sum}
+use Rattle.rv_inst.specs.Sizes.{inst_sum, line_size}
 use Rattle.rv_inst.specs.Descriptions.{Description, description_of}
 
 -- a register of which no rule is broken: an integer register of the machine other than x30 and x31
@@ -69,8 +69,8 @@ is_plain (ReturnCall info) = false
 is_plain (ReturnCallInd info) = false
 is_plain inst = described_is_plain (description_of inst refl)
 
--- an instruction that breaks no rule in any context, counts for 128 bytes, and is no tail call
+-- an instruction that breaks no rule in any context, counts for what each line does, and is no tail call
 pub record IsPlain (inst : Inst) : Type 0 where
   pub rules : (context : Context) → inst_rule context inst ≡ None
-  pub size : (context : Context) → inst_sum context inst ≡ 128
+  pub size : (context : Context) → inst_sum context inst ≡ line_size
   pub tail : tail_call_of inst ≡ None

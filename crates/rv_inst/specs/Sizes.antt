@@ -215,7 +215,7 @@ abbrev pub space_in : Option Request → ℕ → Option ℕ
 space_in None rest = None
 space_in (Some r) rest = Some (r.space rest)
 
--- what an instruction counts for beside 128 bytes
+-- what an instruction counts for beside what each line does
 abbrev pub extra_in : Option Request → ℕ
 extra_in None = 0
 extra_in (Some r) = r.extra
@@ -225,12 +225,17 @@ extra_in (Some r) = r.extra
 abbrev pub line_space : ℕ
 line_space = 88
 
--- what an instruction counts for, in bytes: 128; an island before so many bytes, those; a branch by a table, 8 for each label; a tail
--- call, 32 for each register that it restores; and a call, 32 for each result on the stack, loaded or not
+-- What each line counts for, in bytes, whatever it counts for beside. The code of a line that asks for no island, and the veneers of its
+-- labels, take at most 84 of them; an island before a line and one inside it take 17 each, the veneers of other lines apart.
+abbrev pub line_size : ℕ
+line_size = 128
+
+-- what an instruction counts for, in bytes: what each line does; an island before so many bytes, those; a branch by a table, 8 for each
+-- label; a tail call, 32 for each register that it restores; and a call, 32 for each result on the stack, loaded or not
 abbrev pub inst_sum : Context → Inst → ℕ
-inst_sum context inst = 128 + extra_in (request_of context inst) + 32 * count_by is_stacked (results_of inst)
+inst_sum context inst = line_size + extra_in (request_of context inst) + 32 * count_by is_stacked (results_of inst)
 
 -- what a line counts for; a bind like an instruction
 abbrev pub line_sum : Context → Line → ℕ
 line_sum context (Put inst) = inst_sum context inst
-line_sum context (Bind label) = 128
+line_sum context (Bind label) = line_size

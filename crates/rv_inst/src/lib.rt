@@ -39,6 +39,7 @@ pub use inst::{Brev8Info, CondBrTarget, CountInfo, Family, Inst, Line, SelectInf
 pub use job::Job;
 pub use label_use::LabelUse;
 pub use sequence::{Computation, Sequence};
+pub use sizes::LINE_SIZE;
 pub use tail_calls::{TailCall, is_bad_frame, is_bad_frame_for, is_unrestorable_for};
 pub use targets::{Targets, handler_label};
 pub use units::{Facts, InstRegs, PlacedReg};

@@ -1,3 +1,4 @@
 pub mod Elf
 pub mod Ends
+pub mod Numbers
 pub mod Symbols

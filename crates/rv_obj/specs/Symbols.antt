@@ -12,14 +12,15 @@ use Rattle.rv_obj.specs.declared.elf.Symbol.{Symbol}
 use Rattle.rv_obj.specs.declared.elf.Rela.{Rela}
 use Rattle.rv_obj.specs.declared.elf.Object.{Object}
 use Rattle.rv_obj.specs.declared.symbols.Import.{Import}
+use Rattle.rv_obj.specs.Numbers.{R_RISCV_64, R_RISCV_CALL_PLT, R_RISCV_GOT_HI20, R_RISCV_PCREL_HI20, R_RISCV_PCREL_LO12_I}
 
--- R_RISCV_CALL_PLT, R_RISCV_GOT_HI20, R_RISCV_PCREL_HI20, R_RISCV_PCREL_LO12_I and R_RISCV_64
+-- the psABI's number of a kind
 abbrev pub kind_number : Reloc → ℕ
-kind_number RiscvCallPlt = 19
-kind_number RiscvGotHi20 = 20
-kind_number RiscvPCRelHi20 = 23
-kind_number RiscvPCRelLo12I = 24
-kind_number Abs8 = 2
+kind_number RiscvCallPlt = R_RISCV_CALL_PLT
+kind_number RiscvGotHi20 = R_RISCV_GOT_HI20
+kind_number RiscvPCRelHi20 = R_RISCV_PCREL_HI20
+kind_number RiscvPCRelLo12I = R_RISCV_PCREL_LO12_I
+kind_number Abs8 = R_RISCV_64
 
 -- a relocation that names a place has a local label there; they are numbered in their order
 abbrev pub local_of : ℕ → FinalizedRelocTarget → List Symbol

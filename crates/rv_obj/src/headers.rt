@@ -5,28 +5,58 @@ ghost use Rattle.rv_obj.specs.Elf.{section_kind, section_links, section_header, 
 ghost use Rattle.rv_obj.specs.Ends.{AreEnds};
 
 use crate::elf::Object;
-use crate::tables::{Ends, put, put_2, put_4, put_8};
+use crate::numbers::{
+    EHDR_SIZE, ELFCLASS64, ELFDATA2LSB, ELFOSABI_NONE, EM_RISCV, ET_REL, EV_CURRENT, RELA_SIZE,
+    SHDR_SIZE, SHF_ALLOC, SHF_EXECINSTR, SHF_INFO_LINK, SHT_PROGBITS, SHT_RELA, SHT_STRTAB,
+    SHT_SYMTAB, SYM_SIZE,
+};
+use crate::tables::{Ends, TEXT_SECTION, put, put_2, put_4, put_8};
 use rv_base::OutOfMemory;
 
-/// How many bytes the file's header has.
-const HEADER_SIZE: u64 = 64;
+// ---- the sections after that of the code, by their numbers
 
-/// The file's first bytes: of 64 bits, the least byte first, version 1, System V.
-const IDENT: [u8; 16] = [0x7f, 0x45, 0x4c, 0x46, 2, 1, 1, 0, 0, 0, 0, 0, 0, 0, 0, 0];
+const SYMTAB_SECTION: u32 = 3;
 
+const STRTAB_SECTION: u32 = 4;
+
+const SHSTRTAB_SECTION: u16 = 5;
+
+/// How many sections there are, with section 0, which is none.
+const SECTION_COUNT: u16 = 6;
+
+// ---- where their names begin
+
+const TEXT_NAME: u32 = 1;
+
+const RELA_NAME: u32 = 7;
+
+const SYMTAB_NAME: u32 = 18;
+
+const STRTAB_NAME: u32 = 26;
+
+const SHSTRTAB_NAME: u32 = 34;
+
+// ---- the file's header
+
+// Of 64 bits, the least byte first, version 1, System V.
 fn put_ident(out: &mut Vec<u8>) -> Result<(), OutOfMemory>
     ensures { OnOk result (out.new.items ≡ out.old.items ++ ident) }
 {
-    put(out, &IDENT)
+    put(out, b"\x7fELF")?;
+    put(
+        out,
+        &[ELFCLASS64, ELFDATA2LSB, EV_CURRENT as u8, ELFOSABI_NONE],
+    )?;
+    put(out, &[0u8; 8])
 }
 
 // Relocatable, for RISC-V, version 1, no entry, no program headers.
 fn put_kind(out: &mut Vec<u8>) -> Result<(), OutOfMemory>
     ensures { OnOk result (out.new.items ≡ out.old.items ++ file_kind) }
 {
-    put_2(out, 1)?;
-    put_2(out, 243)?;
-    put_4(out, 1)?;
+    put_2(out, ET_REL)?;
+    put_2(out, EM_RISCV)?;
+    put_4(out, EV_CURRENT)?;
     put_8(out, 0)?;
     put_8(out, 0)
 }
@@ -35,12 +65,12 @@ fn put_kind(out: &mut Vec<u8>) -> Result<(), OutOfMemory>
 fn put_sizes(out: &mut Vec<u8>) -> Result<(), OutOfMemory>
     ensures { OnOk result (out.new.items ≡ out.old.items ++ header_sizes) }
 {
-    put_2(out, 64)?;
+    put_2(out, EHDR_SIZE as u16)?;
     put_2(out, 0)?;
     put_2(out, 0)?;
-    put_2(out, 64)?;
-    put_2(out, 6)?;
-    put_2(out, 5)
+    put_2(out, SHDR_SIZE as u16)?;
+    put_2(out, SECTION_COUNT)?;
+    put_2(out, SHSTRTAB_SECTION)
 }
 
 // Where the section headers begin, and the flags.
@@ -48,7 +78,7 @@ fn put_places(out: &mut Vec<u8>, object: &Object, ends: Ends) -> Result<(), OutO
     requires { AreEnds object.now ends }
     ensures { OnOk result (out.new.items ≡ out.old.items ++ file_places object.now) }
 {
-    put_8(out, HEADER_SIZE + ends.all)?;
+    put_8(out, EHDR_SIZE + ends.all)?;
     put_4(out, object.flags)?;
     Ok(())
 }
@@ -118,10 +148,10 @@ fn text_section(object: &Object) -> Section
     ensures { result ≡ text_section object.now }
 {
     Section {
-        name: 1,
-        kind: 1,
-        flags: 6,
-        offset: HEADER_SIZE,
+        name: TEXT_NAME,
+        kind: SHT_PROGBITS,
+        flags: SHF_ALLOC | SHF_EXECINSTR,
+        offset: EHDR_SIZE,
         size: object.text.len() as u64,
         link: 0,
         info: 0,
@@ -135,15 +165,15 @@ fn rela_section(object: &Object, ends: Ends) -> Section
     ensures { result ≡ rela_section object.now }
 {
     Section {
-        name: 7,
-        kind: 4,
-        flags: 64,
-        offset: HEADER_SIZE + ends.relas,
+        name: RELA_NAME,
+        kind: SHT_RELA,
+        flags: SHF_INFO_LINK,
+        offset: EHDR_SIZE + ends.relas,
         size: ends.symbols - ends.relas,
-        link: 3,
-        info: 1,
+        link: SYMTAB_SECTION,
+        info: u32::from(TEXT_SECTION),
         align: 8,
-        entry: 24,
+        entry: RELA_SIZE,
     }
 }
 
@@ -152,15 +182,15 @@ fn symbol_section(object: &Object, ends: Ends) -> Section
     ensures { result ≡ symbol_section object.now }
 {
     Section {
-        name: 18,
-        kind: 2,
+        name: SYMTAB_NAME,
+        kind: SHT_SYMTAB,
         flags: 0,
-        offset: HEADER_SIZE + ends.symbols,
+        offset: EHDR_SIZE + ends.symbols,
         size: ends.strings - ends.symbols,
-        link: 4,
+        link: STRTAB_SECTION,
         info: object.locals,
         align: 8,
-        entry: 24,
+        entry: SYM_SIZE as u64,
     }
 }
 
@@ -169,10 +199,10 @@ fn string_section(object: &Object, ends: Ends) -> Section
     ensures { result ≡ string_section object.now }
 {
     Section {
-        name: 26,
-        kind: 3,
+        name: STRTAB_NAME,
+        kind: SHT_STRTAB,
         flags: 0,
-        offset: HEADER_SIZE + ends.strings,
+        offset: EHDR_SIZE + ends.strings,
         size: ends.names - ends.strings,
         link: 0,
         info: 0,
@@ -186,10 +216,10 @@ fn name_section(object: &Object, ends: Ends) -> Section
     ensures { result ≡ name_section object.now }
 {
     Section {
-        name: 34,
-        kind: 3,
+        name: SHSTRTAB_NAME,
+        kind: SHT_STRTAB,
         flags: 0,
-        offset: HEADER_SIZE + ends.names,
+        offset: EHDR_SIZE + ends.names,
         size: ends.named - ends.names,
         link: 0,
         info: 0,
@@ -222,7 +252,7 @@ pub(crate) fn put_section_headers(
 {
     let text = text_section(object);
     let relas = rela_section(object, ends);
-    put(out, &[0u8; 64])?;
+    put(out, &[0u8; SHDR_SIZE])?;
     put_section(out, text)?;
     put_section(out, relas)?;
     put_table_headers(out, object, ends)?;

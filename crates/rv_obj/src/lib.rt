@@ -3,6 +3,7 @@
 
 mod elf;
 mod headers;
+mod numbers;
 mod symbols;
 mod tables;
 

@@ -6,6 +6,9 @@ ghost use Rattle.std.specs.List.{list_any, position_or_len};
 ghost use Rattle.rv_obj.specs.Symbols.{kind_number, local_of, locals_from, with_number, with_name, names_after, name_in, undefined, symbol_number, rela_of, relas_from, object_of};
 
 use crate::elf::{Object, Rela, Symbol};
+use crate::numbers::{
+    R_RISCV_64, R_RISCV_CALL_PLT, R_RISCV_GOT_HI20, R_RISCV_PCREL_HI20, R_RISCV_PCREL_LO12_I,
+};
 use crate::tables::low;
 use mach_records::{FinalizedRelocTarget, MachReloc};
 use rv_base::{List, OutOfMemory, Reloc};
@@ -24,11 +27,11 @@ fn kind_number(kind: Reloc) -> u32
     ensures { result ≡ kind_number kind }
 {
     match kind {
-        Reloc::RiscvCallPlt => 19,
-        Reloc::RiscvGotHi20 => 20,
-        Reloc::RiscvPCRelHi20 => 23,
-        Reloc::RiscvPCRelLo12I => 24,
-        Reloc::Abs8 => 2,
+        Reloc::RiscvCallPlt => R_RISCV_CALL_PLT,
+        Reloc::RiscvGotHi20 => R_RISCV_GOT_HI20,
+        Reloc::RiscvPCRelHi20 => R_RISCV_PCREL_HI20,
+        Reloc::RiscvPCRelLo12I => R_RISCV_PCREL_LO12_I,
+        Reloc::Abs8 => R_RISCV_64,
     }
 }
 

@@ -6,8 +6,12 @@ ghost use Rattle.rv_obj.specs.Ends.{AreEnds};
 ghost use Rattle.rv_obj.specs.Elf.{bytes_2, bytes_4, bytes_8, name_of, info_of, section_of, value_of, symbol_entry, entries_from, symbol_table, string_table, rela_entry, padding, section_names, before_relas, before_symbols, before_strings, before_names, named, contents};
 
 use crate::elf::{Object, Rela, Symbol};
+use crate::numbers::{SHN_UNDEF, STB_GLOBAL, STB_LOCAL, STT_NOTYPE, SYM_SIZE};
 use rv_base::OutOfMemory;
 use std::alloc::Global;
+
+/// The number of the section of the code, the first of them.
+pub(crate) const TEXT_SECTION: u16 = 1;
 
 /// How many bytes of the contents come before each of these, and in all.
 #[derive(Clone, Copy)]
@@ -75,18 +79,27 @@ fn put_relas(out: &mut Vec<u8>, relas: &[Rela]) -> Result<(), OutOfMemory>
 
 // ---- symbols
 
+/// The bindings, each with no type in the low four bits.
+const GLOBAL_INFO: u8 = STB_GLOBAL << 4 | STT_NOTYPE;
+
+const LOCAL_INFO: u8 = STB_LOCAL << 4 | STT_NOTYPE;
+
 fn info_of(symbol: &Symbol) -> u8
     ensures { result ≡ info_of symbol.now }
 {
-    if symbol.is_global { 16 } else { 0 }
+    if symbol.is_global {
+        GLOBAL_INFO
+    } else {
+        LOCAL_INFO
+    }
 }
 
 fn section_of(place: Option<u32>) -> u16
     ensures { result ≡ section_of place }
 {
     match place {
-        None => 0,
-        Some(_) => 1,
+        None => SHN_UNDEF,
+        Some(_) => TEXT_SECTION,
     }
 }
 
@@ -160,7 +173,7 @@ fn tables(alloc: Global, symbols: &[Symbol]) -> Result<(Vec<u8>, Vec<u8>), OutOf
 {
     let mut entries = Vec::new(alloc);
     let mut names = Vec::new(alloc);
-    put(&mut entries, &[0u8; 24])?;
+    put(&mut entries, &[0u8; SYM_SIZE])?;
     put(&mut names, b"\0")?;
     put_symbols(&mut entries, &mut names, symbols)?;
     Ok((entries, names))

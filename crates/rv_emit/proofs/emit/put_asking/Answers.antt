@@ -1,5 +1,5 @@
 use Rattle.rv_emit.proofs.{ReachAfterInst.reach_calm, TableCode.island_few, TableCode.table_emits, Islands.room_left, Islands.room_sound, CallSlots.loading_emits, CallSlots.unless_all, CallSlots.call_is, CallSlots.call_ind_is, StackMaps.space_given, Forgetting.calls_forget, Forgetting.table_forgets}
-use Rattle.rv_emit.proofs.Terms.{inst_sum, no_extra, loads_unless, result_loads, ◌+◌, ◌≡◌, rules, ◌*◌, length, ap, sym, ◌∙◌, subst, refl, arith, context_by, tail_call_of, table_space, registered_of, AreListed, call_ind_kept, call_kept, call_usable, keeps_rules, kept, listed_try, table_fine, tail_kept, tail_sum, jump_sum, target_fine, is_some, with_map, family_of, setting_beyond}
+use Rattle.rv_emit.proofs.Terms.{inst_sum, line_size, no_extra, loads_unless, result_loads, ◌+◌, ◌≡◌, rules, ◌*◌, length, ap, sym, ◌∙◌, subst, refl, arith, context_by, tail_call_of, table_space, registered_of, AreListed, call_ind_kept, call_kept, call_usable, keeps_rules, kept, listed_try, table_fine, tail_kept, tail_sum, jump_sum, target_fine, is_some, with_map, family_of, setting_beyond}
 use mathlib.Core.Bool.{or-false}
 use Rattle.rv_emit.proofs.emit.put_asking.Goals as goal
 
@@ -16,7 +16,7 @@ pub put_table-requires : goal.put_table-requires
 put_table-requires c =
     let context = context_by c.args.flags c.args.frame.now (registered_of c.args.sink.now) in
     let fine = table_fine _ _ _ _ (kept c.in-BrTable.is (keeps_rules context c.args.inst.now c.requires.rule)) in
-    let sum : inst_sum context c.args.inst.now ≡ 128 + 8 * length c.in-BrTable.targets = ap (inst_sum context) c.in-BrTable.is ∙ omega arith in
+    let sum : inst_sum context c.args.inst.now ≡ line_size + 8 * length c.in-BrTable.targets = ap (inst_sum context) c.in-BrTable.is ∙ omega arith in
     let room = c.requires.room in
     let same = c.as_slice.ensures ∙ c.as_ref-targets.ensures in
     let long = ap length same in
