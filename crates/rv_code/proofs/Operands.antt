@@ -13,8 +13,6 @@ use Rattle.rv_inst.specs.declared.inst.Inst.TheVariants.{BrTable, CallInd, Mov, 
 
 -- ---- what an instruction that breaks no rule gives: integer registers below x30, numbers in range, and branches with a target.
 
-abbrev pub AreUsable : List Reg → Type 0
-AreUsable rs = AllByRecursion IsUsable rs
 
 pub not_false : (a : Bool) → not a ≡ false → a ≡ true
 not_false true e = refl
