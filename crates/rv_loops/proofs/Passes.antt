@@ -1,0 +1,253 @@
+-- A pass of an atomic loop: from its load it comes to its store with the changed number, or leaves, in at most 17 pieces.
+use Rattle.std.proofs.Common.{◌≡◌, ◌≢◌, ◌⊎◌, inl, inr, ℕ, ◌+◌, ◌-◌, ◌*◌, ◌/◌, ◌%◌, ◌^◌, ◌<◌, ◌≤◌, Bool, true, false, not, nat_eq, if◌then◌else◌, pos, negsuc, List, [], ◌∷◌, ◌++◌, Option, Some, None, arith, refl, sym, ap, subst, ◌∙◌, lit<, lit≤, eqb-true, bit_and}
+use Rattle.std.specs.Prelude.{bit_or, bit_xor}
+use Rattle.std.proofs.lemmas.Bool.{eqb-false}
+use Rattle.rv_base.specs.CondCodes.{holds}
+use Rattle.rv_base.specs.IrType.{bits_of}
+use Rattle.rv_base.specs.Regs.{number_of}
+use Rattle.rv_base.specs.declared.condcodes.IntCC.{IntCC}
+use Rattle.rv_base.specs.declared.condcodes.IntCC.TheVariants.{NotEqual, SignedLessThan, SignedGreaterThan, UnsignedLessThan, UnsignedGreaterThan}
+use Rattle.rv_base.specs.declared.ir_type.IrType.{IrType}
+use Rattle.rv_base.specs.declared.ir_type.IrType.TheVariants.{I8, I16, I32, I64, I128, F16, F32, F64, F128, Vector}
+use Rattle.rv_base.specs.declared.regs.Reg.{Reg}
+use Rattle.rv_base.specs.declared.regs.Writable.{Writable}
+use Rattle.rv_machine.specs.State.{AreValues, Values, reg, set_reg, wrap}
+use Rattle.rv_ops.specs.declared.alu.AluOPRRI.TheVariants.{Addi, Xori}
+use Rattle.rv_ops.specs.declared.alu.AluOPRRR.TheVariants as alu
+use Rattle.rv_ops.specs.declared.atomic.AtomicRmwOp.{AtomicRmwOp}
+use Rattle.rv_ops.specs.declared.atomic.AtomicRmwOp.TheVariants.{Add, Sub, And, Nand, Or, Xor, Xchg, Umin, Umax, Smin, Smax}
+use Rattle.rv_inst.specs.AtomicLoops.{combined, loop_inputs, takes_signed}
+use Rattle.rv_inst.specs.Bits.{extended}
+use Rattle.rv_inst.specs.Classes.{is_int_type}
+use Rattle.rv_inst.specs.Fields.{with_part}
+use Rattle.rv_inst.specs.Meaning.{Environment}
+use Rattle.rv_inst.specs.declared.atomic_loop.AtomicLoop.{AtomicLoop}
+use Rattle.rv_inst.specs.declared.atomic_loop.Change.{Change}
+use Rattle.rv_inst.specs.declared.atomic_loop.Change.TheVariants.{Combines, Swaps}
+use Rattle.rv_code.specs.AtomicLoops.{after_load, choose_pieces, combine_pieces, combined_in, combining, extract_pieces, labels_for, loop_load, loop_pieces, merge_pieces, store_and_retry, take_field}
+use Rattle.rv_code.specs.Choices.{extend_pieces}
+use Rattle.rv_code.specs.Evaluation.{Point, and_then, evaluate, point, to}
+use Rattle.rv_code.specs.Pieces.{Bind, Branch, Do, Jump, Piece, Rri, Rrr, after}
+use Rattle.rv_code.specs.Usable.{IsFineAtomicLoop}
+use Rattle.rv_loops.proofs.RegisterParts.{Merged, Sets, Within, each_width, extends, extracts, few_bits, goes_on, in_more, joined, merges, moves, rri_does, rrr_does, sets, sets_again, sets_that, some_bits, such_too}
+use Rattle.rv_loops.specs.Passes.{AtLeave, AtStore, KeepsOthers, PassEnds, Leaves, Stores, store_on}
+
+-- ---- registers
+
+-- those of a loop: below x30; dst and t0 are none of the others, and not x0
+record AreApart (dst offset x t0 : ℕ) : Type 0 where
+  dst_some : 0 < dst
+  dst_low : dst < 30
+  t0_some : 0 < t0
+  t0_low : t0 < 30
+  offset_low : offset < 30
+  x_low : x < 30
+  t0_dst : t0 ≢ dst
+  t0_offset : t0 ≢ offset
+  t0_x : t0 ≢ x
+  dst_offset : dst ≢ offset
+  dst_x : dst ≢ x
+
+abbrev ApartOf : AtomicLoop → Type 0
+ApartOf l = AreApart (number_of l.dst.reg) (number_of l.offset) (number_of l.operand) (number_of l.t0.reg)
+
+apart_of : (l : AtomicLoop) → IsFineAtomicLoop l → ApartOf l
+apart_of l h = record {
+  dst_some = h.some_dst;
+  dst_low = h.dst.1;
+  t0_some = h.some_t0;
+  t0_low = h.t0.1;
+  offset_low = h.inputs.0.1;
+  x_low = h.inputs.1.1.0.1;
+  t0_dst = h.t0_apart.0;
+  t0_offset = h.t0_apart.1.0;
+  t0_x = h.t0_apart.1.1.1.0;
+  dst_offset = h.dst_apart.0;
+  dst_x = h.dst_apart.1.1.0;
+}
+
+-- ---- the field is taken out
+
+-- it is in dst, and the number in x30
+record Taken (dst part all : ℕ) (v w : Values) : Type 0 where
+  old : reg w dst ≡ part
+  number : reg w 30 ≡ all
+  others : (k : ℕ) → k < 30 → k ≢ dst → reg w k ≡ reg v k
+  mem : w.mem ≡ v.mem
+  are_values : AreValues w
+
+takes : {env : Environment} {whole ps : List Piece} (signed : Bool) (bits dst offset : ℕ) (v : Values) → 1 ≤ bits → bits ≤ 64 → AreValues v → 0 < dst → dst < 30 → offset < 30 →
+    Within 4 env whole (point (take_field dst offset signed bits ++ ps) v) ps (Taken dst (extended signed bits (reg v dst / 2 ^ (reg v offset % 64))) (reg v dst) v)
+takes signed bits dst offset v one few vs some low low_offset =
+    goes_on (moves 30 dst v vs (lit< tt) (lit< tt))
+    (λ w h.
+      let start = h.others dst (λ e. omega arith) in
+      let at = h.others offset (λ e. omega arith) in
+      such_too (λ u k. record {
+        old = k.holds ∙ (λ i. extended signed bits (start i / 2 ^ (at i % 64)));
+        number = k.others 30 (λ e. omega arith) ∙ h.holds;
+        others = λ n lt other. k.others n other ∙ h.others n (λ e. omega arith);
+        mem = k.mem ∙ h.mem;
+        are_values = k.are_values;
+      }) (extracts signed bits dst offset dst w one few h.are_values some (omega arith)))
+
+-- ---- what it and the operand give
+
+-- it is in the register of which the field is made, and t0 at most was written
+record Combined (op : AtomicRmwOp) (t0 dst x : ℕ) (v w : Values) : Type 0 where
+  holds : reg w (combined_in op t0 x) ≡ combined op (reg v dst) (reg v x)
+  others : (k : ℕ) → k ≢ t0 → reg w k ≡ reg v k
+  mem : w.mem ≡ v.mem
+  are_values : AreValues w
+
+-- where an own label stands before the move of dst, and another after it
+abbrev AreChoices : List Piece → ℕ → ℕ → List Piece → Type 0
+AreChoices whole t0 dst ps = (after 1 whole ≡ Some (Do (Rri Addi t0 dst (pos 0)) ∷ Bind 2 ∷ ps)) × (after 2 whole ≡ Some ps)
+
+abbrev ArePlaced : AtomicRmwOp → List Piece → ℕ → ℕ → List Piece → Type 0
+ArePlaced Add whole t0 dst ps = Unit {0}
+ArePlaced Sub whole t0 dst ps = Unit {0}
+ArePlaced And whole t0 dst ps = Unit {0}
+ArePlaced Nand whole t0 dst ps = Unit {0}
+ArePlaced Or whole t0 dst ps = Unit {0}
+ArePlaced Xor whole t0 dst ps = Unit {0}
+ArePlaced Xchg whole t0 dst ps = Unit {0}
+ArePlaced Umin whole t0 dst ps = AreChoices whole t0 dst ps
+ArePlaced Umax whole t0 dst ps = AreChoices whole t0 dst ps
+ArePlaced Smin whole t0 dst ps = AreChoices whole t0 dst ps
+ArePlaced Smax whole t0 dst ps = AreChoices whole t0 dst ps
+
+-- a register is moved by addi of 0
+moved : (v : Values) (rd rs : ℕ) → AreValues v → 0 < rd → rd < 32 → Sets rd (reg v rs) v (set_reg v rd (wrap (reg v rs + 0)))
+moved v rd rs vs some lt =
+    let fits = vs.fits rs in
+    let same : wrap (reg v rs + 0) ≡ reg v rs = omega arith in
+    sets_that same (sets v rd (wrap (reg v rs + 0)) vs some lt (omega arith))
+
+-- by whether dst and the operand compare so
+chooses : {env : Environment} {whole ps : List Piece} (how : IntCC) (c : Bool) (t0 dst x : ℕ) (v : Values) → holds how (reg v dst) (reg v x) ≡ c → AreChoices whole t0 dst ps → AreValues v → 0 < t0 → t0 < 32 →
+    Within 3 env whole (point (choose_pieces how t0 dst x ++ ps) v) ps (Sets t0 (if c then reg v dst else reg v x) v)
+chooses {env} {whole} {ps} how true t0 dst x v test places vs some lt = record {
+  count = 3;
+  values = set_reg v t0 (wrap (reg v dst + 0));
+  few = lit≤ tt;
+  ran = ap (λ c. and_then (if c then to (after 1 whole) v [] else Some (point (Do (Rri Addi t0 x (pos 0)) ∷ Jump 2 ∷ Bind 1 ∷ Do (Rri Addi t0 dst (pos 0)) ∷ Bind 2 ∷ ps) v)) (evaluate env 2 whole)) test
+      ∙ ap (λ o. and_then (to o v []) (evaluate env 2 whole)) places.0;
+  such = moved v t0 dst vs some lt;
+}
+chooses {env} {whole} {ps} how false t0 dst x v test places vs some lt = record {
+  count = 3;
+  values = set_reg v t0 (wrap (reg v x + 0));
+  few = lit≤ tt;
+  ran = ap (λ c. and_then (if c then to (after 1 whole) v [] else Some (point (Do (Rri Addi t0 x (pos 0)) ∷ Jump 2 ∷ Bind 1 ∷ Do (Rri Addi t0 dst (pos 0)) ∷ Bind 2 ∷ ps) v)) (evaluate env 2 whole)) test
+      ∙ ap (λ o. and_then (to o (set_reg v t0 (wrap (reg v x + 0))) []) (evaluate env 0 whole)) places.1;
+  such = moved v t0 x vs some lt;
+}
+
+-- it is in t0
+combined_by : {op : AtomicRmwOp} {t0 dst x : ℕ} {v w : Values} → combined_in op t0 x ≡ t0 → Sets t0 (combined op (reg v dst) (reg v x)) v w → Combined op t0 dst x v w
+combined_by {w = w} is h = record { holds = ap (reg w) is ∙ h.holds; others = h.others; mem = h.mem; are_values = h.are_values }
+
+-- their common bits are inverted
+inverts : {env : Environment} {whole ps : List Piece} (t0 dst x : ℕ) (v : Values) → AreValues v → 0 < t0 → t0 < 32 →
+    Within 2 env whole (point (combine_pieces Nand t0 dst x ++ ps) v) ps (Sets t0 (combined Nand (reg v dst) (reg v x)) v)
+inverts t0 dst x v vs some lt =
+    goes_on (rrr_does alu.And t0 x dst v refl vs some lt)
+    (λ w h. such_too (λ u k. sets_again h (sets_that (ap (λ n. bit_xor n (2 ^ 64 - 1)) h.holds) k)) (rri_does Xori t0 t0 (negsuc 0) w refl (lit< tt) h.are_values some lt))
+
+combines : {env : Environment} {whole ps : List Piece} (op : AtomicRmwOp) (t0 dst x : ℕ) (v : Values) → ArePlaced op whole t0 dst ps → AreValues v → 0 < t0 → t0 < 32 →
+    Within 3 env whole (point (combine_pieces op t0 dst x ++ ps) v) ps (Combined op t0 dst x v)
+combines Add t0 dst x v places vs some lt = in_more 3 (lit≤ tt) (such_too (λ w. combined_by refl) (rrr_does alu.Add t0 dst x v refl vs some lt))
+combines Sub t0 dst x v places vs some lt = in_more 3 (lit≤ tt) (such_too (λ w. combined_by refl) (rrr_does alu.Sub t0 dst x v refl vs some lt))
+combines And t0 dst x v places vs some lt = in_more 3 (lit≤ tt) (such_too (λ w. combined_by refl) (rrr_does alu.And t0 dst x v refl vs some lt))
+combines Nand t0 dst x v places vs some lt = in_more 3 (lit≤ tt) (such_too (λ w. combined_by refl) (inverts t0 dst x v vs some lt))
+combines Or t0 dst x v places vs some lt = in_more 3 (lit≤ tt) (such_too (λ w. combined_by refl) (rrr_does alu.Or t0 dst x v refl vs some lt))
+combines Xor t0 dst x v places vs some lt = in_more 3 (lit≤ tt) (such_too (λ w. combined_by refl) (rrr_does alu.Xor t0 dst x v refl vs some lt))
+combines Xchg t0 dst x v places vs some lt = record { count = 0; values = v; few = lit≤ tt; ran = refl; such = record { holds = refl; others = λ k other. refl; mem = refl; are_values = vs } }
+combines Umin t0 dst x v places vs some lt = such_too (λ w. combined_by refl) (chooses UnsignedLessThan _ t0 dst x v refl places vs some lt)
+combines Umax t0 dst x v places vs some lt = such_too (λ w. combined_by refl) (chooses UnsignedGreaterThan _ t0 dst x v refl places vs some lt)
+combines Smin t0 dst x v places vs some lt = such_too (λ w. combined_by refl) (chooses SignedLessThan _ t0 dst x v refl places vs some lt)
+combines Smax t0 dst x v places vs some lt = such_too (λ w. combined_by refl) (chooses SignedGreaterThan _ t0 dst x v refl places vs some lt)
+
+-- a register below x30, too
+combined_low : (op : AtomicRmwOp) (t0 x : ℕ) → t0 < 30 → x < 30 → combined_in op t0 x < 30
+combined_low Add t0 x low low_x = low
+combined_low Sub t0 x low low_x = low
+combined_low And t0 x low low_x = low
+combined_low Nand t0 x low low_x = low
+combined_low Or t0 x low low_x = low
+combined_low Xor t0 x low low_x = low
+combined_low Xchg t0 x low low_x = low_x
+combined_low Umin t0 x low low_x = low
+combined_low Umax t0 x low low_x = low
+combined_low Smin t0 x low low_x = low
+combined_low Smax t0 x low low_x = low
+
+-- ---- the field is made of it
+
+-- the field is in dst, and the number with another one is in x30
+record InPart (signed : Bool) (bits dst offset x t0 : ℕ) (f : ℕ → ℕ → ℕ) (v w : Values) : Type 0 where
+  old : reg w dst ≡ extended signed bits (reg v dst / 2 ^ (reg v offset % 64))
+  number : reg w 30 ≡ wrap (with_part (reg v offset % 64) bits (f (extended signed bits (reg v dst / 2 ^ (reg v offset % 64))) (reg v x)) (reg v dst))
+  regs : (k : ℕ) → k < 30 → k ≢ dst → k ≢ t0 → reg w k ≡ reg v k
+  mem : w.mem ≡ v.mem
+  are_values : AreValues w
+
+-- from where the field is taken out, and the register of which it is made holds what it and the operand give
+makes : {env : Environment} {whole ps : List Piece} {signed : Bool} {dst offset x t0 : ℕ} {v w u : Values} (f : ℕ → ℕ → ℕ) (ty : IrType) (rs : ℕ) → is_int_type ty ≡ true → AreApart dst offset x t0 → rs < 30 →
+    Taken dst (extended signed (bits_of ty) (reg v dst / 2 ^ (reg v offset % 64))) (reg v dst) v w →
+    reg u rs ≡ f (reg w dst) (reg w x) → ((k : ℕ) → k ≢ t0 → reg u k ≡ reg w k) → u.mem ≡ w.mem → AreValues u →
+    Within 10 env whole (point (merge_pieces 30 31 offset rs (bits_of ty) ++ ps) u) ps (InPart signed (bits_of ty) dst offset x t0 f v)
+makes {signed = signed} {dst} {offset} {x} {t0} {v} {w} {u} f ty rs int apart low h made same mem us =
+    let bits = bits_of ty in
+    let at = same offset (λ e. apart.t0_offset (sym e)) ∙ h.others offset apart.offset_low (λ e. apart.dst_offset (sym e)) in
+    let number = same 30 (λ e. (let t = apart.t0_low in absurd (omega arith))) ∙ h.number in
+    let operand = h.others x apart.x_low (λ e. apart.dst_x (sym e)) in
+    let field = made ∙ (λ i. f (h.old i) (operand i)) in
+    such_too (λ z k. record {
+      old = k.others dst apart.dst_low ∙ same dst (λ e. apart.t0_dst (sym e)) ∙ h.old;
+      number = k.holds ∙ (λ i. wrap (with_part (at i % 64) bits (field i) (number i)));
+      regs = λ n lt not_dst not_t0. k.others n lt ∙ same n not_t0 ∙ h.others n lt not_dst;
+      mem = k.mem ∙ mem ∙ h.mem;
+      are_values = k.are_values;
+    }) (merges ty offset rs u int us apart.offset_low low)
+
+combines_part : {env : Environment} {whole ps : List Piece} (op : AtomicRmwOp) (ty : IrType) (dst offset x t0 : ℕ) (v : Values) → is_int_type ty ≡ true → AreApart dst offset x t0 → AreValues v →
+    ArePlaced op whole t0 dst (merge_pieces 30 31 offset (combined_in op t0 x) (bits_of ty) ++ ps) →
+    Within 17 env whole (point (take_field dst offset (takes_signed op) (bits_of ty) ++ combine_pieces op t0 dst x ++ merge_pieces 30 31 offset (combined_in op t0 x) (bits_of ty) ++ ps) v) ps (InPart (takes_signed op) (bits_of ty) dst offset x t0 (combined op) v)
+combines_part op ty dst offset x t0 v int apart vs places =
+    goes_on (takes (takes_signed op) (bits_of ty) dst offset v (some_bits ty int) (few_bits ty int) vs apart.dst_some apart.dst_low apart.offset_low)
+    (λ w h. goes_on (combines op t0 dst x w places h.are_values apart.t0_some (let low = apart.t0_low in omega arith))
+    (λ u k. makes (combined op) ty (combined_in op t0 x) int apart (combined_low op t0 x apart.t0_low apart.x_low) h k.holds k.others k.mem k.are_values))
+
+-- ---- passes
+
+-- in at most so many pieces the evaluation comes to a store, or it leaves
+abbrev Ends : ℕ → Environment → List Piece → Point → List Piece → (Values → Type 0) → (Values → Type 0) → Type 0
+Ends most env whole p store Stored Left = Within most env whole p store Stored ⊎ Within most env whole p [] Left
+
+ends_after : {m n : ℕ} {env : Environment} {whole ps store : List Piece} {p : Point} {Such Stored Left : Values → Type 0} → Within m env whole p ps Such → ((w : Values) → Such w → Ends n env whole (point ps w) store Stored Left) → Ends (m + n) env whole p store Stored Left
+ends_after r on = elim (on r.values r.such) [ inl d ↦ inl (joined r d) | inr d ↦ inr (joined r d) ]
+
+ends_in_more : {m : ℕ} {env : Environment} {whole store : List Piece} {p : Point} {Stored Left : Values → Type 0} (n : ℕ) → m ≤ n → Ends m env whole p store Stored Left → Ends n env whole p store Stored Left
+ends_in_more n le r = elim r [ inl d ↦ inl (in_more n le d) | inr d ↦ inr (in_more n le d) ]
+
+-- where dst isn't the expected number it leaves, and else it goes on
+compares : {n : ℕ} {env : Environment} {whole ps store : List Piece} {Stored Left : Values → Type 0} (c : Bool) (e dst : ℕ) (w : Values) → nat_eq (reg w e) (reg w dst) ≡ c → after 1 whole ≡ Some [] → (reg w e ≡ reg w dst → Within n env whole (point ps w) store Stored) → (reg w e ≢ reg w dst → Left w) →
+    Ends (1 + n) env whole (point (Branch NotEqual e dst 1 ∷ ps) w) store Stored Left
+compares {env = env} {whole} {ps} {Stored = Stored} true e dst w test leads on left =
+    let here : Within 1 env whole (point (Branch NotEqual e dst 1 ∷ ps) w) ps (λ u. u ≡ w) = record {
+      count = 1;
+      values = w;
+      few = lit≤ tt;
+      ran = ap (λ c. and_then (if not c then to (after 1 whole) w [] else Some (point ps w)) (evaluate env 0 whole)) test;
+      such = refl;
+    } in
+    inl (joined here (on (eqb-true (reg w e) (reg w dst) test)))
+compares {n} {env} {whole} {ps} false e dst w test leads on left = inr (in_more (1 + n) (omega arith) (record {
+  count = 1;
+  values = w;
+  few = lit≤ {1} {1} tt;
+  ran = ap (λ c. and_then (if not c then to (after 1 whole) w [] else Some (point ps w)) (evaluate env 0 whole)) test ∙ ap (λ o. and_then (to o w []) (evaluate env 0 whole)) leads;
+  such = left (eqb-false (reg w e) (reg w dst) test);
+}))
