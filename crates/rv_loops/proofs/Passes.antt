@@ -1,5 +1,5 @@
 -- A pass of an atomic loop: from its load it comes to its store with the changed number, or leaves, in at most 17 pieces.
-use Rattle.std.proofs.Common.{◌≡◌, ◌≢◌, ◌⊎◌, inl, inr, ℕ, ◌+◌, ◌-◌, ◌*◌, ◌/◌, ◌%◌, ◌^◌, ◌<◌, ◌≤◌, Bool, true, false, not, nat_eq, if◌then◌else◌, pos, negsuc, List, [], ◌∷◌, ◌++◌, Option, Some, None, arith, refl, sym, ap, subst, ◌∙◌, lit<, lit≤, eqb-true, bit_and}
+use Rattle.std.proofs.Common.{◌≡◌, ◌≢◌, ◌⊎◌, inl, inr, ℕ, ◌+◌, ◌-◌, ◌*◌, ◌/◌, ◌%◌, ◌^◌, ◌<◌, ◌≤◌, Bool, true, false, not, nat_eq, if◌then◌else◌, pos, negsuc, List, [], ◌∷◌, ◌++◌, Option, Some, None, append_assoc, arith, refl, sym, ap, subst, ◌∙◌, lit<, lit≤, eqb-true, bit_and}
 use Rattle.std.specs.Prelude.{bit_or, bit_xor}
 use Rattle.std.proofs.lemmas.Bool.{eqb-false}
 use Rattle.rv_base.specs.CondCodes.{holds}
@@ -16,10 +16,10 @@ use Rattle.rv_ops.specs.declared.alu.AluOPRRI.TheVariants.{Addi, Xori}
 use Rattle.rv_ops.specs.declared.alu.AluOPRRR.TheVariants as alu
 use Rattle.rv_ops.specs.declared.atomic.AtomicRmwOp.{AtomicRmwOp}
 use Rattle.rv_ops.specs.declared.atomic.AtomicRmwOp.TheVariants.{Add, Sub, And, Nand, Or, Xor, Xchg, Umin, Umax, Smin, Smax}
-use Rattle.rv_inst.specs.AtomicLoops.{combined, loop_inputs, takes_signed}
+use Rattle.rv_inst.specs.AtomicLoops.{combined, expected_in, is_wide, is_whole, takes_signed}
 use Rattle.rv_inst.specs.Bits.{extended}
 use Rattle.rv_inst.specs.Classes.{is_int_type}
-use Rattle.rv_inst.specs.Fields.{with_part}
+use Rattle.rv_inst.specs.Fields.{IsNoneOf, with_part}
 use Rattle.rv_inst.specs.Meaning.{Environment}
 use Rattle.rv_inst.specs.declared.atomic_loop.AtomicLoop.{AtomicLoop}
 use Rattle.rv_inst.specs.declared.atomic_loop.Change.{Change}
@@ -28,7 +28,7 @@ use Rattle.rv_code.specs.AtomicLoops.{after_load, choose_pieces, combine_pieces,
 use Rattle.rv_code.specs.Choices.{extend_pieces}
 use Rattle.rv_code.specs.Evaluation.{Point, and_then, evaluate, point, to}
 use Rattle.rv_code.specs.Pieces.{Bind, Branch, Do, Jump, Piece, Rri, Rrr, after}
-use Rattle.rv_code.specs.Usable.{IsFineAtomicLoop}
+use Rattle.rv_code.specs.Usable.{AreUsable, IsFineAtomicLoop}
 use Rattle.rv_loops.proofs.RegisterParts.{Merged, Sets, Within, each_width, extends, extracts, few_bits, goes_on, in_more, joined, merges, moves, rri_does, rrr_does, sets, sets_again, sets_that, some_bits, such_too}
 use Rattle.rv_loops.specs.Passes.{AtLeave, AtStore, KeepsOthers, PassEnds, Leaves, Stores, store_on}
 
@@ -194,11 +194,11 @@ record InPart (signed : Bool) (bits dst offset x t0 : ℕ) (f : ℕ → ℕ → 
   are_values : AreValues w
 
 -- from where the field is taken out, and the register of which it is made holds what it and the operand give
-makes : {env : Environment} {whole ps : List Piece} {signed : Bool} {dst offset x t0 : ℕ} {v w u : Values} (f : ℕ → ℕ → ℕ) (ty : IrType) (rs : ℕ) → is_int_type ty ≡ true → AreApart dst offset x t0 → rs < 30 →
+makes : {env : Environment} {whole ps : List Piece} {dst offset x t0 : ℕ} (signed : Bool) (f : ℕ → ℕ → ℕ) (ty : IrType) (rs : ℕ) (v w u : Values) → is_int_type ty ≡ true → AreApart dst offset x t0 → rs < 30 →
     Taken dst (extended signed (bits_of ty) (reg v dst / 2 ^ (reg v offset % 64))) (reg v dst) v w →
     reg u rs ≡ f (reg w dst) (reg w x) → ((k : ℕ) → k ≢ t0 → reg u k ≡ reg w k) → u.mem ≡ w.mem → AreValues u →
     Within 10 env whole (point (merge_pieces 30 31 offset rs (bits_of ty) ++ ps) u) ps (InPart signed (bits_of ty) dst offset x t0 f v)
-makes {signed = signed} {dst} {offset} {x} {t0} {v} {w} {u} f ty rs int apart low h made same mem us =
+makes {dst = dst} {offset} {x} {t0} signed f ty rs v w u int apart low h made same mem us =
     let bits = bits_of ty in
     let at = same offset (λ e. apart.t0_offset (sym e)) ∙ h.others offset apart.offset_low (λ e. apart.dst_offset (sym e)) in
     let number = same 30 (λ e. (let t = apart.t0_low in absurd (omega arith))) ∙ h.number in
@@ -214,11 +214,11 @@ makes {signed = signed} {dst} {offset} {x} {t0} {v} {w} {u} f ty rs int apart lo
 
 combines_part : {env : Environment} {whole ps : List Piece} (op : AtomicRmwOp) (ty : IrType) (dst offset x t0 : ℕ) (v : Values) → is_int_type ty ≡ true → AreApart dst offset x t0 → AreValues v →
     ArePlaced op whole t0 dst (merge_pieces 30 31 offset (combined_in op t0 x) (bits_of ty) ++ ps) →
-    Within 17 env whole (point (take_field dst offset (takes_signed op) (bits_of ty) ++ combine_pieces op t0 dst x ++ merge_pieces 30 31 offset (combined_in op t0 x) (bits_of ty) ++ ps) v) ps (InPart (takes_signed op) (bits_of ty) dst offset x t0 (combined op) v)
+    Within 17 env whole (point (take_field dst offset (takes_signed op) (bits_of ty) ++ (combine_pieces op t0 dst x ++ (merge_pieces 30 31 offset (combined_in op t0 x) (bits_of ty) ++ ps))) v) ps (InPart (takes_signed op) (bits_of ty) dst offset x t0 (combined op) v)
 combines_part op ty dst offset x t0 v int apart vs places =
     goes_on (takes (takes_signed op) (bits_of ty) dst offset v (some_bits ty int) (few_bits ty int) vs apart.dst_some apart.dst_low apart.offset_low)
     (λ w h. goes_on (combines op t0 dst x w places h.are_values apart.t0_some (let low = apart.t0_low in omega arith))
-    (λ u k. makes (combined op) ty (combined_in op t0 x) int apart (combined_low op t0 x apart.t0_low apart.x_low) h k.holds k.others k.mem k.are_values))
+    (λ u k. makes (takes_signed op) (combined op) ty (combined_in op t0 x) v w u int apart (combined_low op t0 x apart.t0_low apart.x_low) h k.holds k.others k.mem k.are_values))
 
 -- ---- passes
 
@@ -244,10 +244,198 @@ compares {env = env} {whole} {ps} {Stored = Stored} true e dst w test leads on l
       such = refl;
     } in
     inl (joined here (on (eqb-true (reg w e) (reg w dst) test)))
-compares {n} {env} {whole} {ps} false e dst w test leads on left = inr (in_more (1 + n) (omega arith) (record {
+compares {n} {env} {whole} {ps} false e dst w test leads on left = inr (in_more {m = 1} (1 + n) (omega arith) (record {
   count = 1;
   values = w;
-  few = lit≤ {1} {1} tt;
+  few = lit≤ tt;
   ran = ap (λ c. and_then (if not c then to (after 1 whole) w [] else Some (point ps w)) (evaluate env 0 whole)) test ∙ ap (λ o. and_then (to o w []) (evaluate env 0 whole)) leads;
   such = left (eqb-false (reg w e) (reg w dst) test);
 }))
+
+swaps_part : {env : Environment} {whole ps : List Piece} {Stored Left : Values → Type 0} (ty : IrType) (e dst offset x t0 : ℕ) (v : Values) → is_int_type ty ≡ true → AreApart dst offset x t0 → e < 30 → dst ≢ e → AreValues v → after 1 whole ≡ Some [] →
+    ((w : Values) → InPart false (bits_of ty) dst offset x t0 (λ old y. y) v w → reg v e ≡ reg v dst / 2 ^ (reg v offset % 64) % 2 ^ bits_of ty → Stored w) →
+    ((w : Values) → Taken dst (reg v dst / 2 ^ (reg v offset % 64) % 2 ^ bits_of ty) (reg v dst) v w → reg v e ≢ reg v dst / 2 ^ (reg v offset % 64) % 2 ^ bits_of ty → Left w) →
+    Ends 15 env whole (point (take_field dst offset false (bits_of ty) ++ (Branch NotEqual e dst 1 ∷ (merge_pieces 30 31 offset x (bits_of ty) ++ ps))) v) ps Stored Left
+swaps_part ty e dst offset x t0 v int apart e_low dst_e vs leads stored left =
+    ends_after (takes false (bits_of ty) dst offset v (some_bits ty int) (few_bits ty int) vs apart.dst_some apart.dst_low apart.offset_low)
+    (λ w h.
+      let read = h.others e e_low (λ same. dst_e (sym same)) in
+      compares _ e dst w refl leads
+      (λ same. such_too (λ u k. stored u k (sym read ∙ same ∙ h.old)) (makes false (λ old y. y) ty x v w w int apart apart.x_low h refl (λ k other. refl) refl h.are_values))
+      (λ differs. left w h (λ s. differs (read ∙ s ∙ sym h.old))))
+
+-- a number that is compared as it is, once its low bits are in dst
+swaps_whole : {env : Environment} {whole start ps : List Piece} {Stored Left : Values → Type 0} (old e dst : ℕ) (v : Values) → dst ≢ e → after 1 whole ≡ Some [] → Within 2 env whole (point start v) (Branch NotEqual e dst 1 ∷ ps) (Sets dst old v) →
+    ((w : Values) → Sets dst old v w → reg v e ≡ old → Stored w) → ((w : Values) → Sets dst old v w → reg v e ≢ old → Left w) →
+    Ends 3 env whole (point start v) ps Stored Left
+swaps_whole old e dst v dst_e leads first stored left =
+    ends_after {n = 1} first (λ w h.
+      let read = h.others e (λ same. dst_e (sym same)) in
+      compares {n = 0} _ e dst w refl leads
+      (λ same. record { count = 0; values = w; few = lit≤ tt; ran = refl; such = stored w h (sym read ∙ same ∙ h.holds) })
+      (λ differs. left w h (λ s. differs (read ∙ s ∙ sym h.holds))))
+
+-- ---- loops
+
+abbrev loop_of : Change → IrType → Reg → Reg → Reg → Writable Reg → Writable Reg → AtomicLoop
+loop_of change ty offset address operand t0 dst = record { change = change; ty = ty; offset = offset; address = address; operand = operand; t0 = t0; dst = dst }
+
+stores : {env : Environment} {l : AtomicLoop} {v : Values} → Within 17 env (loop_pieces l) (point (after_load l) v) (store_on l) (AtStore l v) → PassEnds env l v
+stores r = Stores r.count r.values r.few r.ran r.such
+
+ends : {env : Environment} {l : AtomicLoop} {v : Values} → Ends 17 env (loop_pieces l) (point (after_load l) v) (store_on l) (AtStore l v) (AtLeave l v) → PassEnds env l v
+ends r = elim r [ inl d ↦ stores d | inr d ↦ Leaves d.count d.values d.few d.ran d.such ]
+
+-- where a choice's labels stand
+choice_placed : (how : IntCC) (signed : Bool) (ty : IrType) (dst offset p x t0 : ℕ) → is_int_type ty ≡ true →
+    AreChoices (labels_for Umin ++ Bind 0 ∷ loop_load (bits_of ty) dst p ∷ (take_field dst offset signed (bits_of ty) ++ choose_pieces how t0 dst x ++ merge_pieces 30 31 offset t0 (bits_of ty) ++ store_and_retry (bits_of ty) t0 p 30 [])) t0 dst (merge_pieces 30 31 offset t0 (bits_of ty) ++ store_and_retry (bits_of ty) t0 p 30 [])
+choice_placed how true ty dst offset p x t0 int = each_width (λ b. AreChoices (labels_for Umin ++ Bind 0 ∷ loop_load b dst p ∷ (take_field dst offset true b ++ choose_pieces how t0 dst x ++ merge_pieces 30 31 offset t0 b ++ store_and_retry b t0 p 30 [])) t0 dst (merge_pieces 30 31 offset t0 b ++ store_and_retry b t0 p 30 [])) (refl, refl) (refl, refl) (refl, refl) (refl, refl) ty int
+choice_placed how false ty dst offset p x t0 int = each_width (λ b. AreChoices (labels_for Umin ++ Bind 0 ∷ loop_load b dst p ∷ (take_field dst offset false b ++ choose_pieces how t0 dst x ++ merge_pieces 30 31 offset t0 b ++ store_and_retry b t0 p 30 [])) t0 dst (merge_pieces 30 31 offset t0 b ++ store_and_retry b t0 p 30 [])) (refl, refl) (refl, refl) (refl, refl) (refl, refl) ty int
+
+kept : {f : ℕ → ℕ → ℕ} {signed : Bool} (l : AtomicLoop) (v w : Values) → InPart signed (bits_of l.ty) (number_of l.dst.reg) (number_of l.offset) (number_of l.operand) (number_of l.t0.reg) f v w → KeepsOthers l v w
+kept l v w k = record { regs = k.regs; mem = k.mem; are_values = k.are_values }
+
+-- ---- a number is combined
+
+-- the pieces that combine a part, and those that combine the whole
+abbrev of_part : AtomicRmwOp → ℕ → ℕ → ℕ → ℕ → ℕ → ℕ → List Piece
+of_part op bits dst offset p x t0 = take_field dst offset (takes_signed op) bits ++ combine_pieces op t0 dst x ++ merge_pieces 30 31 offset (combined_in op t0 x) bits ++ store_and_retry bits t0 p 30 []
+
+abbrev of_whole : AtomicRmwOp → ℕ → ℕ → ℕ → ℕ → ℕ → List Piece
+of_whole op bits dst p x t0 = combine_pieces op t0 dst x ++ store_and_retry bits t0 p t0 []
+
+-- a part is
+part_ends : (env : Environment) (op : AtomicRmwOp) (ty : IrType) (offset address operand : Reg) (t0 dst : Writable Reg) (v : Values) → is_whole (Combines op) (bits_of ty) ≡ false →
+    ArePlaced op (loop_pieces (loop_of (Combines op) ty offset address operand t0 dst)) (number_of t0.reg) (number_of dst.reg) (merge_pieces 30 31 (number_of offset) (combined_in op (number_of t0.reg) (number_of operand)) (bits_of ty) ++ store_and_retry (bits_of ty) (number_of t0.reg) (number_of address) 30 []) →
+    IsFineAtomicLoop (loop_of (Combines op) ty offset address operand t0 dst) → AreValues v → PassEnds env (loop_of (Combines op) ty offset address operand t0 dst) v
+part_ends env op ty offset address operand t0 dst v not_whole places h vs =
+    let l = loop_of (Combines op) ty offset address operand t0 dst in
+    let bits = bits_of ty in
+    let d = number_of dst.reg in
+    let o = number_of offset in
+    let p = number_of address in
+    let x = number_of operand in
+    let t = number_of t0.reg in
+    let n = reg v d in
+    let at = reg v o % 64 in
+    let signed = takes_signed op in
+    let merge = merge_pieces 30 31 o (combined_in op t x) bits in
+    let store = store_and_retry bits t p 30 [] in
+    let takes = take_field d o signed bits in
+    let combine = combine_pieces op t d x in
+    let order : of_part op bits d o p x t ≡ takes ++ (combine ++ (merge ++ store)) = append_assoc (takes ++ combine) merge store ∙ append_assoc takes combine (merge ++ store) in
+    let old : Bool → ℕ = λ c. if c then n else extended signed bits (n / 2 ^ (if c then 0 else at)) in
+    let made : Within 17 env (loop_pieces l) (point (takes ++ (combine ++ (merge ++ store))) v) store (InPart signed bits d o x t (combined op) v) = combines_part op ty d o x t v h.typed (apart_of l h) vs places in
+    let so : (w : Values) → InPart signed bits d o x t (combined op) v w → AtStore l v w = λ w k. record {
+      old = k.old ∙ (λ i. old (sym not_whole i));
+      number = (λ i. reg w (if not_whole i then t else 30)) ∙ k.number ∙ (λ i. let c = sym not_whole i in if c then combined op (old c) (reg v x) else wrap (with_part (if c then 0 else at) bits (combined op (old c) (reg v x)) n));
+      others = kept l v w k;
+      goes_on = tt;
+    } in
+    stores (subst (λ c. Within 17 env (loop_pieces l) (point (if c then of_whole op bits d p x t else of_part op bits d o p x t) v) (store_and_retry bits t p (if c then t else 30) []) (AtStore l v)) (sym not_whole)
+        (subst (λ qs. Within 17 env (loop_pieces l) (point qs v) store (AtStore l v)) (sym order) (such_too so made)))
+
+-- the whole number is, by nand
+whole_ends : (env : Environment) (ty : IrType) (offset address operand : Reg) (t0 dst : Writable Reg) (v : Values) → is_wide (bits_of ty) ≡ true →
+    IsFineAtomicLoop (loop_of (Combines Nand) ty offset address operand t0 dst) → AreValues v → PassEnds env (loop_of (Combines Nand) ty offset address operand t0 dst) v
+whole_ends env ty offset address operand t0 dst v wide h vs =
+    let l = loop_of (Combines Nand) ty offset address operand t0 dst in
+    let bits = bits_of ty in
+    let d = number_of dst.reg in
+    let o = number_of offset in
+    let p = number_of address in
+    let x = number_of operand in
+    let t = number_of t0.reg in
+    let n = reg v d in
+    let at = reg v o % 64 in
+    let apart = apart_of l h in
+    let old : Bool → ℕ = λ c. if c then n else extended false bits (n / 2 ^ (if c then 0 else at)) in
+    let made : Within 2 env (loop_pieces l) (point (of_whole Nand bits d p x t) v) (store_and_retry bits t p t []) (Sets t (combined Nand n (reg v x)) v) = inverts t d x v vs h.some_t0 (let low = apart.t0_low in omega arith) in
+    let so : (w : Values) → Sets t (combined Nand n (reg v x)) v w → AtStore l v w = λ w k. record {
+      old = k.others d (λ same. apart.t0_dst (sym same)) ∙ (λ i. old (sym wide i));
+      number = (λ i. reg w (if wide i then t else 30)) ∙ k.holds ∙ (λ i. let c = sym wide i in if c then combined Nand (old c) (reg v x) else wrap (with_part (if c then 0 else at) bits (combined Nand (old c) (reg v x)) n));
+      others = record { regs = λ j lt not_dst not_t0. k.others j not_t0; mem = k.mem; are_values = k.are_values };
+      goes_on = tt;
+    } in
+    stores (subst (λ c. Within 17 env (loop_pieces l) (point (if c then of_whole Nand bits d p x t else of_part Nand bits d o p x t) v) (store_and_retry bits t p (if c then t else 30) []) (AtStore l v)) (sym wide) (in_more 17 (lit≤ tt) (such_too so made)))
+
+combining_ends : (env : Environment) (op : AtomicRmwOp) (ty : IrType) (offset address operand : Reg) (t0 dst : Writable Reg) (v : Values) → IsFineAtomicLoop (loop_of (Combines op) ty offset address operand t0 dst) → AreValues v →
+    PassEnds env (loop_of (Combines op) ty offset address operand t0 dst) v
+combining_ends env Add ty offset address operand t0 dst v h = part_ends env Add ty offset address operand t0 dst v refl tt h
+combining_ends env Sub ty offset address operand t0 dst v h = part_ends env Sub ty offset address operand t0 dst v refl tt h
+combining_ends env And ty offset address operand t0 dst v h = part_ends env And ty offset address operand t0 dst v refl tt h
+combining_ends env Nand ty offset address operand t0 dst v h = (elim (is_wide (bits_of ty)) as (λ c. is_wide (bits_of ty) ≡ c → IsFineAtomicLoop (loop_of (Combines Nand) ty offset address operand t0 dst) → AreValues v → PassEnds env (loop_of (Combines Nand) ty offset address operand t0 dst) v) [
+  | true ↦ λ wide. whole_ends env ty offset address operand t0 dst v wide
+  | false ↦ λ narrow. part_ends env Nand ty offset address operand t0 dst v narrow tt
+]) refl h
+combining_ends env Or ty offset address operand t0 dst v h = part_ends env Or ty offset address operand t0 dst v refl tt h
+combining_ends env Xor ty offset address operand t0 dst v h = part_ends env Xor ty offset address operand t0 dst v refl tt h
+combining_ends env Xchg ty offset address operand t0 dst v h = part_ends env Xchg ty offset address operand t0 dst v refl tt h
+combining_ends env Umin ty offset address operand t0 dst v h = part_ends env Umin ty offset address operand t0 dst v refl (choice_placed UnsignedLessThan false ty (number_of dst.reg) (number_of offset) (number_of address) (number_of operand) (number_of t0.reg) h.typed) h
+combining_ends env Umax ty offset address operand t0 dst v h = part_ends env Umax ty offset address operand t0 dst v refl (choice_placed UnsignedGreaterThan false ty (number_of dst.reg) (number_of offset) (number_of address) (number_of operand) (number_of t0.reg) h.typed) h
+combining_ends env Smin ty offset address operand t0 dst v h = part_ends env Smin ty offset address operand t0 dst v refl (choice_placed SignedLessThan true ty (number_of dst.reg) (number_of offset) (number_of address) (number_of operand) (number_of t0.reg) h.typed) h
+combining_ends env Smax ty offset address operand t0 dst v h = part_ends env Smax ty offset address operand t0 dst v refl (choice_placed SignedGreaterThan true ty (number_of dst.reg) (number_of offset) (number_of address) (number_of operand) (number_of t0.reg) h.typed) h
+
+-- ---- a number is swapped
+
+-- the expected number's register is below x30, too, and isn't dst
+expected_low : (l : AtomicLoop) (expected : Reg) → l.change ≡ Swaps expected → IsFineAtomicLoop l → (number_of expected < 30) × (number_of l.dst.reg ≢ number_of expected)
+expected_low l expected is h =
+    let inputs = subst (λ change. AreUsable (l.offset ∷ l.address ∷ l.operand ∷ expected_in change)) is h.inputs in
+    let apart = subst (λ change. IsNoneOf l.dst.reg (l.offset ∷ l.address ∷ l.operand ∷ expected_in change)) is h.dst_apart in
+    (inputs.1.1.1.0.1, apart.1.1.1.0)
+
+-- what leaves has written dst at most
+left_others : (l : AtomicLoop) (v w : Values) → ((k : ℕ) → k < 30 → k ≢ number_of l.dst.reg → reg w k ≡ reg v k) → w.mem ≡ v.mem → AreValues w → KeepsOthers l v w
+left_others l v w others mem are_values = record { regs = λ k lt not_dst not_t0. others k lt not_dst; mem = mem; are_values = are_values }
+
+swapping_ends : (env : Environment) (expected : Reg) (ty : IrType) (offset address operand : Reg) (t0 dst : Writable Reg) (v : Values) → IsFineAtomicLoop (loop_of (Swaps expected) ty offset address operand t0 dst) → AreValues v →
+    PassEnds env (loop_of (Swaps expected) ty offset address operand t0 dst) v
+swapping_ends env expected I8 offset address operand t0 dst v h vs =
+    let l = loop_of (Swaps expected) I8 offset address operand t0 dst in
+    let e = expected_low l expected refl h in
+    ends (ends_in_more 17 (lit≤ tt) (swaps_part I8 (number_of expected) (number_of dst.reg) (number_of offset) (number_of operand) (number_of t0.reg) v refl (apart_of l h) e.0 e.1 vs refl
+        (λ w k same. record { old = k.old; number = k.number; others = kept l v w k; goes_on = same })
+        (λ w k differs. record { old = k.old; others = left_others l v w k.others k.mem k.are_values; differs = differs })))
+swapping_ends env expected I16 offset address operand t0 dst v h vs =
+    let l = loop_of (Swaps expected) I16 offset address operand t0 dst in
+    let e = expected_low l expected refl h in
+    ends (ends_in_more 17 (lit≤ tt) (swaps_part I16 (number_of expected) (number_of dst.reg) (number_of offset) (number_of operand) (number_of t0.reg) v refl (apart_of l h) e.0 e.1 vs refl
+        (λ w k same. record { old = k.old; number = k.number; others = kept l v w k; goes_on = same })
+        (λ w k differs. record { old = k.old; others = left_others l v w k.others k.mem k.are_values; differs = differs })))
+swapping_ends env expected I32 offset address operand t0 dst v h vs =
+    let l = loop_of (Swaps expected) I32 offset address operand t0 dst in
+    let d = number_of dst.reg in
+    let old = reg v d / 2 ^ 0 % 2 ^ 32 in
+    let is : reg v d % 2 ^ 32 ≡ old = omega arith in
+    let apart = apart_of l h in
+    ends (ends_in_more 17 (lit≤ tt) (swaps_whole old (number_of expected) d v (expected_low l expected refl h).1 refl
+        (such_too (λ w. sets_that is) (extends false 32 d d v (lit≤ tt) (lit≤ tt) vs apart.dst_some (let low = apart.dst_low in omega arith)))
+        (λ w k same. record { old = k.holds; number = k.others (number_of operand) (λ s. apart.dst_x (sym s)); others = left_others l v w (λ j lt. k.others j) k.mem k.are_values; goes_on = same })
+        (λ w k differs. record { old = k.holds; others = left_others l v w (λ j lt. k.others j) k.mem k.are_values; differs = differs })))
+swapping_ends env expected I64 offset address operand t0 dst v h vs =
+    let l = loop_of (Swaps expected) I64 offset address operand t0 dst in
+    let d = number_of dst.reg in
+    let old = reg v d / 2 ^ 0 % 2 ^ 64 in
+    let is : reg v d ≡ old = (let fits = vs.fits d in omega arith) in
+    let apart = apart_of l h in
+    ends (ends_in_more 17 (lit≤ tt) (swaps_whole old (number_of expected) d v (expected_low l expected refl h).1 refl
+        (record { count = 0; values = v; few = lit≤ tt; ran = refl; such = record { holds = is; others = λ k other. refl; mem = refl; are_values = vs } })
+        (λ w k same. record { old = k.holds; number = k.others (number_of operand) (λ s. apart.dst_x (sym s)); others = left_others l v w (λ j lt. k.others j) k.mem k.are_values; goes_on = same })
+        (λ w k differs. record { old = k.holds; others = left_others l v w (λ j lt. k.others j) k.mem k.are_values; differs = differs })))
+swapping_ends env expected I128 offset address operand t0 dst v h vs = let typed = h.typed in absurd (cc)
+swapping_ends env expected F16 offset address operand t0 dst v h vs = let typed = h.typed in absurd (cc)
+swapping_ends env expected F32 offset address operand t0 dst v h vs = let typed = h.typed in absurd (cc)
+swapping_ends env expected F64 offset address operand t0 dst v h vs = let typed = h.typed in absurd (cc)
+swapping_ends env expected F128 offset address operand t0 dst v h vs = let typed = h.typed in absurd (cc)
+swapping_ends env expected (Vector lanes) offset address operand t0 dst v h vs = let typed = h.typed in absurd (cc)
+
+-- ---- both
+
+ends_by : (env : Environment) (change : Change) (ty : IrType) (offset address operand : Reg) (t0 dst : Writable Reg) (v : Values) → IsFineAtomicLoop (loop_of change ty offset address operand t0 dst) → AreValues v →
+    PassEnds env (loop_of change ty offset address operand t0 dst) v
+ends_by env (Combines op) ty offset address operand t0 dst v h vs = combining_ends env op ty offset address operand t0 dst v h vs
+ends_by env (Swaps expected) ty offset address operand t0 dst v h vs = swapping_ends env expected ty offset address operand t0 dst v h vs
+
+pub passes_end : (env : Environment) (l : AtomicLoop) (v : Values) → IsFineAtomicLoop l → AreValues v → PassEnds env l v
+passes_end env l v h vs = ends_by env l.change l.ty l.offset l.address l.operand l.t0 l.dst v h vs
