@@ -1,6 +1,6 @@
 -- A pass of an atomic loop: from its load it comes to its store with the changed number, or leaves, in at most 17 pieces.
-use Rattle.std.proofs.Common.{◌≡◌, ◌≢◌, ◌⊎◌, inl, inr, ℕ, ◌+◌, ◌-◌, ◌*◌, ◌/◌, ◌%◌, ◌^◌, ◌<◌, ◌≤◌, Bool, true, false, not, nat_eq, if◌then◌else◌, pos, negsuc, List, [], ◌∷◌, ◌++◌, Option, Some, None, append_assoc, arith, refl, sym, ap, subst, ◌∙◌, lit<, lit≤, eqb-true, bit_and}
-use Rattle.std.specs.Prelude.{bit_or, bit_xor}
+use Rattle.std.proofs.Common.{◌≡◌, ◌≢◌, ◌⊎◌, inl, inr, ℕ, ◌+◌, ◌-◌, ◌/◌, ◌%◌, ◌^◌, ◌<◌, ◌≤◌, Bool, true, false, not, nat_eq, if◌then◌else◌, pos, negsuc, List, [], ◌∷◌, ◌++◌, Some, append_assoc, arith, refl, sym, ap, subst, ◌∙◌, lit<, lit≤, eqb-true}
+use Rattle.std.specs.Prelude.{bit_xor}
 use Rattle.std.proofs.lemmas.Bool.{eqb-false}
 use Rattle.rv_base.specs.CondCodes.{holds}
 use Rattle.rv_base.specs.IrType.{bits_of}
@@ -24,12 +24,11 @@ use Rattle.rv_inst.specs.Meaning.{Environment}
 use Rattle.rv_inst.specs.declared.atomic_loop.AtomicLoop.{AtomicLoop}
 use Rattle.rv_inst.specs.declared.atomic_loop.Change.{Change}
 use Rattle.rv_inst.specs.declared.atomic_loop.Change.TheVariants.{Combines, Swaps}
-use Rattle.rv_code.specs.AtomicLoops.{after_load, choose_pieces, combine_pieces, combined_in, combining, extract_pieces, labels_for, loop_load, loop_pieces, merge_pieces, store_and_retry, take_field}
-use Rattle.rv_code.specs.Choices.{extend_pieces}
+use Rattle.rv_code.specs.AtomicLoops.{after_load, choose_pieces, combine_pieces, combined_in, labels_for, loop_load, loop_pieces, merge_pieces, store_and_retry, take_field}
 use Rattle.rv_code.specs.Evaluation.{Point, and_then, evaluate, point, to}
-use Rattle.rv_code.specs.Pieces.{Bind, Branch, Do, Jump, Piece, Rri, Rrr, after}
+use Rattle.rv_code.specs.Pieces.{Bind, Branch, Do, Jump, Piece, Rri, after}
 use Rattle.rv_code.specs.Usable.{AreUsable, IsFineAtomicLoop}
-use Rattle.rv_loops.proofs.RegisterParts.{Merged, Sets, Within, each_width, extends, extracts, few_bits, goes_on, in_more, joined, merges, moves, rri_does, rrr_does, sets, sets_again, sets_that, some_bits, such_too}
+use Rattle.rv_loops.proofs.RegisterParts.{Sets, Within, each_width, extends, extracts, few_bits, goes_on, in_more, joined, merges, moves, rri_does, rrr_does, sets, sets_again, sets_that, some_bits, such_too}
 use Rattle.rv_loops.specs.Passes.{AtLeave, AtStore, KeepsOthers, PassEnds, Leaves, Stores, store_on}
 
 -- ---- registers
@@ -81,15 +80,15 @@ takes : {env : Environment} {whole ps : List Piece} (signed : Bool) (bits dst of
 takes signed bits dst offset v one few vs some low low_offset =
     goes_on (moves 30 dst v vs (lit< tt) (lit< tt))
     (λ w h.
-      let start = h.others dst (λ e. omega arith) in
-      let at = h.others offset (λ e. omega arith) in
-      such_too (λ u k. record {
-        old = k.holds ∙ (λ i. extended signed bits (start i / 2 ^ (at i % 64)));
-        number = k.others 30 (λ e. omega arith) ∙ h.holds;
-        others = λ n lt other. k.others n other ∙ h.others n (λ e. omega arith);
-        mem = k.mem ∙ h.mem;
-        are_values = k.are_values;
-      }) (extracts signed bits dst offset dst w one few h.are_values some (omega arith)))
+    let start = h.others dst (λ e. omega arith) in
+    let at = h.others offset (λ e. omega arith) in
+    such_too (λ u k. record {
+      old = k.holds ∙ (λ i. extended signed bits (start i / 2 ^ (at i % 64)));
+      number = k.others 30 (λ e. omega arith) ∙ h.holds;
+      others = λ n lt other. k.others n other ∙ h.others n (λ e. omega arith);
+      mem = k.mem ∙ h.mem;
+      are_values = k.are_values;
+    }) (extracts signed bits dst offset dst w one few h.are_values some (omega arith)))
 
 -- ---- what it and the operand give
 
@@ -259,10 +258,10 @@ swaps_part : {env : Environment} {whole ps : List Piece} {Stored Left : Values �
 swaps_part ty e dst offset x t0 v int apart e_low dst_e vs leads stored left =
     ends_after (takes false (bits_of ty) dst offset v (some_bits ty int) (few_bits ty int) vs apart.dst_some apart.dst_low apart.offset_low)
     (λ w h.
-      let read = h.others e e_low (λ same. dst_e (sym same)) in
-      compares _ e dst w refl leads
-      (λ same. such_too (λ u k. stored u k (sym read ∙ same ∙ h.old)) (makes false (λ old y. y) ty x v w w int apart apart.x_low h refl (λ k other. refl) refl h.are_values))
-      (λ differs. left w h (λ s. differs (read ∙ s ∙ sym h.old))))
+    let read = h.others e e_low (λ same. dst_e (sym same)) in
+    compares _ e dst w refl leads
+    (λ same. such_too (λ u k. stored u k (sym read ∙ same ∙ h.old)) (makes false (λ old y. y) ty x v w w int apart apart.x_low h refl (λ k other. refl) refl h.are_values))
+    (λ differs. left w h (λ s. differs (read ∙ s ∙ sym h.old))))
 
 -- a number that is compared as it is, once its low bits are in dst
 swaps_whole : {env : Environment} {whole start ps : List Piece} {Stored Left : Values → Type 0} (old e dst : ℕ) (v : Values) → dst ≢ e → after 1 whole ≡ Some [] → Within 2 env whole (point start v) (Branch NotEqual e dst 1 ∷ ps) (Sets dst old v) →
@@ -270,10 +269,10 @@ swaps_whole : {env : Environment} {whole start ps : List Piece} {Stored Left : V
     Ends 3 env whole (point start v) ps Stored Left
 swaps_whole old e dst v dst_e leads first stored left =
     ends_after {n = 1} first (λ w h.
-      let read = h.others e (λ same. dst_e (sym same)) in
-      compares {n = 0} _ e dst w refl leads
-      (λ same. record { count = 0; values = w; few = lit≤ tt; ran = refl; such = stored w h (sym read ∙ same ∙ h.holds) })
-      (λ differs. left w h (λ s. differs (read ∙ s ∙ sym h.holds))))
+    let read = h.others e (λ same. dst_e (sym same)) in
+    compares {n = 0} _ e dst w refl leads
+    (λ same. record { count = 0; values = w; few = lit≤ tt; ran = refl; such = stored w h (sym read ∙ same ∙ h.holds) })
+    (λ differs. left w h (λ s. differs (read ∙ s ∙ sym h.holds))))
 
 -- ---- loops
 
@@ -333,7 +332,7 @@ part_ends env op ty offset address operand t0 dst v not_whole places h vs =
       goes_on = tt;
     } in
     stores (subst (λ c. Within 17 env (loop_pieces l) (point (if c then of_whole op bits d p x t else of_part op bits d o p x t) v) (store_and_retry bits t p (if c then t else 30) []) (AtStore l v)) (sym not_whole)
-        (subst (λ qs. Within 17 env (loop_pieces l) (point qs v) store (AtStore l v)) (sym order) (such_too so made)))
+    (subst (λ qs. Within 17 env (loop_pieces l) (point qs v) store (AtStore l v)) (sym order) (such_too so made)))
 
 -- the whole number is, by nand
 whole_ends : (env : Environment) (ty : IrType) (offset address operand : Reg) (t0 dst : Writable Reg) (v : Values) → is_wide (bits_of ty) ≡ true →
@@ -395,14 +394,14 @@ swapping_ends env expected I8 offset address operand t0 dst v h vs =
     let l = loop_of (Swaps expected) I8 offset address operand t0 dst in
     let e = expected_low l expected refl h in
     ends (ends_in_more 17 (lit≤ tt) (swaps_part I8 (number_of expected) (number_of dst.reg) (number_of offset) (number_of operand) (number_of t0.reg) v refl (apart_of l h) e.0 e.1 vs refl
-        (λ w k same. record { old = k.old; number = k.number; others = kept l v w k; goes_on = same })
-        (λ w k differs. record { old = k.old; others = left_others l v w k.others k.mem k.are_values; differs = differs })))
+    (λ w k same. record { old = k.old; number = k.number; others = kept l v w k; goes_on = same })
+    (λ w k differs. record { old = k.old; others = left_others l v w k.others k.mem k.are_values; differs = differs })))
 swapping_ends env expected I16 offset address operand t0 dst v h vs =
     let l = loop_of (Swaps expected) I16 offset address operand t0 dst in
     let e = expected_low l expected refl h in
     ends (ends_in_more 17 (lit≤ tt) (swaps_part I16 (number_of expected) (number_of dst.reg) (number_of offset) (number_of operand) (number_of t0.reg) v refl (apart_of l h) e.0 e.1 vs refl
-        (λ w k same. record { old = k.old; number = k.number; others = kept l v w k; goes_on = same })
-        (λ w k differs. record { old = k.old; others = left_others l v w k.others k.mem k.are_values; differs = differs })))
+    (λ w k same. record { old = k.old; number = k.number; others = kept l v w k; goes_on = same })
+    (λ w k differs. record { old = k.old; others = left_others l v w k.others k.mem k.are_values; differs = differs })))
 swapping_ends env expected I32 offset address operand t0 dst v h vs =
     let l = loop_of (Swaps expected) I32 offset address operand t0 dst in
     let d = number_of dst.reg in
@@ -410,9 +409,9 @@ swapping_ends env expected I32 offset address operand t0 dst v h vs =
     let is : reg v d % 2 ^ 32 ≡ old = omega arith in
     let apart = apart_of l h in
     ends (ends_in_more 17 (lit≤ tt) (swaps_whole old (number_of expected) d v (expected_low l expected refl h).1 refl
-        (such_too (λ w. sets_that is) (extends false 32 d d v (lit≤ tt) (lit≤ tt) vs apart.dst_some (let low = apart.dst_low in omega arith)))
-        (λ w k same. record { old = k.holds; number = k.others (number_of operand) (λ s. apart.dst_x (sym s)); others = left_others l v w (λ j lt. k.others j) k.mem k.are_values; goes_on = same })
-        (λ w k differs. record { old = k.holds; others = left_others l v w (λ j lt. k.others j) k.mem k.are_values; differs = differs })))
+    (such_too (λ w. sets_that is) (extends false 32 d d v (lit≤ tt) (lit≤ tt) vs apart.dst_some (let low = apart.dst_low in omega arith)))
+    (λ w k same. record { old = k.holds; number = k.others (number_of operand) (λ s. apart.dst_x (sym s)); others = left_others l v w (λ j lt. k.others j) k.mem k.are_values; goes_on = same })
+    (λ w k differs. record { old = k.holds; others = left_others l v w (λ j lt. k.others j) k.mem k.are_values; differs = differs })))
 swapping_ends env expected I64 offset address operand t0 dst v h vs =
     let l = loop_of (Swaps expected) I64 offset address operand t0 dst in
     let d = number_of dst.reg in
@@ -420,9 +419,9 @@ swapping_ends env expected I64 offset address operand t0 dst v h vs =
     let is : reg v d ≡ old = (let fits = vs.fits d in omega arith) in
     let apart = apart_of l h in
     ends (ends_in_more 17 (lit≤ tt) (swaps_whole old (number_of expected) d v (expected_low l expected refl h).1 refl
-        (record { count = 0; values = v; few = lit≤ tt; ran = refl; such = record { holds = is; others = λ k other. refl; mem = refl; are_values = vs } })
-        (λ w k same. record { old = k.holds; number = k.others (number_of operand) (λ s. apart.dst_x (sym s)); others = left_others l v w (λ j lt. k.others j) k.mem k.are_values; goes_on = same })
-        (λ w k differs. record { old = k.holds; others = left_others l v w (λ j lt. k.others j) k.mem k.are_values; differs = differs })))
+    (record { count = 0; values = v; few = lit≤ tt; ran = refl; such = record { holds = is; others = λ k other. refl; mem = refl; are_values = vs } })
+    (λ w k same. record { old = k.holds; number = k.others (number_of operand) (λ s. apart.dst_x (sym s)); others = left_others l v w (λ j lt. k.others j) k.mem k.are_values; goes_on = same })
+    (λ w k differs. record { old = k.holds; others = left_others l v w (λ j lt. k.others j) k.mem k.are_values; differs = differs })))
 swapping_ends env expected I128 offset address operand t0 dst v h vs = let typed = h.typed in absurd (cc)
 swapping_ends env expected F16 offset address operand t0 dst v h vs = let typed = h.typed in absurd (cc)
 swapping_ends env expected F32 offset address operand t0 dst v h vs = let typed = h.typed in absurd (cc)

@@ -1,6 +1,6 @@
 -- The pieces that take a part out of a register, that make a mask, and that put other bits in a part's place: what they leave, and how many
 -- they are.
-use Rattle.std.proofs.Common.{◌≡◌, ◌≢◌, ℕ, zero, suc, ◌+◌, ◌-◌, ◌*◌, ◌/◌, ◌%◌, ◌^◌, ◌<◌, ◌≤◌, ◌==◌, Bool, true, false, not, if◌then◌else◌, ℤ, pos, negsuc, List, [], ◌∷◌, ◌++◌, Option, Some, None, append_assoc, arith, refl, sym, ap, subst, ◌∙◌, lit<, lit≤, eqb-true, bit_and}
+use Rattle.std.proofs.Common.{◌≡◌, ◌≢◌, ℕ, zero, suc, ◌+◌, ◌-◌, ◌*◌, ◌/◌, ◌%◌, ◌^◌, ◌<◌, ◌≤◌, Bool, true, false, not, if◌then◌else◌, ℤ, pos, negsuc, List, [], ◌∷◌, ◌++◌, Some, None, append_assoc, arith, refl, sym, ap, subst, ◌∙◌, lit<, lit≤, eqb-true, bit_and}
 use Rattle.std.specs.Prelude.{bit_or, bit_xor}
 use Rattle.std.{proofs.lemmas.Int.ints, proofs.lemmas.Nat.{and_mask, mod_below}, proofs.lemmas.Option.same_Some}
 use Rattle.rv_base.specs.IrType.{bits_of}
@@ -20,7 +20,6 @@ use Rattle.rv_inst.specs.Classes.{is_int_type}
 use Rattle.rv_inst.specs.Fields.{with_part, without_part}
 use Rattle.rv_inst.specs.Meaning.{Environment, alu_rri, alu_rrr}
 use Rattle.rv_inst.specs.Sizes.{is_byte, right_shift}
-use Rattle.rv_code.proofs.Reaching.{Reaches}
 use Rattle.rv_code.proofs.Registers.{are_values_set, reads_back, reads_other}
 use Rattle.rv_code.specs.AtomicLoops.{extract_pieces, mask_pieces, merge_pieces}
 use Rattle.rv_code.specs.Choices.{extend_pieces}
@@ -129,7 +128,7 @@ extends {env} {whole} {ps} signed bits rd rn v one few vs some lt =
     let low : low64 (pos k) < 2 ^ 64 = omega (arith, ints) in
     let y = alu_rri Slli (reg v rn) (pos k) in
     (elim (is_byte signed bits) as (λ c. is_byte signed bits ≡ c →
-        Within 2 env whole (point ((if c then Do (Rri Andi rd rn (pos 255)) ∷ [] else Do (Rri Slli rd rn (pos k)) ∷ Do (Rri (right_shift signed) rd rd (pos k)) ∷ []) ++ ps) v) ps (Sets rd (extended signed bits (reg v rn)) v)) [
+    Within 2 env whole (point ((if c then Do (Rri Andi rd rn (pos 255)) ∷ [] else Do (Rri Slli rd rn (pos k)) ∷ Do (Rri (right_shift signed) rd rd (pos k)) ∷ []) ++ ps) v) ps (Sets rd (extended signed bits (reg v rn)) v)) [
       | true ↦ λ test.
           let is : alu_rri Andi (reg v rn) (pos 255) ≡ extended signed bits (reg v rn) =
           (elim signed as (λ c. is_byte c bits ≡ true → alu_rri Andi (reg v rn) (pos 255) ≡ extended c bits (reg v rn)) [ true ↦ λ test. absurd (cc) | false ↦ λ test. and_mask (reg v rn) 8 ∙ ap (λ n. reg v rn % 2 ^ n) (sym (eqb-true bits 8 test)) ]) test in
@@ -137,7 +136,7 @@ extends {env} {whole} {ps} signed bits rd rn v one few vs some lt =
       | false ↦ λ test.
           goes_on (rri_does Slli rd rn (pos k) v refl low vs some lt)
           (λ w h. such_too (λ u second. sets_again h (sets_that (ap (λ x. alu_rri (right_shift signed) x (pos k)) h.holds ∙ extended_by (reg v rn) bits signed one few) second))
-              (rri_does (right_shift signed) rd rd (pos k) w (right_shift_is signed) low h.are_values some lt))
+          (rri_does (right_shift signed) rd rd (pos k) w (right_shift_is signed) low h.are_values some lt))
     ]) refl
 
 -- ---- a part taken out
