@@ -10,16 +10,15 @@ use Rattle.rv_base.specs.declared.condcodes.IntCC.TheVariants.{NotEqual, SignedL
 use Rattle.rv_base.specs.declared.ir_type.IrType.{IrType}
 use Rattle.rv_base.specs.declared.ir_type.IrType.TheVariants.{I8, I16, I32, I64, I128, F16, F32, F64, F128, Vector}
 use Rattle.rv_base.specs.declared.regs.Reg.{Reg}
-use Rattle.rv_base.specs.declared.regs.Writable.{Writable}
 use Rattle.rv_machine.specs.State.{AreValues, Values, reg, set_reg, wrap}
 use Rattle.rv_ops.specs.declared.alu.AluOPRRI.TheVariants.{Addi, Xori}
 use Rattle.rv_ops.specs.declared.alu.AluOPRRR.TheVariants as alu
 use Rattle.rv_ops.specs.declared.atomic.AtomicRmwOp.{AtomicRmwOp}
 use Rattle.rv_ops.specs.declared.atomic.AtomicRmwOp.TheVariants.{Add, Sub, And, Nand, Or, Xor, Xchg, Umin, Umax, Smin, Smax}
-use Rattle.rv_inst.specs.AtomicLoops.{combined, expected_in, is_wide, is_whole, takes_signed}
+use Rattle.rv_inst.specs.AtomicLoops.{combined, is_wide, is_whole, takes_signed}
 use Rattle.rv_inst.specs.Bits.{extended}
 use Rattle.rv_inst.specs.Classes.{is_int_type}
-use Rattle.rv_inst.specs.Fields.{IsNoneOf, with_part}
+use Rattle.rv_inst.specs.Fields.{with_part}
 use Rattle.rv_inst.specs.Meaning.{Environment}
 use Rattle.rv_inst.specs.declared.atomic_loop.AtomicLoop.{AtomicLoop}
 use Rattle.rv_inst.specs.declared.atomic_loop.Change.{Change}
@@ -27,7 +26,7 @@ use Rattle.rv_inst.specs.declared.atomic_loop.Change.TheVariants.{Combines, Swap
 use Rattle.rv_code.specs.AtomicLoops.{after_load, choose_pieces, combine_pieces, combined_in, labels_for, loop_load, loop_pieces, merge_pieces, store_and_retry, take_field}
 use Rattle.rv_code.specs.Evaluation.{Point, and_then, evaluate, point, to}
 use Rattle.rv_code.specs.Pieces.{Bind, Branch, Do, Jump, Piece, Rri, after}
-use Rattle.rv_code.specs.Usable.{AreUsable, IsFineAtomicLoop}
+use Rattle.rv_code.specs.Usable.{IsFineAtomicLoop}
 use Rattle.rv_loops.proofs.RegisterParts.{Sets, Within, each_width, extends, extracts, few_bits, goes_on, in_more, joined, merges, moves, rri_does, rrr_does, sets, sets_again, sets_that, some_bits, such_too}
 use Rattle.rv_loops.specs.Passes.{AtLeave, AtStore, KeepsOthers, PassEnds, Leaves, Stores, store_on}
 
@@ -67,6 +66,10 @@ apart_of l h = record {
 
 -- ---- the field is taken out
 
+-- from the bit on that the offset's register says
+abbrev field : Bool → ℕ → ℕ → ℕ → Values → ℕ
+field signed bits dst offset v = extended signed bits (reg v dst / 2 ^ (reg v offset % 64))
+
 -- it is in dst, and the number in x30
 record Taken (dst part all : ℕ) (v w : Values) : Type 0 where
   old : reg w dst ≡ part
@@ -76,7 +79,7 @@ record Taken (dst part all : ℕ) (v w : Values) : Type 0 where
   are_values : AreValues w
 
 takes : {env : Environment} {whole ps : List Piece} (signed : Bool) (bits dst offset : ℕ) (v : Values) → 1 ≤ bits → bits ≤ 64 → AreValues v → 0 < dst → dst < 30 → offset < 30 →
-    Within 4 env whole (point (take_field dst offset signed bits ++ ps) v) ps (Taken dst (extended signed bits (reg v dst / 2 ^ (reg v offset % 64))) (reg v dst) v)
+    Within 4 env whole (point (take_field dst offset signed bits ++ ps) v) ps (Taken dst (field signed bits dst offset v) (reg v dst) v)
 takes signed bits dst offset v one few vs some low low_offset =
     goes_on (moves 30 dst v vs (lit< tt) (lit< tt))
     (λ w h.
@@ -186,15 +189,15 @@ combined_low Smax t0 x low low_x = low
 
 -- the field is in dst, and the number with another one is in x30
 record InPart (signed : Bool) (bits dst offset x t0 : ℕ) (f : ℕ → ℕ → ℕ) (v w : Values) : Type 0 where
-  old : reg w dst ≡ extended signed bits (reg v dst / 2 ^ (reg v offset % 64))
-  number : reg w 30 ≡ wrap (with_part (reg v offset % 64) bits (f (extended signed bits (reg v dst / 2 ^ (reg v offset % 64))) (reg v x)) (reg v dst))
+  old : reg w dst ≡ field signed bits dst offset v
+  number : reg w 30 ≡ wrap (with_part (reg v offset % 64) bits (f (field signed bits dst offset v) (reg v x)) (reg v dst))
   regs : (k : ℕ) → k < 30 → k ≢ dst → k ≢ t0 → reg w k ≡ reg v k
   mem : w.mem ≡ v.mem
   are_values : AreValues w
 
 -- from where the field is taken out, and the register of which it is made holds what it and the operand give
 makes : {env : Environment} {whole ps : List Piece} {dst offset x t0 : ℕ} (signed : Bool) (f : ℕ → ℕ → ℕ) (ty : IrType) (rs : ℕ) (v w u : Values) → is_int_type ty ≡ true → AreApart dst offset x t0 → rs < 30 →
-    Taken dst (extended signed (bits_of ty) (reg v dst / 2 ^ (reg v offset % 64))) (reg v dst) v w →
+    Taken dst (field signed (bits_of ty) dst offset v) (reg v dst) v w →
     reg u rs ≡ f (reg w dst) (reg w x) → ((k : ℕ) → k ≢ t0 → reg u k ≡ reg w k) → u.mem ≡ w.mem → AreValues u →
     Within 10 env whole (point (merge_pieces 30 31 offset rs (bits_of ty) ++ ps) u) ps (InPart signed (bits_of ty) dst offset x t0 f v)
 makes {dst = dst} {offset} {x} {t0} signed f ty rs v w u int apart low h made same mem us =
@@ -252,8 +255,8 @@ compares {n} {env} {whole} {ps} false e dst w test leads on left = inr (in_more 
 }))
 
 swaps_part : {env : Environment} {whole ps : List Piece} {Stored Left : Values → Type 0} (ty : IrType) (e dst offset x t0 : ℕ) (v : Values) → is_int_type ty ≡ true → AreApart dst offset x t0 → e < 30 → dst ≢ e → AreValues v → after 1 whole ≡ Some [] →
-    ((w : Values) → InPart false (bits_of ty) dst offset x t0 (λ old y. y) v w → reg v e ≡ reg v dst / 2 ^ (reg v offset % 64) % 2 ^ bits_of ty → Stored w) →
-    ((w : Values) → Taken dst (reg v dst / 2 ^ (reg v offset % 64) % 2 ^ bits_of ty) (reg v dst) v w → reg v e ≢ reg v dst / 2 ^ (reg v offset % 64) % 2 ^ bits_of ty → Left w) →
+    ((w : Values) → InPart false (bits_of ty) dst offset x t0 (λ old y. y) v w → reg v e ≡ field false (bits_of ty) dst offset v → Stored w) →
+    ((w : Values) → Taken dst (field false (bits_of ty) dst offset v) (reg v dst) v w → reg v e ≢ field false (bits_of ty) dst offset v → Left w) →
     Ends 15 env whole (point (take_field dst offset false (bits_of ty) ++ (Branch NotEqual e dst 1 ∷ (merge_pieces 30 31 offset x (bits_of ty) ++ ps))) v) ps Stored Left
 swaps_part ty e dst offset x t0 v int apart e_low dst_e vs leads stored left =
     ends_after (takes false (bits_of ty) dst offset v (some_bits ty int) (few_bits ty int) vs apart.dst_some apart.dst_low apart.offset_low)
@@ -276,8 +279,9 @@ swaps_whole old e dst v dst_e leads first stored left =
 
 -- ---- loops
 
-abbrev loop_of : Change → IrType → Reg → Reg → Reg → Writable Reg → Writable Reg → AtomicLoop
-loop_of change ty offset address operand t0 dst = record { change = change; ty = ty; offset = offset; address = address; operand = operand; t0 = t0; dst = dst }
+-- a loop that makes this change, of a field of this type
+abbrev loop_of : AtomicLoop → Change → IrType → AtomicLoop
+loop_of l change ty = record l { change = change; ty = ty }
 
 stores : {env : Environment} {l : AtomicLoop} {v : Values} → Within 17 env (loop_pieces l) (point (after_load l) v) (store_on l) (AtStore l v) → PassEnds env l v
 stores r = Stores r.count r.values r.few r.ran r.such
@@ -285,156 +289,147 @@ stores r = Stores r.count r.values r.few r.ran r.such
 ends : {env : Environment} {l : AtomicLoop} {v : Values} → Ends 17 env (loop_pieces l) (point (after_load l) v) (store_on l) (AtStore l v) (AtLeave l v) → PassEnds env l v
 ends r = elim r [ inl d ↦ stores d | inr d ↦ Leaves d.count d.values d.few d.ran d.such ]
 
--- where a choice's labels stand
-choice_placed : (how : IntCC) (signed : Bool) (ty : IrType) (dst offset p x t0 : ℕ) → is_int_type ty ≡ true →
-    AreChoices (labels_for Umin ++ Bind 0 ∷ loop_load (bits_of ty) dst p ∷ (take_field dst offset signed (bits_of ty) ++ choose_pieces how t0 dst x ++ merge_pieces 30 31 offset t0 (bits_of ty) ++ store_and_retry (bits_of ty) t0 p 30 [])) t0 dst (merge_pieces 30 31 offset t0 (bits_of ty) ++ store_and_retry (bits_of ty) t0 p 30 [])
-choice_placed how true ty dst offset p x t0 int = each_width (λ b. AreChoices (labels_for Umin ++ Bind 0 ∷ loop_load b dst p ∷ (take_field dst offset true b ++ choose_pieces how t0 dst x ++ merge_pieces 30 31 offset t0 b ++ store_and_retry b t0 p 30 [])) t0 dst (merge_pieces 30 31 offset t0 b ++ store_and_retry b t0 p 30 [])) (refl, refl) (refl, refl) (refl, refl) (refl, refl) ty int
-choice_placed how false ty dst offset p x t0 int = each_width (λ b. AreChoices (labels_for Umin ++ Bind 0 ∷ loop_load b dst p ∷ (take_field dst offset false b ++ choose_pieces how t0 dst x ++ merge_pieces 30 31 offset t0 b ++ store_and_retry b t0 p 30 [])) t0 dst (merge_pieces 30 31 offset t0 b ++ store_and_retry b t0 p 30 [])) (refl, refl) (refl, refl) (refl, refl) (refl, refl) ty int
-
 kept : {f : ℕ → ℕ → ℕ} {signed : Bool} (l : AtomicLoop) (v w : Values) → InPart signed (bits_of l.ty) (number_of l.dst.reg) (number_of l.offset) (number_of l.operand) (number_of l.t0.reg) f v w → KeepsOthers l v w
 kept l v w k = record { regs = k.regs; mem = k.mem; are_values = k.are_values }
 
 -- ---- a number is combined
 
--- the pieces that combine a part, and those that combine the whole
-abbrev of_part : AtomicRmwOp → ℕ → ℕ → ℕ → ℕ → ℕ → ℕ → List Piece
-of_part op bits dst offset p x t0 = take_field dst offset (takes_signed op) bits ++ combine_pieces op t0 dst x ++ merge_pieces 30 31 offset (combined_in op t0 x) bits ++ store_and_retry bits t0 p 30 []
+-- the pieces that make the field, and on
+abbrev making : AtomicLoop → AtomicRmwOp → ℕ → List Piece
+making l op bits = merge_pieces 30 31 (number_of l.offset) (combined_in op (number_of l.t0.reg) (number_of l.operand)) bits ++ store_and_retry bits (number_of l.t0.reg) (number_of l.address) 30 []
 
-abbrev of_whole : AtomicRmwOp → ℕ → ℕ → ℕ → ℕ → ℕ → List Piece
-of_whole op bits dst p x t0 = combine_pieces op t0 dst x ++ store_and_retry bits t0 p t0 []
+-- those that combine a part, and those that combine the whole
+abbrev of_part : AtomicLoop → AtomicRmwOp → ℕ → List Piece
+of_part l op bits =
+    take_field (number_of l.dst.reg) (number_of l.offset) (takes_signed op) bits ++ combine_pieces op (number_of l.t0.reg) (number_of l.dst.reg) (number_of l.operand)
+    ++ merge_pieces 30 31 (number_of l.offset) (combined_in op (number_of l.t0.reg) (number_of l.operand)) bits ++ store_and_retry bits (number_of l.t0.reg) (number_of l.address) 30 []
 
--- a part is
-part_ends : (env : Environment) (op : AtomicRmwOp) (ty : IrType) (offset address operand : Reg) (t0 dst : Writable Reg) (v : Values) → is_whole (Combines op) (bits_of ty) ≡ false →
-    ArePlaced op (loop_pieces (loop_of (Combines op) ty offset address operand t0 dst)) (number_of t0.reg) (number_of dst.reg) (merge_pieces 30 31 (number_of offset) (combined_in op (number_of t0.reg) (number_of operand)) (bits_of ty) ++ store_and_retry (bits_of ty) (number_of t0.reg) (number_of address) 30 []) →
-    IsFineAtomicLoop (loop_of (Combines op) ty offset address operand t0 dst) → AreValues v → PassEnds env (loop_of (Combines op) ty offset address operand t0 dst) v
-part_ends env op ty offset address operand t0 dst v not_whole places h vs =
-    let l = loop_of (Combines op) ty offset address operand t0 dst in
-    let bits = bits_of ty in
-    let d = number_of dst.reg in
-    let o = number_of offset in
-    let p = number_of address in
-    let x = number_of operand in
-    let t = number_of t0.reg in
-    let n = reg v d in
-    let at = reg v o % 64 in
-    let signed = takes_signed op in
-    let merge = merge_pieces 30 31 o (combined_in op t x) bits in
-    let store = store_and_retry bits t p 30 [] in
-    let takes = take_field d o signed bits in
-    let combine = combine_pieces op t d x in
-    let order : of_part op bits d o p x t ≡ takes ++ (combine ++ (merge ++ store)) = append_assoc (takes ++ combine) merge store ∙ append_assoc takes combine (merge ++ store) in
-    let old : Bool → ℕ = λ c. if c then n else extended signed bits (n / 2 ^ (if c then 0 else at)) in
-    let made : Within 17 env (loop_pieces l) (point (takes ++ (combine ++ (merge ++ store))) v) store (InPart signed bits d o x t (combined op) v) = combines_part op ty d o x t v h.typed (apart_of l h) vs places in
-    let so : (w : Values) → InPart signed bits d o x t (combined op) v w → AtStore l v w = λ w k. record {
-      old = k.old ∙ (λ i. old (sym not_whole i));
-      number = (λ i. reg w (if not_whole i then t else 30)) ∙ k.number ∙ (λ i. let c = sym not_whole i in if c then combined op (old c) (reg v x) else wrap (with_part (if c then 0 else at) bits (combined op (old c) (reg v x)) n));
-      others = kept l v w k;
-      goes_on = tt;
-    } in
-    stores (subst (λ c. Within 17 env (loop_pieces l) (point (if c then of_whole op bits d p x t else of_part op bits d o p x t) v) (store_and_retry bits t p (if c then t else 30) []) (AtStore l v)) (sym not_whole)
-    (subst (λ qs. Within 17 env (loop_pieces l) (point qs v) store (AtStore l v)) (sym order) (such_too so made)))
+abbrev of_whole : AtomicLoop → AtomicRmwOp → ℕ → List Piece
+of_whole l op bits = combine_pieces op (number_of l.t0.reg) (number_of l.dst.reg) (number_of l.operand) ++ store_and_retry bits (number_of l.t0.reg) (number_of l.address) (number_of l.t0.reg) []
 
--- the whole number is, by nand
-whole_ends : (env : Environment) (ty : IrType) (offset address operand : Reg) (t0 dst : Writable Reg) (v : Values) → is_wide (bits_of ty) ≡ true →
-    IsFineAtomicLoop (loop_of (Combines Nand) ty offset address operand t0 dst) → AreValues v → PassEnds env (loop_of (Combines Nand) ty offset address operand t0 dst) v
-whole_ends env ty offset address operand t0 dst v wide h vs =
-    let l = loop_of (Combines Nand) ty offset address operand t0 dst in
-    let bits = bits_of ty in
-    let d = number_of dst.reg in
-    let o = number_of offset in
-    let p = number_of address in
-    let x = number_of operand in
-    let t = number_of t0.reg in
-    let n = reg v d in
-    let at = reg v o % 64 in
-    let apart = apart_of l h in
-    let old : Bool → ℕ = λ c. if c then n else extended false bits (n / 2 ^ (if c then 0 else at)) in
-    let made : Within 2 env (loop_pieces l) (point (of_whole Nand bits d p x t) v) (store_and_retry bits t p t []) (Sets t (combined Nand n (reg v x)) v) = inverts t d x v vs h.some_t0 (let low = apart.t0_low in omega arith) in
-    let so : (w : Values) → Sets t (combined Nand n (reg v x)) v w → AtStore l v w = λ w k. record {
-      old = k.others d (λ same. apart.t0_dst (sym same)) ∙ (λ i. old (sym wide i));
-      number = (λ i. reg w (if wide i then t else 30)) ∙ k.holds ∙ (λ i. let c = sym wide i in if c then combined Nand (old c) (reg v x) else wrap (with_part (if c then 0 else at) bits (combined Nand (old c) (reg v x)) n));
-      others = record { regs = λ j lt not_dst not_t0. k.others j not_t0; mem = k.mem; are_values = k.are_values };
-      goes_on = tt;
-    } in
-    stores (subst (λ c. Within 17 env (loop_pieces l) (point (if c then of_whole Nand bits d p x t else of_part Nand bits d o p x t) v) (store_and_retry bits t p (if c then t else 30) []) (AtStore l v)) (sym wide) (in_more 17 (lit≤ tt) (such_too so made)))
+-- by whether it is the whole
+module _ (l : AtomicLoop) (op : AtomicRmwOp) (bits : ℕ) (v : Values) (c : Bool) where
+  abbrev start_by : ℕ
+  start_by = if c then 0 else reg v (number_of l.offset) % 64
 
-combining_ends : (env : Environment) (op : AtomicRmwOp) (ty : IrType) (offset address operand : Reg) (t0 dst : Writable Reg) (v : Values) → IsFineAtomicLoop (loop_of (Combines op) ty offset address operand t0 dst) → AreValues v →
-    PassEnds env (loop_of (Combines op) ty offset address operand t0 dst) v
-combining_ends env Add ty offset address operand t0 dst v h = part_ends env Add ty offset address operand t0 dst v refl tt h
-combining_ends env Sub ty offset address operand t0 dst v h = part_ends env Sub ty offset address operand t0 dst v refl tt h
-combining_ends env And ty offset address operand t0 dst v h = part_ends env And ty offset address operand t0 dst v refl tt h
-combining_ends env Nand ty offset address operand t0 dst v h = (elim (is_wide (bits_of ty)) as (λ c. is_wide (bits_of ty) ≡ c → IsFineAtomicLoop (loop_of (Combines Nand) ty offset address operand t0 dst) → AreValues v → PassEnds env (loop_of (Combines Nand) ty offset address operand t0 dst) v) [
-  | true ↦ λ wide. whole_ends env ty offset address operand t0 dst v wide
-  | false ↦ λ narrow. part_ends env Nand ty offset address operand t0 dst v narrow tt
-]) refl h
-combining_ends env Or ty offset address operand t0 dst v h = part_ends env Or ty offset address operand t0 dst v refl tt h
-combining_ends env Xor ty offset address operand t0 dst v h = part_ends env Xor ty offset address operand t0 dst v refl tt h
-combining_ends env Xchg ty offset address operand t0 dst v h = part_ends env Xchg ty offset address operand t0 dst v refl tt h
-combining_ends env Umin ty offset address operand t0 dst v h = part_ends env Umin ty offset address operand t0 dst v refl (choice_placed UnsignedLessThan false ty (number_of dst.reg) (number_of offset) (number_of address) (number_of operand) (number_of t0.reg) h.typed) h
-combining_ends env Umax ty offset address operand t0 dst v h = part_ends env Umax ty offset address operand t0 dst v refl (choice_placed UnsignedGreaterThan false ty (number_of dst.reg) (number_of offset) (number_of address) (number_of operand) (number_of t0.reg) h.typed) h
-combining_ends env Smin ty offset address operand t0 dst v h = part_ends env Smin ty offset address operand t0 dst v refl (choice_placed SignedLessThan true ty (number_of dst.reg) (number_of offset) (number_of address) (number_of operand) (number_of t0.reg) h.typed) h
-combining_ends env Smax ty offset address operand t0 dst v h = part_ends env Smax ty offset address operand t0 dst v refl (choice_placed SignedGreaterThan true ty (number_of dst.reg) (number_of offset) (number_of address) (number_of operand) (number_of t0.reg) h.typed) h
+  abbrev old_by : ℕ
+  old_by = if c then reg v (number_of l.dst.reg) else extended (takes_signed op) bits (reg v (number_of l.dst.reg) / 2 ^ start_by)
+
+  abbrev number_by : ℕ
+  number_by = if c then combined op old_by (reg v (number_of l.operand)) else wrap (with_part start_by bits (combined op old_by (reg v (number_of l.operand))) (reg v (number_of l.dst.reg)))
+
+  abbrev stored_by : ℕ
+  stored_by = if c then number_of l.t0.reg else 30
+
+-- what is said by whether it is the whole is what is said of a pass at its store
+at_store : {v w : Values} (l : AtomicLoop) (op : AtomicRmwOp) (ty : IrType) (c : Bool) → is_whole (Combines op) (bits_of ty) ≡ c → reg w (number_of l.dst.reg) ≡ old_by l op (bits_of ty) v c → reg w (stored_by l op (bits_of ty) v c) ≡ number_by l op (bits_of ty) v c → KeepsOthers (loop_of l (Combines op) ty) v w →
+    AtStore (loop_of l (Combines op) ty) v w
+at_store {v} {w} l op ty c is old number others = record {
+  old = old ∙ (λ i. old_by l op (bits_of ty) v (sym is i));
+  number = (λ i. reg w (stored_by l op (bits_of ty) v (is i))) ∙ number ∙ (λ i. number_by l op (bits_of ty) v (sym is i));
+  others = others;
+  goes_on = tt;
+}
+
+stores_by : {env : Environment} {v : Values} (l : AtomicLoop) (op : AtomicRmwOp) (ty : IrType) (c : Bool) → is_whole (Combines op) (bits_of ty) ≡ c →
+    Within 17 env (loop_pieces (loop_of l (Combines op) ty)) (point (if c then of_whole l op (bits_of ty) else of_part l op (bits_of ty)) v) (store_and_retry (bits_of ty) (number_of l.t0.reg) (number_of l.address) (stored_by l op (bits_of ty) v c) []) (AtStore (loop_of l (Combines op) ty) v) →
+    PassEnds env (loop_of l (Combines op) ty) v
+stores_by {env} {v} l op ty c is r = stores (subst (λ c. Within 17 env (loop_pieces (loop_of l (Combines op) ty)) (point (if c then of_whole l op (bits_of ty) else of_part l op (bits_of ty)) v) (store_and_retry (bits_of ty) (number_of l.t0.reg) (number_of l.address) (stored_by l op (bits_of ty) v c) []) (AtStore (loop_of l (Combines op) ty) v)) (sym is) r)
+
+-- a part is combined
+part_ends : (env : Environment) (op : AtomicRmwOp) (ty : IrType) (l : AtomicLoop) (v : Values) → is_whole (Combines op) (bits_of ty) ≡ false → ArePlaced op (loop_pieces (loop_of l (Combines op) ty)) (number_of l.t0.reg) (number_of l.dst.reg) (making l op (bits_of ty)) → IsFineAtomicLoop (loop_of l (Combines op) ty) → AreValues v →
+    PassEnds env (loop_of l (Combines op) ty) v
+part_ends env op ty l v not_whole places h vs =
+    let takes = take_field (number_of l.dst.reg) (number_of l.offset) (takes_signed op) (bits_of ty) in
+    let combine = combine_pieces op (number_of l.t0.reg) (number_of l.dst.reg) (number_of l.operand) in
+    let merge = merge_pieces 30 31 (number_of l.offset) (combined_in op (number_of l.t0.reg) (number_of l.operand)) (bits_of ty) in
+    let store = store_and_retry (bits_of ty) (number_of l.t0.reg) (number_of l.address) 30 [] in
+    let order : of_part l op (bits_of ty) ≡ takes ++ (combine ++ (merge ++ store)) = append_assoc (takes ++ combine) merge store ∙ append_assoc takes combine (merge ++ store) in
+    stores_by l op ty false not_whole (subst (λ qs. Within 17 env (loop_pieces (loop_of l (Combines op) ty)) (point qs v) store (AtStore (loop_of l (Combines op) ty) v)) (sym order)
+    (such_too (λ w k. at_store l op ty false not_whole k.old k.number (kept (loop_of l (Combines op) ty) v w k)) (combines_part op ty (number_of l.dst.reg) (number_of l.offset) (number_of l.operand) (number_of l.t0.reg) v h.typed (apart_of (loop_of l (Combines op) ty) h) vs places)))
+
+-- the whole number is combined, by nand
+whole_ends : (env : Environment) (ty : IrType) (l : AtomicLoop) (v : Values) → is_wide (bits_of ty) ≡ true → IsFineAtomicLoop (loop_of l (Combines Nand) ty) → AreValues v → PassEnds env (loop_of l (Combines Nand) ty) v
+whole_ends env ty l v wide h vs =
+    let apart = apart_of (loop_of l (Combines Nand) ty) h in
+    stores_by l Nand ty true wide (in_more 17 (lit≤ tt) (such_too
+    (λ w k. at_store l Nand ty true wide (k.others (number_of l.dst.reg) (λ same. apart.t0_dst (sym same))) k.holds (record { regs = λ j lt not_dst not_t0. k.others j not_t0; mem = k.mem; are_values = k.are_values }))
+    (inverts (number_of l.t0.reg) (number_of l.dst.reg) (number_of l.operand) v vs apart.t0_some (let low = apart.t0_low in omega arith))))
+
+-- where a choice's labels stand
+abbrev IsChoicePlaced : IntCC → Bool → ℕ → ℕ → ℕ → ℕ → ℕ → ℕ → Type 0
+IsChoicePlaced how signed dst offset p x t0 bits =
+    AreChoices (labels_for Umin ++ Bind 0 ∷ loop_load bits dst p ∷ (take_field dst offset signed bits ++ choose_pieces how t0 dst x ++ merge_pieces 30 31 offset t0 bits ++ store_and_retry bits t0 p 30 [])) t0 dst (merge_pieces 30 31 offset t0 bits ++ store_and_retry bits t0 p 30 [])
+
+choice_placed : (how : IntCC) (signed : Bool) (ty : IrType) (dst offset p x t0 : ℕ) → is_int_type ty ≡ true → IsChoicePlaced how signed dst offset p x t0 (bits_of ty)
+choice_placed how true ty dst offset p x t0 int = each_width (IsChoicePlaced how true dst offset p x t0) (refl, refl) (refl, refl) (refl, refl) (refl, refl) ty int
+choice_placed how false ty dst offset p x t0 int = each_width (IsChoicePlaced how false dst offset p x t0) (refl, refl) (refl, refl) (refl, refl) (refl, refl) ty int
+
+choice_of : (how : IntCC) (signed : Bool) (ty : IrType) (l : AtomicLoop) → is_int_type ty ≡ true → IsChoicePlaced how signed (number_of l.dst.reg) (number_of l.offset) (number_of l.address) (number_of l.operand) (number_of l.t0.reg) (bits_of ty)
+choice_of how signed ty l = choice_placed how signed ty (number_of l.dst.reg) (number_of l.offset) (number_of l.address) (number_of l.operand) (number_of l.t0.reg)
+
+combining_ends : (env : Environment) (op : AtomicRmwOp) (ty : IrType) (l : AtomicLoop) (v : Values) → IsFineAtomicLoop (loop_of l (Combines op) ty) → AreValues v → PassEnds env (loop_of l (Combines op) ty) v
+combining_ends env Add ty l v h = part_ends env Add ty l v refl tt h
+combining_ends env Sub ty l v h = part_ends env Sub ty l v refl tt h
+combining_ends env And ty l v h = part_ends env And ty l v refl tt h
+combining_ends env Nand ty l v h = (elim (is_wide (bits_of ty)) as (λ c. is_wide (bits_of ty) ≡ c → AreValues v → PassEnds env (loop_of l (Combines Nand) ty) v) [ true ↦ λ wide. whole_ends env ty l v wide h | false ↦ λ narrow. part_ends env Nand ty l v narrow tt h ]) refl
+combining_ends env Or ty l v h = part_ends env Or ty l v refl tt h
+combining_ends env Xor ty l v h = part_ends env Xor ty l v refl tt h
+combining_ends env Xchg ty l v h = part_ends env Xchg ty l v refl tt h
+combining_ends env Umin ty l v h = part_ends env Umin ty l v refl (choice_of UnsignedLessThan false ty l h.typed) h
+combining_ends env Umax ty l v h = part_ends env Umax ty l v refl (choice_of UnsignedGreaterThan false ty l h.typed) h
+combining_ends env Smin ty l v h = part_ends env Smin ty l v refl (choice_of SignedLessThan true ty l h.typed) h
+combining_ends env Smax ty l v h = part_ends env Smax ty l v refl (choice_of SignedGreaterThan true ty l h.typed) h
 
 -- ---- a number is swapped
 
 -- the expected number's register is below x30, too, and isn't dst
-expected_low : (l : AtomicLoop) (expected : Reg) → l.change ≡ Swaps expected → IsFineAtomicLoop l → (number_of expected < 30) × (number_of l.dst.reg ≢ number_of expected)
-expected_low l expected is h =
-    let inputs = subst (λ change. AreUsable (l.offset ∷ l.address ∷ l.operand ∷ expected_in change)) is h.inputs in
-    let apart = subst (λ change. IsNoneOf l.dst.reg (l.offset ∷ l.address ∷ l.operand ∷ expected_in change)) is h.dst_apart in
-    (inputs.1.1.1.0.1, apart.1.1.1.0)
+expected_apart : (l : AtomicLoop) (expected : Reg) (ty : IrType) → IsFineAtomicLoop (loop_of l (Swaps expected) ty) → (number_of expected < 30) × (number_of l.dst.reg ≢ number_of expected)
+expected_apart l expected ty h = (h.inputs.1.1.1.0.1, h.dst_apart.1.1.1.0)
 
--- what leaves has written dst at most
+-- what has written dst at most, and x30 and x31
 left_others : (l : AtomicLoop) (v w : Values) → ((k : ℕ) → k < 30 → k ≢ number_of l.dst.reg → reg w k ≡ reg v k) → w.mem ≡ v.mem → AreValues w → KeepsOthers l v w
 left_others l v w others mem are_values = record { regs = λ k lt not_dst not_t0. others k lt not_dst; mem = mem; are_values = are_values }
 
-swapping_ends : (env : Environment) (expected : Reg) (ty : IrType) (offset address operand : Reg) (t0 dst : Writable Reg) (v : Values) → IsFineAtomicLoop (loop_of (Swaps expected) ty offset address operand t0 dst) → AreValues v →
-    PassEnds env (loop_of (Swaps expected) ty offset address operand t0 dst) v
-swapping_ends env expected I8 offset address operand t0 dst v h vs =
-    let l = loop_of (Swaps expected) I8 offset address operand t0 dst in
-    let e = expected_low l expected refl h in
-    ends (ends_in_more 17 (lit≤ tt) (swaps_part I8 (number_of expected) (number_of dst.reg) (number_of offset) (number_of operand) (number_of t0.reg) v refl (apart_of l h) e.0 e.1 vs refl
-    (λ w k same. record { old = k.old; number = k.number; others = kept l v w k; goes_on = same })
-    (λ w k differs. record { old = k.old; others = left_others l v w k.others k.mem k.are_values; differs = differs })))
-swapping_ends env expected I16 offset address operand t0 dst v h vs =
-    let l = loop_of (Swaps expected) I16 offset address operand t0 dst in
-    let e = expected_low l expected refl h in
-    ends (ends_in_more 17 (lit≤ tt) (swaps_part I16 (number_of expected) (number_of dst.reg) (number_of offset) (number_of operand) (number_of t0.reg) v refl (apart_of l h) e.0 e.1 vs refl
-    (λ w k same. record { old = k.old; number = k.number; others = kept l v w k; goes_on = same })
-    (λ w k differs. record { old = k.old; others = left_others l v w k.others k.mem k.are_values; differs = differs })))
-swapping_ends env expected I32 offset address operand t0 dst v h vs =
-    let l = loop_of (Swaps expected) I32 offset address operand t0 dst in
-    let d = number_of dst.reg in
-    let old = reg v d / 2 ^ 0 % 2 ^ 32 in
-    let is : reg v d % 2 ^ 32 ≡ old = omega arith in
-    let apart = apart_of l h in
-    ends (ends_in_more 17 (lit≤ tt) (swaps_whole old (number_of expected) d v (expected_low l expected refl h).1 refl
-    (such_too (λ w. sets_that is) (extends false 32 d d v (lit≤ tt) (lit≤ tt) vs apart.dst_some (let low = apart.dst_low in omega arith)))
-    (λ w k same. record { old = k.holds; number = k.others (number_of operand) (λ s. apart.dst_x (sym s)); others = left_others l v w (λ j lt. k.others j) k.mem k.are_values; goes_on = same })
-    (λ w k differs. record { old = k.holds; others = left_others l v w (λ j lt. k.others j) k.mem k.are_values; differs = differs })))
-swapping_ends env expected I64 offset address operand t0 dst v h vs =
-    let l = loop_of (Swaps expected) I64 offset address operand t0 dst in
-    let d = number_of dst.reg in
-    let old = reg v d / 2 ^ 0 % 2 ^ 64 in
-    let is : reg v d ≡ old = (let fits = vs.fits d in omega arith) in
-    let apart = apart_of l h in
-    ends (ends_in_more 17 (lit≤ tt) (swaps_whole old (number_of expected) d v (expected_low l expected refl h).1 refl
+swapping_ends : (env : Environment) (expected : Reg) (ty : IrType) (l : AtomicLoop) (v : Values) → IsFineAtomicLoop (loop_of l (Swaps expected) ty) → AreValues v → PassEnds env (loop_of l (Swaps expected) ty) v
+swapping_ends env expected I8 l v h vs =
+    let e = expected_apart l expected I8 h in
+    ends (ends_in_more 17 (lit≤ tt) (swaps_part I8 (number_of expected) (number_of l.dst.reg) (number_of l.offset) (number_of l.operand) (number_of l.t0.reg) v refl (apart_of (loop_of l (Swaps expected) I8) h) e.0 e.1 vs refl
+    (λ w k same. record { old = k.old; number = k.number; others = kept (loop_of l (Swaps expected) I8) v w k; goes_on = same })
+    (λ w k differs. record { old = k.old; others = left_others (loop_of l (Swaps expected) I8) v w k.others k.mem k.are_values; differs = differs })))
+swapping_ends env expected I16 l v h vs =
+    let e = expected_apart l expected I16 h in
+    ends (ends_in_more 17 (lit≤ tt) (swaps_part I16 (number_of expected) (number_of l.dst.reg) (number_of l.offset) (number_of l.operand) (number_of l.t0.reg) v refl (apart_of (loop_of l (Swaps expected) I16) h) e.0 e.1 vs refl
+    (λ w k same. record { old = k.old; number = k.number; others = kept (loop_of l (Swaps expected) I16) v w k; goes_on = same })
+    (λ w k differs. record { old = k.old; others = left_others (loop_of l (Swaps expected) I16) v w k.others k.mem k.are_values; differs = differs })))
+swapping_ends env expected I32 l v h vs =
+    let apart = apart_of (loop_of l (Swaps expected) I32) h in
+    let old = reg v (number_of l.dst.reg) / 2 ^ 0 % 2 ^ 32 in
+    let is : reg v (number_of l.dst.reg) % 2 ^ 32 ≡ old = omega arith in
+    ends (ends_in_more 17 (lit≤ tt) (swaps_whole old (number_of expected) (number_of l.dst.reg) v (expected_apart l expected I32 h).1 refl
+    (such_too (λ w. sets_that is) (extends false 32 (number_of l.dst.reg) (number_of l.dst.reg) v (lit≤ tt) (lit≤ tt) vs apart.dst_some (let low = apart.dst_low in omega arith)))
+    (λ w k same. record { old = k.holds; number = k.others (number_of l.operand) (λ s. apart.dst_x (sym s)); others = left_others (loop_of l (Swaps expected) I32) v w (λ j lt. k.others j) k.mem k.are_values; goes_on = same })
+    (λ w k differs. record { old = k.holds; others = left_others (loop_of l (Swaps expected) I32) v w (λ j lt. k.others j) k.mem k.are_values; differs = differs })))
+swapping_ends env expected I64 l v h vs =
+    let apart = apart_of (loop_of l (Swaps expected) I64) h in
+    let old = reg v (number_of l.dst.reg) / 2 ^ 0 % 2 ^ 64 in
+    let is : reg v (number_of l.dst.reg) ≡ old = (let fits = vs.fits (number_of l.dst.reg) in omega arith) in
+    ends (ends_in_more 17 (lit≤ tt) (swaps_whole old (number_of expected) (number_of l.dst.reg) v (expected_apart l expected I64 h).1 refl
     (record { count = 0; values = v; few = lit≤ tt; ran = refl; such = record { holds = is; others = λ k other. refl; mem = refl; are_values = vs } })
-    (λ w k same. record { old = k.holds; number = k.others (number_of operand) (λ s. apart.dst_x (sym s)); others = left_others l v w (λ j lt. k.others j) k.mem k.are_values; goes_on = same })
-    (λ w k differs. record { old = k.holds; others = left_others l v w (λ j lt. k.others j) k.mem k.are_values; differs = differs })))
-swapping_ends env expected I128 offset address operand t0 dst v h vs = let typed = h.typed in absurd (cc)
-swapping_ends env expected F16 offset address operand t0 dst v h vs = let typed = h.typed in absurd (cc)
-swapping_ends env expected F32 offset address operand t0 dst v h vs = let typed = h.typed in absurd (cc)
-swapping_ends env expected F64 offset address operand t0 dst v h vs = let typed = h.typed in absurd (cc)
-swapping_ends env expected F128 offset address operand t0 dst v h vs = let typed = h.typed in absurd (cc)
-swapping_ends env expected (Vector lanes) offset address operand t0 dst v h vs = let typed = h.typed in absurd (cc)
+    (λ w k same. record { old = k.holds; number = k.others (number_of l.operand) (λ s. apart.dst_x (sym s)); others = left_others (loop_of l (Swaps expected) I64) v w (λ j lt. k.others j) k.mem k.are_values; goes_on = same })
+    (λ w k differs. record { old = k.holds; others = left_others (loop_of l (Swaps expected) I64) v w (λ j lt. k.others j) k.mem k.are_values; differs = differs })))
+swapping_ends env expected I128 l v h vs = let typed = h.typed in absurd (cc)
+swapping_ends env expected F16 l v h vs = let typed = h.typed in absurd (cc)
+swapping_ends env expected F32 l v h vs = let typed = h.typed in absurd (cc)
+swapping_ends env expected F64 l v h vs = let typed = h.typed in absurd (cc)
+swapping_ends env expected F128 l v h vs = let typed = h.typed in absurd (cc)
+swapping_ends env expected (Vector lanes) l v h vs = let typed = h.typed in absurd (cc)
 
 -- ---- both
 
-ends_by : (env : Environment) (change : Change) (ty : IrType) (offset address operand : Reg) (t0 dst : Writable Reg) (v : Values) → IsFineAtomicLoop (loop_of change ty offset address operand t0 dst) → AreValues v →
-    PassEnds env (loop_of change ty offset address operand t0 dst) v
-ends_by env (Combines op) ty offset address operand t0 dst v h vs = combining_ends env op ty offset address operand t0 dst v h vs
-ends_by env (Swaps expected) ty offset address operand t0 dst v h vs = swapping_ends env expected ty offset address operand t0 dst v h vs
+ends_by : (env : Environment) (change : Change) (ty : IrType) (l : AtomicLoop) (v : Values) → IsFineAtomicLoop (loop_of l change ty) → AreValues v → PassEnds env (loop_of l change ty) v
+ends_by env (Combines op) ty l v h vs = combining_ends env op ty l v h vs
+ends_by env (Swaps expected) ty l v h vs = swapping_ends env expected ty l v h vs
 
 pub passes_end : (env : Environment) (l : AtomicLoop) (v : Values) → IsFineAtomicLoop l → AreValues v → PassEnds env l v
-passes_end env l v h vs = ends_by env l.change l.ty l.offset l.address l.operand l.t0 l.dst v h vs
+passes_end env l v h vs = ends_by env l.change l.ty l v h vs
