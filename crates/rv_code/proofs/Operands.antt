@@ -8,13 +8,11 @@ use Rattle.rv_code.{proofs.Words.{registers_in, same_class, same_register, Selec
 use Rattle.rv_inst.{proofs.PlainInsts.not_true, specs.Core.is_integer, specs.Descriptions.{counts, reverses, sequence_registers}, specs.Rules.{is_stack, sequence_faults}, specs.declared.inst.Brev8Info.Brev8Info, specs.declared.inst.CondBrTarget.CondBrTarget}
 use Rattle.rv_inst.{specs.declared.inst.CondBrTarget.TheVariants.{Label as ToLabel}, specs.declared.inst.CountInfo.CountInfo, specs.declared.inst.Inst.TheVariants.Brev8, specs.declared.sequence.Computation.Computation, specs.declared.units.PlacedReg.PlacedReg}
 use Rattle.std.{proofs.Common.{⊎_elim, ◌≡◌, ◌⊎◌, inl, inr, ℕ, ◌<◌, Bool, true, false, List, [], ◌∷◌, ◌++◌, length, Option, Some, None, arith, refl, sym, subst, eqb-true, ◌∙◌, ◌≢◌, ◌==◌, not, ◌≤◌, rules, ◌%◌, ap, nat_le, ◌||◌, ◌&&◌}, proofs.lemmas.List.Folds.list_any-append}
+pub use Rattle.rv_code.specs.Usable.{AreUsable}
 use Rattle.rv_inst.specs.declared.error.Rule.TheVariants as rule
 use Rattle.rv_inst.specs.declared.inst.Inst.TheVariants.{BrTable, CallInd, Mov, MovFromPReg, RawData, Select}
 
 -- ---- what an instruction that breaks no rule gives: integer registers below x30, numbers in range, and branches with a target.
-
-abbrev pub AreUsable : List Reg → Type 0
-AreUsable rs = AllByRecursion IsUsable rs
 
 pub not_false : (a : Bool) → not a ≡ false → a ≡ true
 not_false true e = refl

@@ -3,6 +3,7 @@ pub mod Forgetting
 pub mod Usable
 pub mod Choices
 pub mod Sequences
+pub mod AtomicLoops
 pub mod Probes
 pub mod Tables
 pub mod Slots

@@ -1,5 +1,6 @@
 -- What the words of an instruction ask of its registers, labels and numbers.
 use Rattle.std.specs.Prelude.{◌^◌, ◌≡◌, ◌<◌, ◌≤◌, true, List, [], ◌∷◌, length, Option, Some, None, IsSome, unwrap_or}
+use Rattle.std.specs.List.{AllByRecursion}
 use Rattle.rv_base.specs.declared.amode.AMode.{AMode}
 use Rattle.rv_base.specs.declared.call.CallRetPair.{CallRetPair}
 use Rattle.rv_base.specs.declared.call.RetLocation.{RetLocation}
@@ -22,6 +23,9 @@ use Rattle.rv_ops.specs.declared.compare.IntegerCompare.{IntegerCompare}
 use Rattle.rv_encode.specs.Registers.{IsIntRegister, IsRealRegister}
 use Rattle.rv_inst.specs.Context.{context_by}
 use Rattle.rv_inst.specs.declared.inst.Inst.{Inst}
+use Rattle.rv_inst.specs.AtomicLoops.{loop_inputs}
+use Rattle.rv_inst.specs.declared.atomic_loop.AtomicLoop.{AtomicLoop}
+use Rattle.rv_inst.specs.Fields.{IsNoneOf}
 use Rattle.rv_inst.specs.declared.sequence.Sequence.{Sequence}
 use Rattle.rv_inst.specs.Generators.{canonical_type}
 use Rattle.rv_inst.specs.Operands.{all_of, written_in}
@@ -33,6 +37,9 @@ use Rattle.rv_inst.specs.declared.inst.CondBrTarget.TheVariants.{Label, Fallthro
 -- an integer register below x30
 abbrev pub IsUsable : Reg → Type 0
 IsUsable r = IsIntRegister r × (number_of r < 30)
+
+abbrev pub AreUsable : List Reg → Type 0
+AreUsable rs = AllByRecursion IsUsable rs
 
 -- a label of a listing
 abbrev pub IsListed : MachLabel → Type 0
@@ -104,6 +111,17 @@ pub record IsFineSequence (s : Sequence) : Type 0 where
   pub tmp3 : IsIntRegister (unwrap_or s.tmp3 s.tmp2).reg
   pub rd : IsIntRegister s.rd.reg
   pub typed : is_int_type s.ty ≡ true
+
+-- integer registers below x30, of which the loop writes two others than x0 and than all that it reads; and an integer of at most 64 bits
+pub record IsFineAtomicLoop (l : AtomicLoop) : Type 0 where
+  pub inputs : AreUsable (loop_inputs l)
+  pub t0 : IsUsable l.t0.reg
+  pub dst : IsUsable l.dst.reg
+  pub some_t0 : 0 < number_of l.t0.reg
+  pub some_dst : 0 < number_of l.dst.reg
+  pub t0_apart : IsNoneOf l.t0.reg (l.dst.reg ∷ loop_inputs l)
+  pub dst_apart : IsNoneOf l.dst.reg (loop_inputs l)
+  pub typed : is_int_type l.ty ≡ true
 
 -- an instruction breaks no rule in some context of these constants
 pub record KeepsRules (constants : List Constant) (inst : Inst) : Type 0 where

@@ -2,6 +2,7 @@ pub mod Classes
 pub mod Effects
 pub mod InstCode
 pub mod Descriptions
+pub mod AtomicLoops
 pub mod Core
 pub mod Records
 pub mod Relocations

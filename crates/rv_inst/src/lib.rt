@@ -2,6 +2,7 @@
 #![tactic(auto)]
 
 mod addresses;
+mod atomic_loop;
 mod boxed;
 mod calls;
 mod check;
@@ -26,6 +27,7 @@ mod tail_calls;
 mod targets;
 mod units;
 
+pub use atomic_loop::{AtomicLoop, Change};
 pub use boxed::Boxed;
 pub use code::{
     CallReturn, Code, ConstPlace, FinalizedMachExceptionHandler, LabelPlace, LineSpan,

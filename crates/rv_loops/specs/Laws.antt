@@ -10,12 +10,13 @@ use Rattle.rv_full.specs.declared.units.Reservation.{Reservation}
 use Rattle.rv_full.specs.Atomics.{width_bytes}
 use Rattle.rv_full.specs.Shared.{Shared}
 use Rattle.rv_full.specs.Units.{Units}
+use Rattle.rv_code.specs.AtomicLoops.{load_reserved, store_conditional}
 use Rattle.rv_code.specs.Evaluation.{Point, StandIn, evaluate}
 use Rattle.rv_code.specs.InstRuns.{environment}
 use Rattle.rv_code.specs.Pieces.{Amo, Do, Piece, after}
 use Rattle.rv_code.specs.Sites.{Site}
 use Rattle.rv_loops.specs.Alone.{AlonePasses}
-use Rattle.rv_loops.specs.SharedLoops.{EachMiddle, IsWord, LoopEnds, Passes, load_reserved, load_word, store_conditional, store_word, stores}
+use Rattle.rv_loops.specs.SharedLoops.{EachMiddle, IsWord, LoopEnds, Passes, load_word, store_word, stores}
 use Rattle.rv_loops.specs.SharedRuns.{AllClear, AreQuiet, ComesStill, Keeps, OnPieces}
 
 -- what an evaluation gives of quiet pieces is what the machine comes to in as many steps at most, whatever others write between them

@@ -5,9 +5,6 @@ use Rattle.rv_base.specs.declared.condcodes.IntCC.TheVariants.{NotEqual}
 use Rattle.rv_base.specs.declared.flags.IsaFlags.{IsaFlags}
 use Rattle.rv_machine.specs.declared.ops.AtomicOp.TheVariants.{Lr, Sc}
 use Rattle.rv_machine.specs.declared.ops.AtomicWidth.{AtomicWidth}
-use Rattle.rv_machine.specs.declared.ops.AtomicWidth.TheVariants.{W, D}
-use Rattle.rv_ops.specs.declared.atomic.AtomicOP.{AtomicOP}
-use Rattle.rv_ops.specs.declared.atomic.AtomicOP.TheVariants.{LrW, ScW, LrD, ScD}
 use Rattle.rv_machine.specs.State.{AreValues, Memory, Values, byte, reg_of, set_reg_of, wrap}
 use Rattle.rv_inst.specs.Meaning.{Environment}
 use Rattle.rv_full.specs.declared.answer.Answer.{Answer}
@@ -40,15 +37,6 @@ load_word width dst addr = decoded (Atomic Lr width) dst addr 0 (pos 3)
 -- the store of a register there, which tells in t0 whether it failed
 abbrev pub store_word : AtomicWidth → ℕ → ℕ → ℕ → Decoded
 store_word width t0 addr src = decoded (Atomic Sc width) t0 addr src (pos 3)
-
--- the operations that they are
-abbrev pub load_reserved : AtomicWidth → AtomicOP
-load_reserved W = LrW
-load_reserved D = LrD
-
-abbrev pub store_conditional : AtomicWidth → AtomicOP
-store_conditional W = ScW
-store_conditional D = ScD
 
 -- the store and what follows: where it failed a pass begins again at own label 0
 abbrev pub stores : Piece → ℕ → List Piece → List Piece

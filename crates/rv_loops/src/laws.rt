@@ -1,6 +1,7 @@
 //! What this crate proves: laws of the definitions, each the contract of a function that does nothing.
 
 ghost use Rattle.rv_loops.specs.Laws.{AreAtomicWords, LoopsAlone, LoopsRun, StillRuns};
+ghost use Rattle.rv_loops.specs.Passes.{PassesEnd};
 
 /// What an evaluation gives of pieces on registers alone is what the machine comes to, whatever others write between its steps.
 pub fn still_runs()
@@ -20,4 +21,9 @@ pub fn loops_alone()
 /// The load and the store of such a loop are each one word of the machine.
 pub fn atomic_words()
     ensures { AreAtomicWords }
+{}
+
+/// From its load a pass of an atomic loop comes to its store with the changed number, or it leaves, in at most 17 pieces.
+pub fn passes_end()
+    ensures { PassesEnd }
 {}

@@ -3,4 +3,4 @@
 
 mod laws;
 
-pub use laws::{atomic_words, loops_alone, loops_run, still_runs};
+pub use laws::{atomic_words, loops_alone, loops_run, passes_end, still_runs};
