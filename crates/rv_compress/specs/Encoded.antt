@@ -49,10 +49,10 @@ IsForm flags None (Some d) = ⊥
 IsForm flags (Some half) None = ⊥
 IsForm flags (Some half) (Some d) = IsHalf flags half d
 
--- an immediate of six bits, which is that of twelve
-pub record IsSixBits (imm12 imm : ℤ) : Type 0 where
-  pub fits : is_six_bits imm12 ≡ true
-  pub same : imm ≡ imm12
+-- an immediate of six bits, which is this value
+pub record IsSixBits (value imm : ℤ) : Type 0 where
+  pub fits : is_six_bits value ≡ true
+  pub same : imm ≡ value
 
 -- the operation of a shift to the right
 abbrev pub right_shift : CbOp → Option AluOp

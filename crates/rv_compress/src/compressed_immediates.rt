@@ -64,7 +64,7 @@ pub(crate) fn compressed_lui(flags: IsaFlags, rd: WritableReg, imm20: Imm20) -> 
     if !flags.has_zca || rd_number == 0 || rd_number == 2 || imm20.value == 0 {
         return None;
     }
-    match six_bits_of_20(imm20) {
+    match six_bits(imm20.value) {
         Some(imm6) => Some(encode_ci_type(CiOp::CLui, rd, imm6)),
         None => None,
     }
@@ -105,22 +105,9 @@ pub(crate) fn compressed_ebreak(flags: IsaFlags) -> Option<u16>
 // ---- immediates
 
 /// The immediate of six bits; none outside -32 to 31.
-fn six_bits(imm12: Imm12) -> Option<Imm6>
-    ensures { MatchOption result (is_six_bits imm12.value ≡ false) (λ imm. IsSixBits imm12.value imm.value) }
+fn six_bits(value: i32) -> Option<Imm6>
+    ensures { MatchOption result (is_six_bits value ≡ false) (λ imm. IsSixBits value imm.value) }
 {
-    let value = imm12.value;
-    if -32 <= value && value <= 31 {
-        Some(Imm6 { value: value as i8 })
-    } else {
-        None
-    }
-}
-
-/// The immediate of six bits; none outside -32 to 31.
-fn six_bits_of_20(imm20: Imm20) -> Option<Imm6>
-    ensures { MatchOption result (is_six_bits imm20.value ≡ false) (λ imm. IsSixBits imm20.value imm.value) }
-{
-    let value = imm20.value;
     if -32 <= value && value <= 31 {
         Some(Imm6 { value: value as i8 })
     } else {
@@ -246,7 +233,7 @@ fn c_li(rd: WritableReg, imm12: Imm12) -> Option<u16>
     requires { IsIntRegister rd.reg }
     ensures { (flags : Flags) → flags.has_zca ≡ true → IsForm flags result (form_where (is_six_bits imm12.value) (compressed (Alu (Int Addi)) (number_of rd.reg) 0 0 imm12.value)) }
 {
-    match six_bits(imm12) {
+    match six_bits(i32::from(imm12.value)) {
         Some(imm6) => Some(encode_ci_type(CiOp::CLi, rd, imm6)),
         None => None,
     }
@@ -256,7 +243,7 @@ fn c_addi(rd: WritableReg, imm12: Imm12) -> Option<u16>
     requires { IsIntRegister rd.reg }
     ensures { (flags : Flags) → flags.has_zca ≡ true → IsForm flags result (form_where (is_six_bits imm12.value) (compressed (Alu (Int Addi)) (number_of rd.reg) (number_of rd.reg) 0 imm12.value)) }
 {
-    match six_bits(imm12) {
+    match six_bits(i32::from(imm12.value)) {
         Some(imm6) => Some(encode_ci_type(CiOp::CAddi, rd, imm6)),
         None => None,
     }
@@ -283,7 +270,7 @@ fn c_addiw(rd: WritableReg, rs: Reg, imm12: Imm12) -> Option<u16>
     if number_of(rd.reg) != number_of(rs) || number_of(rs) == 0 {
         return None;
     }
-    match six_bits(imm12) {
+    match six_bits(i32::from(imm12.value)) {
         Some(imm6) => Some(encode_ci_type(CiOp::CAddiw, rd, imm6)),
         None => None,
     }
@@ -339,7 +326,7 @@ fn c_andi(rd: WritableReg, imm12: Imm12) -> Option<u16>
     requires { IsShortRegister rd.reg }
     ensures { (flags : Flags) → flags.has_zca ≡ true → IsForm flags result (form_where (is_six_bits imm12.value) (compressed (Alu (Int Andi)) (number_of rd.reg) (number_of rd.reg) 0 imm12.value)) }
 {
-    match six_bits(imm12) {
+    match six_bits(i32::from(imm12.value)) {
         Some(imm6) => Some(encode_cb_type(CbOp::CAndi, rd, imm6)),
         None => None,
     }

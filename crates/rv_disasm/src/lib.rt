@@ -23,5 +23,5 @@ pub use mnemonics::mnemonic;
 pub use operations::layout_of;
 pub use reading::{cut, reasm};
 pub use stripping::{strip, strip_decimal, strip_digits, strip_text};
-pub use text::{int_name, put, put_decimal, put_field, put_fields, put_place, put_signed};
+pub use text::{put, put_decimal, put_field, put_fields, put_place, put_signed};
 pub use word::{Word, word_at};

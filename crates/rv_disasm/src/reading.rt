@@ -18,9 +18,8 @@ use crate::forms::Form;
 use crate::layouts::File;
 use crate::naming::form_named;
 use crate::stripping::is_text;
-use crate::text::{float_name, int_name};
 use crate::word::{Word, word_at};
-use rv_base::IsaFlags;
+use rv_base::{IsaFlags, float_reg_name, int_reg_name};
 use std::str;
 
 // Where the byte first stands.
@@ -53,7 +52,7 @@ fn int_register(token: &[u8]) -> Option<i64>
     ensures { (n : ℕ) → n < 32 → token.now ≡ real_name Int n → result ≡ Some (pos n) }
 {
     for number in 0..32u64 {
-        if int_name(number).as_bytes() == token {
+        if int_reg_name(number).as_bytes() == token {
             return Some(number as i64);
         }
     }
@@ -64,7 +63,7 @@ fn float_register(token: &[u8]) -> Option<i64>
     ensures { (n : ℕ) → n < 32 → token.now ≡ real_name FloatClass n → result ≡ Some (pos n) }
 {
     for number in 0..32u64 {
-        if float_name(number).as_bytes() == token {
+        if float_reg_name(number).as_bytes() == token {
             return Some(number as i64);
         }
     }

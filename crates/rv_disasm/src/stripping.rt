@@ -15,9 +15,8 @@ ghost use Rattle.rv_disasm.specs.Text.{IsNamed};
 use crate::disassembly::instruction;
 use crate::forms::Form;
 use crate::layouts::{Field, File};
-use crate::text::{float_name, int_name};
 use itoa::Buffer;
-use rv_base::IsaFlags;
+use rv_base::{IsaFlags, float_reg_name, int_reg_name};
 use rv_machine::Decoded;
 
 /// What follows a piece, where the text begins with it.
@@ -53,8 +52,8 @@ fn strip_number(text: &[u8], file: File, n: i64) -> Option<&[u8]>
     ensures { Strips (number_text file n) text.now result }
 {
     match file {
-        File::X => strip(text, int_name(n.unsigned_abs()).as_bytes()),
-        File::F => strip(text, float_name(n.unsigned_abs()).as_bytes()),
+        File::X => strip(text, int_reg_name(n.unsigned_abs()).as_bytes()),
+        File::F => strip(text, float_reg_name(n.unsigned_abs()).as_bytes()),
         File::V => strip_vector(text, n.unsigned_abs()),
         File::Number => strip_signed(text, n),
     }

@@ -5,8 +5,6 @@ ghost use Rattle.std.specs.List.{flat_map};
 ghost use Rattle.std.specs.Fmt.{decimal, signed_decimal};
 ghost use Rattle.std.specs.Int.{w16, w32, to_be_bytes};
 ghost use Rattle.hex.specs.Hex.{encode_lower};
-ghost use Rattle.rv_base.specs.declared.regs.RegClass.TheVariants.{Int, Float as FloatClass};
-ghost use Rattle.rv_base.specs.RegNames.{real_name};
 ghost use Rattle.rv_machine.specs.Layout.{HasFileRegisters};
 ghost use Rattle.rv_disasm.specs.declared.layouts.File.TheVariants as File;
 ghost use Rattle.rv_disasm.specs.Text.{number, functs, file_of, number_text, field_text, further_text, fields_text, space, text_of, digits_text, place_text, data_text};
@@ -15,91 +13,9 @@ ghost use Rattle.rv_disasm.specs.Text.{IsNamed};
 use crate::forms::Form;
 use crate::layouts::{Field, File};
 use itoa::Buffer;
-use rv_base::OutOfMemory;
+use rv_base::{OutOfMemory, float_reg_name, int_reg_name};
 use rv_machine::{Decoded, MOp};
 use std::alloc::Global;
-
-/// x0 to x31.
-pub fn int_name(number: u64) -> &'static str
-    requires { number < 32 }
-    ensures { result.now ≡ real_name Int number }
-{
-    match number {
-        0 => "zero",
-        1 => "ra",
-        2 => "sp",
-        3 => "gp",
-        4 => "tp",
-        5 => "t0",
-        6 => "t1",
-        7 => "t2",
-        8 => "fp",
-        9 => "s1",
-        10 => "a0",
-        11 => "a1",
-        12 => "a2",
-        13 => "a3",
-        14 => "a4",
-        15 => "a5",
-        16 => "a6",
-        17 => "a7",
-        18 => "s2",
-        19 => "s3",
-        20 => "s4",
-        21 => "s5",
-        22 => "s6",
-        23 => "s7",
-        24 => "s8",
-        25 => "s9",
-        26 => "s10",
-        27 => "s11",
-        28 => "t3",
-        29 => "t4",
-        30 => "t5",
-        _ => "t6",
-    }
-}
-
-/// f0 to f31.
-pub(crate) fn float_name(number: u64) -> &'static str
-    requires { number < 32 }
-    ensures { result.now ≡ real_name FloatClass number }
-{
-    match number {
-        0 => "ft0",
-        1 => "ft1",
-        2 => "ft2",
-        3 => "ft3",
-        4 => "ft4",
-        5 => "ft5",
-        6 => "ft6",
-        7 => "ft7",
-        8 => "fs0",
-        9 => "fs1",
-        10 => "fa0",
-        11 => "fa1",
-        12 => "fa2",
-        13 => "fa3",
-        14 => "fa4",
-        15 => "fa5",
-        16 => "fa6",
-        17 => "fa7",
-        18 => "fs2",
-        19 => "fs3",
-        20 => "fs4",
-        21 => "fs5",
-        22 => "fs6",
-        23 => "fs7",
-        24 => "fs8",
-        25 => "fs9",
-        26 => "fs10",
-        27 => "fs11",
-        28 => "ft8",
-        29 => "ft9",
-        30 => "ft10",
-        _ => "ft11",
-    }
-}
 
 fn functs(d: &Decoded) -> (u8, u8)
     ensures { (result.0, result.1) ≡ functs d.now.op }
@@ -196,8 +112,8 @@ fn put_number(out: &mut String, file: File, n: i64) -> Result<(), OutOfMemory>
     ensures { OnOk result (string_bytes out.new ≡ string_bytes out.old ++ number_text file n) }
 {
     match file {
-        File::X => put(out, int_name(n.unsigned_abs())),
-        File::F => put(out, float_name(n.unsigned_abs())),
+        File::X => put(out, int_reg_name(n.unsigned_abs())),
+        File::F => put(out, float_reg_name(n.unsigned_abs())),
         File::V => put_vector(out, n.unsigned_abs()),
         File::Number => put_signed(out, n),
     }

@@ -9,7 +9,7 @@ ghost use Rattle.mach_buffer.specs.Constants.{reserve_of};
 ghost use Rattle.mach_uses.specs.Reach.{CanReach};
 ghost use Rattle.mach_uses.specs.Labels.{inner_count};
 ghost use Rattle.rv_inst.specs.Returns.{location_loads, result_load, result_loads, typed_loads};
-ghost use Rattle.rv_inst.specs.Rules.{is_on_stack, is_stacked};
+ghost use Rattle.rv_inst.specs.Rules.{is_stacked};
 ghost use Rattle.rv_inst.specs.Sizes.{results_space};
 ghost use Rattle.rv_sequences.specs.Parts.{PutsAlone, PutsParts};
 ghost use Rattle.rv_sequences.specs.Emitted.{IsSoundBuffer, pending};
@@ -22,7 +22,7 @@ use crate::island::emit_island_if_needed;
 use crate::stack::put_stack_load;
 use mach_buffer::MachBuffer;
 use rv_base::{CallRetPair, IrType, IsaFlags, OutOfMemory, RetLocation, TryCallInfo, WritableReg};
-use rv_inst::LabelUse;
+use rv_inst::{LabelUse, is_on_stack};
 use rv_ops::LoadOP;
 
 /// Loads results, after an island where one is needed before the loads and the jump to where the call goes on.
@@ -62,15 +62,6 @@ fn on_stack(defs: &[CallRetPair]) -> usize
     ensures { result ≡ count_by is_stacked defs.now }
 {
     defs.iter().filter(|d| is_on_stack(d.location)).count()
-}
-
-fn is_on_stack(location: RetLocation) -> bool
-    ensures { result ≡ is_on_stack location }
-{
-    match location {
-        RetLocation::Reg(_) => false,
-        RetLocation::Stack { .. } => true,
-    }
 }
 
 /// Loads results, in order.

@@ -20,6 +20,7 @@ fn is_zero(reg: Reg) -> bool
     is_real_x(reg, 0)
 }
 
+/// Returns whether two classes are the same one.
 pub fn same_class(first: RegClass, second: RegClass) -> bool
     ensures { result ≡ same_class first second }
 {
@@ -31,6 +32,7 @@ pub fn same_class(first: RegClass, second: RegClass) -> bool
     }
 }
 
+/// Returns whether two registers are the same one.
 pub fn same_register(first: Reg, second: Reg) -> bool
     ensures { result ≡ same_register first second }
 {

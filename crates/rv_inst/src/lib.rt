@@ -29,6 +29,7 @@ mod units;
 
 pub use atomic_loop::{AtomicLoop, Change};
 pub use boxed::Boxed;
+pub use clashes::same_register;
 pub use code::{
     CallReturn, Code, ConstPlace, FinalizedMachExceptionHandler, LabelPlace, LineSpan,
     MachPatchable, MachReloc, MachStackMap, MachTrap, MachTryCallSite, MachUnwind,
@@ -40,6 +41,7 @@ pub use generators::{SmallInstVec, gen_moves};
 pub use inst::{Brev8Info, CondBrTarget, CountInfo, Family, Inst, Line, SelectInfo};
 pub use job::Job;
 pub use label_use::LabelUse;
+pub use results::is_on_stack;
 pub use sequence::{Computation, Sequence};
 pub use sizes::LINE_SIZE;
 pub use tail_calls::{TailCall, is_bad_frame, is_bad_frame_for, is_unrestorable_for};

@@ -9,6 +9,7 @@ ghost use Rattle.rv_inst.specs.Rules.{is_one_of, is_on_stack, is_loaded_from, is
 use crate::clashes::{is_one_of, is_stack, same_register};
 use rv_base::{CallRetPair as Def, IrType, Reg, RetLocation};
 
+/// Returns whether a callee leaves a result on the stack.
 pub fn is_on_stack(location: RetLocation) -> bool
     ensures { result ≡ is_on_stack location }
 {

@@ -9,10 +9,10 @@ ghost use Rattle.rv_text.specs.Operands.{three};
 ghost use Rattle.rv_text.specs.Texts.{text_of, mode_text, constant_text, fpu_rr_text, plain_fpu_rrr_text, same_source_text, fpu_rrr_text, fpu_rrrr_text, csr_reg_text, csr_imm_text};
 
 use crate::atomics::put_atomic;
-use crate::operands::{is_zero, same_register};
+use crate::operands::is_zero;
 use rv_base::{OutOfMemory, Reg};
 use rv_imms::UImm5;
-use rv_inst::Inst;
+use rv_inst::{Inst, same_register};
 use rv_ops::{CSR, CsrImmOP, CsrRegOP, FRM, FliConstant, FpuOPRR, FpuOPRRR, FpuOPRRRR, FpuOPWidth};
 use std::fmt::Write;
 

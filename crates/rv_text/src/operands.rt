@@ -3,10 +3,11 @@
 ghost use Rattle.std.specs.Prelude.{◌≡◌, ◌++◌, OnOk, string_bytes};
 ghost use Rattle.std.specs.Fmt.{signed_decimal};
 ghost use Rattle.rv_base.specs.RegNames.{name_of};
-ghost use Rattle.rv_inst.specs.Rules.{is_zero, same_class, same_register};
+ghost use Rattle.rv_inst.specs.Rules.{is_zero};
 ghost use Rattle.rv_text.specs.Operands.{two, three, compare_text, value_text};
 
 use rv_base::{OutOfMemory, Reg, RegClass, ValueRegs};
+use rv_inst::same_register;
 use rv_ops::IntegerCompare;
 use std::fmt::Write;
 
@@ -20,30 +21,6 @@ pub(crate) fn is_zero(reg: Reg) -> bool
             RegClass::Float | RegClass::Vector => false,
         },
         Reg::Virtual { .. } => false,
-    }
-}
-
-fn same_class(first: RegClass, second: RegClass) -> bool
-    ensures { result ≡ same_class first second }
-{
-    match (first, second) {
-        (RegClass::Int, RegClass::Int)
-        | (RegClass::Float, RegClass::Float)
-        | (RegClass::Vector, RegClass::Vector) => true,
-        _ => false,
-    }
-}
-
-/// Returns whether two registers are the same one.
-pub(crate) fn same_register(first: Reg, second: Reg) -> bool
-    ensures { result ≡ same_register first second }
-{
-    match (first, second) {
-        (Reg::Real(p), Reg::Real(q)) => same_class(p.class, q.class) && p.number == q.number,
-        (Reg::Virtual { class: c, index: i }, Reg::Virtual { class: d, index: j }) => {
-            same_class(c, d) && i.value == j.value
-        }
-        (Reg::Real(_), Reg::Virtual { .. }) | (Reg::Virtual { .. }, Reg::Real(_)) => false,
     }
 }
 

@@ -5,9 +5,9 @@ ghost use Rattle.rv_machine.specs.Layout.{HasFileRegisters};
 ghost use Rattle.rv_trace.specs.Instruction.{access, accesses, set, two_sets, based, upper, operands_text, instruction_text, written_text, step_line};
 
 use crate::operands::{Operands, operands_of};
-use rv_base::OutOfMemory;
+use rv_base::{OutOfMemory, int_reg_name};
 use rv_disasm::{
-    Field, File, int_name, layout_of, mnemonic, put, put_decimal, put_field, put_fields, put_place,
+    Field, File, layout_of, mnemonic, put, put_decimal, put_field, put_fields, put_place,
     put_signed,
 };
 use rv_machine::Decoded;
@@ -109,7 +109,7 @@ fn put_written(out: &mut String, rd: u8, value: u64) -> Result<(), OutOfMemory>
         return Ok(());
     }
     put(out, "  ")?;
-    put(out, int_name(u64::from(rd)))?;
+    put(out, int_reg_name(u64::from(rd)))?;
     put(out, "=")?;
     put_signed(out, value.cast_signed())
 }

@@ -7,10 +7,10 @@ use Rattle.rv_disasm.proofs.Tokens.{float_same, found}
 use Rattle.rv_disasm.proofs.reading.float_register.Goals as goal
 
 pub returns-then-eq : goal.returns-then-eq
-returns-then-eq c = λ n low e. found n c.loop-number.number c.loop-number-test.true (float_same n c.loop-number.number low c.loop-number-test.true (sym e ∙ (sym ((bytes_eq-Decides c.as_bytes.result.now c.args.token.now).0 (sym c.eq.ensures ∙ c.if-eq.true)) ∙ c.as_bytes.ensures.value ∙ c.float_name.ensures)))
+returns-then-eq c = λ n low e. found n c.loop-number.number c.loop-number-test.true (float_same n c.loop-number.number low c.loop-number-test.true (sym e ∙ (sym ((bytes_eq-Decides c.as_bytes.result.now c.args.token.now).0 (sym c.eq.ensures ∙ c.if-eq.true)) ∙ c.as_bytes.ensures.value ∙ c.float_reg_name.ensures)))
 
 pub loop-number-preserved : goal.loop-number-preserved
-loop-number-preserved c = below_more (λ k. c.args.token.now ≡ real_name Float k → ⊥) c.loop-number.number c.loop-number.invariant (λ e. both_ways c.eq.result c.if-eq.false (c.eq.ensures ∙ (bytes_eq-Decides c.as_bytes.result.now c.args.token.now).1 (c.as_bytes.ensures.value ∙ c.float_name.ensures ∙ sym e)))
+loop-number-preserved c = below_more (λ k. c.args.token.now ≡ real_name Float k → ⊥) c.loop-number.number c.loop-number.invariant (λ e. both_ways c.eq.result c.if-eq.false (c.eq.ensures ∙ (bytes_eq-Decides c.as_bytes.result.now c.args.token.now).1 (c.as_bytes.ensures.value ∙ c.float_reg_name.ensures ∙ sym e)))
 
 pub returns : goal.returns
 returns c = λ n low e. absurd (c.loop-number.invariant n (lt_of_lt_of_le low c.loop-number-test.false) e)
