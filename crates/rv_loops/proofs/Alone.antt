@@ -13,7 +13,7 @@ use Rattle.rv_loops.specs.SharedLoops.{FailedPass, Passes, Quiet}
 use Rattle.rv_loops.specs.SharedRuns.{Still, next_writes, touches}
 use Rattle.std.proofs.Common.{◌≡◌, ⊎_elim, ℕ, zero, suc, ◌+◌, ◌≤◌, Bool, true, false, ◌||◌, List, [], ◌∷◌, Some, arith, sym, ap, ◌∙◌}
 
-first_step : (flags : IsaFlags) (b c : FullState) → fstep flags b ≡ Some c → fiter flags 1 b ≡ Some c
+pub first_step : (flags : IsaFlags) (b c : FullState) → fstep flags b ≡ Some c → fiter flags 1 b ≡ Some c
 unfolding fiter
 first_step flags b c step = step
 
@@ -25,11 +25,11 @@ one_more flags n a b c none step mem d = record {
   ran = (let same : suc n ≡ n + 1 = omega arith in ap (λ k. fiter flags k a.full) same) ∙ fiter_after flags n 1 a.full c (first_step flags a.full c step) ∙ sym (ap (λ l. fiter flags n (interfere l c).full) none) ∙ d.ran;
 }
 
-alone_quiet : (flags : IsaFlags) (n : ℕ) (a b : Shared) → a.later ≡ [] → Quiet flags n a b → Alone flags n a b
+pub alone_quiet : (flags : IsaFlags) (n : ℕ) (a b : Shared) → a.later ≡ [] → Quiet flags n a b → Alone flags n a b
 alone_quiet flags zero a b none h = record { later = sym (ap (λ (s : Shared). s.later) h) ∙ none; mem = sym (ap (λ (s : Shared). s.full.state.values.mem) h); ran = fiter_none flags a.full ∙ ap (λ (s : Shared). Some s.full) h }
 alone_quiet flags (suc n) a b none h = one_more flags n a b h.0 none h.1 h.2 (alone_quiet flags n (interfere a.later h.0) b (ap (λ l. (interfere l h.0).later) none) h.3)
 
-untouched : (flags : IsaFlags) (r : Reservation) (n : ℕ) (a b : Shared) (t : Bool) → a.later ≡ [] → Still flags r n a t b → t ≡ false
+pub untouched : (flags : IsaFlags) (r : Reservation) (n : ℕ) (a b : Shared) (t : Bool) → a.later ≡ [] → Still flags r n a t b → t ≡ false
 untouched flags r zero a b t none h = h.1
 untouched flags r (suc n) a b t none h =
     let d = untouched flags r n (interfere a.later h.0) b h.1 (ap (λ l. (interfere l h.0).later) none) h.5 in
@@ -42,7 +42,7 @@ record AlonePass (flags : IsaFlags) (most : ℕ) (x : Bool) (a b : Shared) : Typ
   few : steps ≤ most + 3
   alone : Alone flags steps a b
 
-joined : (flags : IsaFlags) (m n : ℕ) (a b c : Shared) → Alone flags m a b → Alone flags n b c → Alone flags (n + m) a c
+pub joined : (flags : IsaFlags) (m n : ℕ) (a b c : Shared) → Alone flags m a b → Alone flags n b c → Alone flags (n + m) a c
 joined flags m n a b c x y = record { later = y.later; mem = y.mem ∙ x.mem; ran = fiter_after flags n m a.full b.full x.ran ∙ y.ran }
 
 alone_pass : (flags : IsaFlags) (r : Reservation) (most : ℕ) (x : Bool) (a b : Shared) → a.later ≡ [] → FailedPass flags r most x a b → AlonePass flags most x a b

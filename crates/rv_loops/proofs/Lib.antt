@@ -1,4 +1,5 @@
 pub mod Alone
+pub mod AtomicRuns
 pub mod AtomicSteps
 pub mod AtomicWords
 pub mod Extensions

@@ -1,7 +1,7 @@
 -- A pass of an atomic loop: from its load it comes to its store with the changed number, or leaves, in at most 17 pieces.
-use Rattle.std.proofs.Common.{◌≡◌, ◌≢◌, ◌⊎◌, inl, inr, ℕ, ◌+◌, ◌-◌, ◌/◌, ◌%◌, ◌^◌, ◌<◌, ◌≤◌, Bool, true, false, not, nat_eq, if◌then◌else◌, pos, negsuc, List, [], ◌∷◌, ◌++◌, Some, append_assoc, arith, refl, sym, ap, subst, ◌∙◌, lit<, lit≤, eqb-true}
+use Rattle.std.proofs.Common.{◌≡◌, ◌≢◌, ◌⊎◌, inl, inr, ℕ, zero, suc, ◌+◌, ◌-◌, ◌/◌, ◌%◌, ◌^◌, ◌<◌, ◌≤◌, Bool, true, false, not, nat_eq, if◌then◌else◌, pos, negsuc, List, [], ◌∷◌, ◌++◌, Some, None, append_assoc, arith, refl, sym, ap, subst, ◌∙◌, lit<, lit≤, eqb-true}
 use Rattle.std.specs.Prelude.{bit_xor}
-use Rattle.std.proofs.lemmas.Bool.{eqb-false}
+use Rattle.std.proofs.lemmas.{Bool.eqb-false, Option.same_Some}
 use Rattle.rv_base.specs.CondCodes.{holds}
 use Rattle.rv_base.specs.IrType.{bits_of}
 use Rattle.rv_base.specs.Regs.{number_of}
@@ -24,10 +24,10 @@ use Rattle.rv_inst.specs.declared.atomic_loop.AtomicLoop.{AtomicLoop}
 use Rattle.rv_inst.specs.declared.atomic_loop.Change.{Change}
 use Rattle.rv_inst.specs.declared.atomic_loop.Change.TheVariants.{Combines, Swaps}
 use Rattle.rv_code.specs.AtomicLoops.{after_load, choose_pieces, combine_pieces, combined_in, labels_for, loop_load, loop_pieces, merge_pieces, store_and_retry, take_field}
-use Rattle.rv_code.specs.Evaluation.{Point, and_then, evaluate, point, to}
+use Rattle.rv_code.specs.Evaluation.{Point, and_then, evaluate, next, point, to}
 use Rattle.rv_code.specs.Pieces.{Bind, Branch, Do, Jump, Piece, Rri, after}
 use Rattle.rv_code.specs.Usable.{IsFineAtomicLoop}
-use Rattle.rv_loops.proofs.RegisterParts.{Sets, Within, each_width, extends, extracts, few_bits, goes_on, in_more, joined, merges, moves, rri_does, rrr_does, sets, sets_again, sets_that, some_bits, such_too}
+use Rattle.rv_loops.proofs.RegisterParts.{Sets, Within, each_width, extends, extracts, few_bits, goes_on, in_more, joined, merges, moved, moves, rri_does, rrr_does, sets_again, sets_that, some_bits, such_too}
 use Rattle.rv_loops.specs.Passes.{AtLeave, AtStore, KeepsOthers, PassEnds, Leaves, Stores, store_on}
 
 -- ---- registers
@@ -118,13 +118,6 @@ ArePlaced Umin whole t0 dst ps = AreChoices whole t0 dst ps
 ArePlaced Umax whole t0 dst ps = AreChoices whole t0 dst ps
 ArePlaced Smin whole t0 dst ps = AreChoices whole t0 dst ps
 ArePlaced Smax whole t0 dst ps = AreChoices whole t0 dst ps
-
--- a register is moved by addi of 0
-moved : (v : Values) (rd rs : ℕ) → AreValues v → 0 < rd → rd < 32 → Sets rd (reg v rs) v (set_reg v rd (wrap (reg v rs + 0)))
-moved v rd rs vs some lt =
-    let fits = vs.fits rs in
-    let same : wrap (reg v rs + 0) ≡ reg v rs = omega arith in
-    sets_that same (sets v rd (wrap (reg v rs + 0)) vs some lt (omega arith))
 
 -- by whether dst and the operand compare so
 chooses : {env : Environment} {whole ps : List Piece} (how : IntCC) (c : Bool) (t0 dst x : ℕ) (v : Values) → holds how (reg v dst) (reg v x) ≡ c → AreChoices whole t0 dst ps → AreValues v → 0 < t0 → t0 < 32 →
@@ -223,6 +216,19 @@ combines_part op ty dst offset x t0 v int apart vs places =
     (λ u k. makes (takes_signed op) (combined op) ty (combined_in op t0 x) v w u int apart (combined_low op t0 x apart.t0_low apart.x_low) h k.holds k.others k.mem k.are_values))
 
 -- ---- passes
+
+never_goes_on : (env : Environment) (n : ℕ) (whole : List Piece) (p q : Point) → next env whole p.ahead p.values p.written ≡ None → evaluate env (suc n) whole p ≡ Some q → ⊥
+never_goes_on env n whole p q none e = let no : None ≡ Some q = sym (ap (λ o. and_then o (evaluate env n whole)) none) ∙ e in absurd (cc)
+
+-- Where an evaluation can't go on it ends, at one point and after one count of pieces.
+pub evaluate_unique : (env : Environment) (m n : ℕ) (whole : List Piece) (p q r : Point) → evaluate env m whole p ≡ Some q → evaluate env n whole p ≡ Some r → next env whole q.ahead q.values q.written ≡ None → next env whole r.ahead r.values r.written ≡ None → (m ≡ n) × (q ≡ r)
+evaluate_unique env zero zero whole p q r e f ends_q ends_r = (refl, sym (same_Some p q e) ∙ same_Some p r f)
+evaluate_unique env zero (suc n) whole p q r e f ends_q ends_r = absurd (never_goes_on env n whole p r (subst (λ t. next env whole t.ahead t.values t.written ≡ None) (sym (same_Some p q e)) ends_q) f)
+evaluate_unique env (suc m) zero whole p q r e f ends_q ends_r = absurd (never_goes_on env m whole p q (subst (λ t. next env whole t.ahead t.values t.written ≡ None) (sym (same_Some p r f)) ends_r) e)
+evaluate_unique env (suc m) (suc n) whole p q r e f ends_q ends_r = (elim (next env whole p.ahead p.values p.written) as (λ o. and_then o (evaluate env m whole) ≡ Some q → and_then o (evaluate env n whole) ≡ Some r → (suc m ≡ suc n) × (q ≡ r)) [
+  | None ↦ λ e f. absurd (cc)
+  | Some t ↦ λ e f. let same = evaluate_unique env m n whole t q r e f ends_q ends_r in (ap suc same.0, same.1)
+]) e f
 
 -- in at most so many pieces the evaluation comes to a store, or it leaves
 abbrev Ends : ℕ → Environment → List Piece → Point → List Piece → (Values → Type 0) → (Values → Type 0) → Type 0

@@ -71,7 +71,7 @@ pub record Sets (rd x : ℕ) (v w : Values) : Type 0 where
   pub mem : w.mem ≡ v.mem
   pub are_values : AreValues w
 
-pub sets : (v : Values) (rd x : ℕ) → AreValues v → 0 < rd → rd < 32 → x < 2 ^ 64 → Sets rd x v (set_reg v rd x)
+sets : (v : Values) (rd x : ℕ) → AreValues v → 0 < rd → rd < 32 → x < 2 ^ 64 → Sets rd x v (set_reg v rd x)
 sets v rd x vs some lt fits = record { holds = reads_back v rd x vs some lt; others = λ k other. reads_other v rd k x other; mem = refl; are_values = are_values_set v rd x vs lt fits }
 
 pub sets_that : {rd x y : ℕ} {v w : Values} → x ≡ y → Sets rd x v w → Sets rd y v w
@@ -111,13 +111,15 @@ rri_does {env} {whole} {ps} op rd rs imm v integer small vs some lt =
       such = sets v rd z vs some lt (alu_result_fits (rri_op op) (reg v rs) 0 (low64 imm) (vs.fits rs) (lit< tt) small);
     }
 
--- a register is moved
-pub moves : {env : Environment} {whole ps : List Piece} (rd rs : ℕ) (v : Values) → AreValues v → 0 < rd → rd < 32 →
-    Within 1 env whole (point (Do (Rri Addi rd rs (pos 0)) ∷ ps) v) ps (Sets rd (reg v rs) v)
-moves rd rs v vs some lt =
+-- a register is moved, by addi of 0
+pub moved : (v : Values) (rd rs : ℕ) → AreValues v → 0 < rd → rd < 32 → Sets rd (reg v rs) v (set_reg v rd (wrap (reg v rs + 0)))
+moved v rd rs vs some lt =
     let fits = vs.fits rs in
-    let same : wrap (reg v rs + low64 (pos 0)) ≡ reg v rs = omega (arith, ints) in
-    such_too (λ w. sets_that same) (rri_does Addi rd rs (pos 0) v refl (lit< tt) vs some lt)
+    let same : wrap (reg v rs + 0) ≡ reg v rs = omega arith in
+    sets_that same (sets v rd (wrap (reg v rs + 0)) vs some lt (omega arith))
+
+pub moves : {env : Environment} {whole ps : List Piece} (rd rs : ℕ) (v : Values) → AreValues v → 0 < rd → rd < 32 → Within 1 env whole (point (Do (Rri Addi rd rs (pos 0)) ∷ ps) v) ps (Sets rd (reg v rs) v)
+moves rd rs v vs some lt = record { count = 1; values = set_reg v rd (wrap (reg v rs + 0)); few = lit≤ tt; ran = refl; such = moved v rd rs vs some lt }
 
 -- ---- extensions
 

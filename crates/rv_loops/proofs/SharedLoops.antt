@@ -1,7 +1,7 @@
 -- Loops that store a number where no one wrote to it since it was loaded run so, whatever others write between their steps.
 use Rattle.rv_code.proofs.Registers.{reads_back}
 use Rattle.rv_loops.proofs.AtomicSteps.{Ends, ItAsks, ItFails, ItStores, Reserved, lr_goes, number_fits, sc_goes}
-use Rattle.rv_loops.proofs.SharedRuns.{interfered_keeps, interfered_on, later_clear, still_goes}
+use Rattle.rv_loops.proofs.SharedRuns.{interfered_keeps, interfered_none, interfered_on, later_clear, still_goes}
 use Rattle.rv_code.proofs.Words.{AreValues, IsaFlags, Memory, Site, Values, after, byte, holds, wrap, AreOutside, addresses_from}
 use Rattle.rv_code.specs.Evaluation.{StandIn, and_then, evaluate, point, at as points, to}
 use Rattle.rv_code.specs.InstRuns.{environment}
@@ -72,6 +72,7 @@ module _ (site : Site) (first last allocated start end most : ℕ) (u : Units) (
       again = p.again;
       loaded = p.loaded;
       with_number = p.with_number;
+      fits = p.fits;
       count = p.count;
       values = p.values;
       ran = p.ran;
@@ -80,13 +81,14 @@ module _ (site : Site) (first last allocated start end most : ℕ) (u : Units) (
       last = p.last;
       still = p.still;
       short = p.short;
+      keeps = p.keeps;
     }
 
     after_pass : (x : Bool) (more : List Answer) (a b : Shared) → FailedPass site.context.flags r most x a b → Ended more b → Ended (Success x ∷ more) a
     unfolding earlier
     after_pass x more a b failed (inl c) = inl (record { took = Success x ∷ c.took; more = c.more; parted = ap (λ l. Success x ∷ l) c.parted; pass = earlier x a failed c.pass; same = c.same; stored = c.stored; stores_it = c.stores_it; memory = c.memory; final = c.final; rest = c.rest; little = c.little; leaves = c.leaves; there = c.there; none = c.none })
     after_pass x more a b failed (inr (inl c)) = inr (inl (record { took = Success x ∷ c.took; more = c.more; parted = ap (λ l. Success x ∷ l) c.parted; pass = earlier x a failed c.pass; there = c.there }))
-    after_pass x more a b failed (inr (inr c)) = inr (inr (record { took = Success x ∷ c.took; more = c.more; parted = ap (λ l. Success x ∷ l) c.parted; pass = earlier x a failed c.pass; asks = c.asks }))
+    after_pass x more a b failed (inr (inr c)) = inr (inr (record { took = Success x ∷ c.took; more = c.more; parted = ap (λ l. Success x ∷ l) c.parted; pass = earlier x a failed c.pass; asks = c.asks; left = c.left }))
 
     -- what comes of the branch after the store
     branches : (x : ℕ) (regs : List ℕ) (mem : Memory) (c : Bool) → holds NotEqual x 0 ≡ c → reg_of (set_reg_of regs t0 x) t0 ≡ x → evaluate env 1 whole (point (Branch NotEqual t0 0 0 ∷ tail) (record { regs = set_reg_of regs t0 x; mem = mem })) ≡ Some (point (if c then load ∷ ps else tail) (record { regs = set_reg_of regs t0 x; mem = mem }))
@@ -142,6 +144,7 @@ module _ (site : Site) (first last allocated start end most : ℕ) (u : Units) (
           again = again;
           loaded = loaded;
           with_number = refl;
+          fits = loaded_values;
           count = n;
           values = w;
           ran = ran;
@@ -150,6 +153,7 @@ module _ (site : Site) (first last allocated start end most : ℕ) (u : Units) (
           last = d.state;
           still = (l.state, d.touched, l.step, l.mem, refl, d.ran);
           short = (let few = d.few in omega arith);
+          keeps = d.keeps;
         }
 
         -- the branch after the store
@@ -167,7 +171,7 @@ module _ (site : Site) (first last allocated start end most : ℕ) (u : Units) (
 
           ends : Ends site allocated start end u width t0 src address (Branch NotEqual t0 0 0 ∷ tail) w.regs answers held (now || d.touched) d.state.full → Ended answers a
           unfolding the_pass
-          ends (ItAsks asks) = inr (inr (record { took = []; more = answers; parted = refl; pass = the_pass store_pieces w le ran d; asks = asks }))
+          ends (ItAsks asks) = inr (inr (record { took = []; more = answers; parted = refl; pass = the_pass store_pieces w le ran d; asks = asks; left = d.there.answers }))
           ends (ItStores more s is step mem kept none on_branch) =
               let e = after_store 0 false more s refl none on_branch in
               inl (record {
@@ -184,7 +188,7 @@ module _ (site : Site) (first last allocated start end most : ℕ) (u : Units) (
                 little = e.few;
                 leaves = still_quiet site.context.flags r e.steps (interfere d.state.later s) e.state e.touched e.ran;
                 there = e.there;
-                none = none;
+                none = e.none (interfered_none d.state.later s none);
               })
           ends (ItFails x more s is why step mem none on_branch) =
               let e = after_store 1 true more s refl none on_branch in

@@ -179,13 +179,22 @@ module _ (r : Reservation) (held : ℕ → ℕ) (small : r.address < 2 ^ 64) whe
   interfered_keeps [] t b h = subst (λ c. Keeps r held c b) (sym (or_false t)) h
   interfered_keeps (ws ∷ later) t b h = foreigns_keep ws t b h
 
+-- none is made
+foreigns_none : (ws : List Write) (b : FullState) → b.units.reserved ≡ None → (foreigns ws b).units.reserved ≡ None
+foreigns_none [] b none = none
+foreigns_none (w ∷ ws) b none = foreigns_none ws (foreign w b) (ap (left_by w.0) none)
+
+pub interfered_none : (later : List (List Write)) (b : FullState) → b.units.reserved ≡ None → (interfere later b).full.units.reserved ≡ None
+interfered_none [] b none = none
+interfered_none (ws ∷ later) b none = foreigns_none ws b none
+
 -- ---- pieces on registers alone
 
 full_step : (flags : IsaFlags) (t : State) (b : FullState) → iter flags 1 b.state ≡ Some t → fstep flags b ≡ Some (put t b)
 unfolding fiter
 full_step flags t b ran = integer_run flags 1 t b ran
 
-no_step : (flags : IsaFlags) (s t : State) → iter flags 0 s ≡ Some t → s ≡ t
+pub no_step : (flags : IsaFlags) (s t : State) → iter flags 0 s ≡ Some t → s ≡ t
 unfolding iter
 no_step flags s t ran = same_Some s t ran
 
@@ -210,7 +219,7 @@ module _ (site : Site) (allocated start end : ℕ) (u : Units) (answers : List A
       let here = subst (λ (z : State). IsAtPoint site allocated start end (point x.ahead (record { regs = x.values.regs; mem = z.values.mem })) z) (sym (no_step site.context.flags a.full.state c ran)) i in
       let d = on t a (record { ints = here; units = units; answers = left }) clear keeps in
       let few = d.few in
-      record { steps = d.steps; touched = d.touched; state = d.state; few = omega arith; ran = d.ran; there = d.there; clear = d.clear; keeps = d.keeps }
+      record { steps = d.steps; touched = d.touched; state = d.state; few = omega arith; ran = d.ran; there = d.there; clear = d.clear; keeps = d.keeps; none = d.none }
   after_one n (suc zero) qs out x t a c le ran there units left clear keeps on =
       let i = same_there x.ahead x.values a.full.state.values.mem c there in
       let b = put c a.full in
@@ -231,6 +240,7 @@ module _ (site : Site) (allocated start end : ℕ) (u : Units) (answers : List A
         there = d.there;
         clear = d.clear;
         keeps = subst (λ e. Keeps r held e d.state.full) (or_assoc t now d.touched) d.keeps;
+        none = λ none. d.none (interfered_none a.later b none);
       }
   after_one n (suc (suc m)) qs out x t a c le ran there units left clear keeps on = absurd (omega arith)
 
@@ -238,7 +248,7 @@ module _ (site : Site) (allocated start end : ℕ) (u : Units) (answers : List A
       ComesStill n site allocated start end q.ahead q.values.regs u answers r held t a
   still_goes zero p q t a none quiet e h clear keeps =
       let same = same_Some p q e in
-      record { steps = 0; touched = false; state = a; few = lit≤ tt; ran = (refl, refl); there = subst (λ (x : Point). On x.ahead x.values.regs a.full) same h; clear = clear; keeps = subst (λ c. Keeps r held c a.full) (sym (or_false t)) keeps }
+      record { steps = 0; touched = false; state = a; few = lit≤ tt; ran = (refl, refl); there = subst (λ (x : Point). On x.ahead x.values.regs a.full) same h; clear = clear; keeps = subst (λ c. Keeps r held c a.full) (sym (or_false t)) keeps; none = λ none. none }
   still_goes (suc n) p q t a none quiet e h clear keeps =
       (elim (next env whole p.ahead p.values p.written) as (λ o. next env whole p.ahead p.values p.written ≡ o → and_then o (evaluate env n whole) ≡ Some q → ComesStill (suc n) site allocated start end q.ahead q.values.regs u answers r held t a) [
         | None ↦ λ is f. absurd (cc)

@@ -1,4 +1,5 @@
 pub mod Alone
+pub mod AtomicRuns
 pub mod Laws
 pub mod Passes
 pub mod SharedLoops

@@ -20,7 +20,7 @@ use Rattle.rv_code.specs.Slots.{Op}
 use Rattle.rv_encode.specs.Operations.{decoded}
 use Rattle.rv_machine.specs.declared.decoding.Decoded.{Decoded}
 use Rattle.rv_machine.specs.declared.ops.MOp.TheVariants.{Atomic}
-use Rattle.rv_loops.specs.SharedRuns.{OnPieces, Still}
+use Rattle.rv_loops.specs.SharedRuns.{Keeps, OnPieces, Still}
 use Rattle.rv_code.specs.Sites.{Site}
 
 -- ---- the code
@@ -114,6 +114,7 @@ pub record LastPass (site : Site) (env : Environment) (most : ℕ) (whole ps qs 
   pub again : Again regs
   pub loaded : Values
   pub with_number : loaded.regs ≡ set_reg_of regs dst (number_at width first.full.state.values.mem address)
+  pub fits : AreValues loaded
   pub count : ℕ
   pub values : Values
   pub ran : evaluate env count whole (point ps loaded) ≡ Some (point qs values)
@@ -122,6 +123,7 @@ pub record LastPass (site : Site) (env : Environment) (most : ℕ) (whole ps qs 
   pub last : Shared
   pub still : Still site.context.flags (reservation_at width address) between first touched last
   pub short : between ≤ suc most
+  pub keeps : Keeps (reservation_at width address) (λ j. byte first.full.state.values.mem (wrap (address + j))) touched last.full
 
 -- a loop that changes the number: one step writes memory, the last store, where the bytes still are what the last load found; and after it
 -- at most one step leaves
@@ -139,7 +141,7 @@ pub record OneChange (site : Site) (env : Environment) (allocated start end most
   pub little : rest ≤ 1
   pub leaves : Quiet site.context.flags rest (interfere pass.last.later stored) final
   pub there : OnPieces site allocated start end tail (set_reg_of pass.values.regs t0 0) u more final.full
-  pub none : stored.units.reserved ≡ None
+  pub none : final.full.units.reserved ≡ None
 
 -- a loop that leaves before its store: no step writes memory
 pub record OneRead (site : Site) (env : Environment) (allocated start end most : ℕ) (whole ps tail : List Piece) (width : AtomicWidth) (dst address : ℕ) (Again : List ℕ → Type 0) (u : Units) (answers : List Answer) (a : Shared) : Type 0 where
@@ -156,6 +158,7 @@ pub record OneAsks (site : Site) (env : Environment) (most : ℕ) (whole ps qs :
   pub parted : answers ≡ took ++ more
   pub pass : LastPass site env most whole ps qs width dst address Again took a
   pub asks : fnext site.context.flags pass.last.full ≡ Asks
+  pub left : pass.last.full.answers ≡ more
 
 -- how a loop ends
 abbrev pub LoopEnds :

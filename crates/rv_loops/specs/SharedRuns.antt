@@ -102,7 +102,8 @@ pub record Keeps (r : Reservation) (held : ℕ → ℕ) (touched : Bool) (b : Fu
   pub left : (b.units.reserved ≡ None) ⊎ ((b.units.reserved ≡ Some r) × ((k : ℕ) → k < r.size → byte b.state.values.mem (wrap (r.address + k)) ≡ held k))
   pub alive : touched ≡ false → b.units.reserved ≡ Some r
 
--- in at most so many steps, each of which leaves memory as it was, it comes there; and the reservation is kept, or others ended it
+-- in at most so many steps, each of which leaves memory as it was, it comes there; and the reservation is kept, or others ended it, and none
+-- is made
 pub record ComesStill (most : ℕ) (site : Site) (allocated start end : ℕ) (ps : List Piece) (regs : List ℕ) (u : Units) (answers : List Answer) (r : Reservation) (held : ℕ → ℕ) (before : Bool) (a : Shared) : Type 0 where
   pub steps : ℕ
   pub touched : Bool
@@ -112,3 +113,4 @@ pub record ComesStill (most : ℕ) (site : Site) (allocated start end : ℕ) (ps
   pub there : OnPieces site allocated start end ps regs u answers state.full
   pub clear : AllClear site state.later
   pub keeps : Keeps r held (before || touched) state.full
+  pub none : a.full.units.reserved ≡ None → state.full.units.reserved ≡ None

@@ -1,5 +1,6 @@
 //! What this crate proves: laws of the definitions, each the contract of a function that does nothing.
 
+ghost use Rattle.rv_loops.specs.AtomicRuns.{AtomicLoopsAlone, AtomicLoopsRun};
 ghost use Rattle.rv_loops.specs.Laws.{AreAtomicWords, LoopsAlone, LoopsRun, StillRuns};
 ghost use Rattle.rv_loops.specs.Passes.{PassesEnd};
 
@@ -26,4 +27,14 @@ pub fn atomic_words()
 /// From its load a pass of an atomic loop comes to its store with the changed number, or it leaves, in at most 17 pieces.
 pub fn passes_end()
     ensures { PassesEnd }
+{}
+
+/// An atomic loop of a listing ends with one change of its field, with one read of it, or asking, whatever others write meanwhile.
+pub fn atomic_loops_run()
+    ensures { AtomicLoopsRun }
+{}
+
+/// Where no one else writes, so does the machine alone, in at most 20 steps for each answer that it takes and 20 more.
+pub fn atomic_loops_alone()
+    ensures { AtomicLoopsAlone }
 {}

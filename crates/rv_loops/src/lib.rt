@@ -3,4 +3,7 @@
 
 mod laws;
 
-pub use laws::{atomic_words, loops_alone, loops_run, passes_end, still_runs};
+pub use laws::{
+    atomic_loops_alone, atomic_loops_run, atomic_words, loops_alone, loops_run, passes_end,
+    still_runs,
+};
