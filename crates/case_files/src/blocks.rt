@@ -4,6 +4,7 @@
 
 use crate::error::CaseError;
 use crate::rows::{Case, add};
+use crate::words::first_line;
 use std::alloc::{AllocError, Global};
 
 /// A text with a line feed at its end, unless it is empty.
@@ -15,14 +16,9 @@ fn with_end(alloc: Global, lines: &str) -> Result<String, AllocError> {
     Ok(text)
 }
 
-/// The name of a block, and what is given.
-fn named(head: &str) -> (&str, &str) {
-    head.split_once('\n').unwrap_or((head, ""))
-}
-
 /// The answer: the status, if there is one, a space, and the text.
 fn answer_of(alloc: Global, tail: &str) -> Result<String, AllocError> {
-    let (status, text) = tail.split_once('\n').unwrap_or((tail, ""));
+    let (status, text) = first_line(tail);
     let text = with_end(alloc, text)?;
     let status = status.trim_start();
     if status.is_empty() {
@@ -38,7 +34,7 @@ fn case_of(alloc: Global, path: &str, block: &str) -> Result<Case, CaseError> {
             text: format!(in alloc; "{path}: a case without an answer: {block}")?,
         });
     };
-    let (name, given) = named(head);
+    let (name, given) = first_line(head);
     Ok(Case {
         name: format!(in alloc; "{path}: {name}")?,
         given: with_end(alloc, given)?,

@@ -1,8 +1,8 @@
 //! Calls over a listing of four lines whose source gives eight bytes a read and whose sink takes four a write, one of which fails: which
 //! it is, from 0, and what it is, `read 3` or `write 3`, stand in a row.
 
-use case_files::CaseError;
-use rv_command::run;
+use crate::status_of;
+use case_files::{CaseError, first_word, status_and_text};
 use rv_stream::{MemSink, MemSource, SureSink, SureSource};
 use std::alloc::{AllocError, Global};
 
@@ -13,8 +13,8 @@ fn with_failing_read(alloc: Global, call: usize) -> Result<String, AllocError> {
     let failing = [call];
     let mut source = MemSource::new(COUNTDOWN.as_bytes(), 8, &failing);
     let mut sink = SureSink::new(alloc);
-    let status = run(alloc, &[], &mut source, &mut sink).status();
-    shown(alloc, status, sink.bytes())
+    let status = status_of(alloc, &[], &mut source, &mut sink);
+    status_and_text(alloc, status, sink.bytes())
 }
 
 /// The same where the write of this number fails.
@@ -22,19 +22,13 @@ fn with_failing_write(alloc: Global, call: usize) -> Result<String, AllocError> 
     let failing = [call];
     let mut source = SureSource::new(COUNTDOWN.as_bytes());
     let mut sink = MemSink::new(alloc, 4, &failing);
-    let status = run(alloc, &[], &mut source, &mut sink).status();
-    shown(alloc, status, sink.bytes())
-}
-
-fn shown(alloc: Global, status: u8, bytes: &[u8]) -> Result<String, AllocError> {
-    let mut text = format!(in alloc; "{status} ")?;
-    text.push_str(&String::from_utf8_lossy(alloc, bytes)?)?;
-    Ok(text)
+    let status = status_of(alloc, &[], &mut source, &mut sink);
+    status_and_text(alloc, status, sink.bytes())
 }
 
 /// What comes of the call of a row.
 pub(crate) fn given_by_row(alloc: Global, row: &str) -> Result<String, CaseError> {
-    let (stream, digits) = row.split_once(' ').unwrap_or((row, ""));
+    let (stream, digits) = first_word(row);
     match (stream, usize::from_str_radix(digits, 10)) {
         ("read", Ok(call)) => Ok(with_failing_read(alloc, call)?),
         ("write", Ok(call)) => Ok(with_failing_write(alloc, call)?),

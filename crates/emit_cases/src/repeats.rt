@@ -3,12 +3,12 @@
 //! has some lines, in order.
 
 use crate::given_by;
-use case_files::{Case, CaseError, expect_text};
+use case_files::first_word;
 use std::alloc::{AllocError, Global};
 
 /// Puts the copies that a line stands for.
 fn put_copies(listing: &mut String, line: &str) -> Result<(), AllocError> {
-    let (count, text) = line.split_once(' ').unwrap_or((line, ""));
+    let (count, text) = first_word(line);
     let (digits, end) = match count.strip_suffix('+') {
         Some(digits) => (digits, ""),
         None => (count, "\n"),
@@ -26,8 +26,17 @@ fn put_copies(listing: &mut String, line: &str) -> Result<(), AllocError> {
     Ok(())
 }
 
-/// The first of these lines that a text lacks after the ones before it, if there is one.
-fn first_missing<'a>(text: &str, lines: &'a str) -> Option<&'a str> {
+/// The listing that lines stand for.
+fn listing_of(alloc: Global, lines: &str) -> Result<String, AllocError> {
+    let mut listing = String::new(alloc);
+    for line in lines.lines() {
+        put_copies(&mut listing, line)?;
+    }
+    Ok(listing)
+}
+
+/// Whether these lines stand in a text, in order.
+fn are_in(text: &str, lines: &str) -> bool {
     let mut wanted = lines.lines();
     let mut next = wanted.next();
     for line in text.lines() {
@@ -35,22 +44,14 @@ fn first_missing<'a>(text: &str, lines: &'a str) -> Option<&'a str> {
             next = wanted.next();
         }
     }
-    next
+    next.is_none()
 }
 
-/// Goes through such listings, and returns how many there are.
-pub(crate) fn go_through(alloc: Global, cases: &[Case]) -> Result<u32, CaseError> {
-    let mut count = 0u32;
-    for case in cases {
-        let mut listing = String::new(alloc);
-        for line in case.given.lines() {
-            put_copies(&mut listing, line)?;
-        }
-        let got = given_by(alloc, &listing)?;
-        if let Some(line) = first_missing(&got, &case.answer) {
-            expect_text(alloc, &case.name, line, &got)?;
-        }
-        count = count.saturating_add(1);
+/// Those lines of the report that are wanted; the whole report, where they aren't all there.
+pub(crate) fn lines_of(alloc: Global, given: &str, wanted: &str) -> Result<String, AllocError> {
+    let report = given_by(alloc, &listing_of(alloc, given)?)?;
+    if are_in(&report, wanted) {
+        return String::from_str(alloc, wanted);
     }
-    Ok(count)
+    Ok(report)
 }

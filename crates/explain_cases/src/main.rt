@@ -1,23 +1,13 @@
 //! Goes through calls of `rvemit` over listings that have no code, with what each says to the person who called.
 #![tactic(auto)]
 
-use case_files::{Case, CaseError, Cases, blocks_of, expect_text, read, rows_of, run_cases};
+use case_files::{
+    Asks, Case, CaseError, Cases, first_line, first_word, go_through_file, run_cases, words_of,
+};
 use rv_command::{Ending, run_explained};
 use rv_stream::{SureSink, SureSource};
 use std::alloc::{AllocError, Global};
 use std::process::ExitCode;
-
-/// Calls with a mistake each.
-struct Mistakes;
-
-/// The words of a command after the first, each a space apart.
-fn words_of(alloc: Global, command: &str) -> Result<Vec<String>, AllocError> {
-    let mut words = Vec::new(alloc);
-    for word in command.split(' ').skip(1) {
-        words.push(String::from_str(alloc, word)?)?;
-    }
-    Ok(words)
-}
 
 /// What a call with these words over a listing says, and nothing where it says none.
 fn said(alloc: Global, words: &[String], listing: &str) -> Result<String, AllocError> {
@@ -34,38 +24,56 @@ fn said(alloc: Global, words: &[String], listing: &str) -> Result<String, AllocE
     }
 }
 
-/// Goes through listings, and returns how many there are.
-fn go_through_listings(alloc: Global, cases: &[Case]) -> Result<u32, CaseError> {
-    let mut count = 0u32;
-    for case in cases {
-        let got = said(alloc, &[], &case.given)?;
-        expect_text(alloc, &case.name, &case.answer, &got)?;
-        count = count.saturating_add(1);
-    }
-    Ok(count)
+/// What a call of a command says over the listing in the lines after it, as a line.
+fn said_of_command(alloc: Global, given: &str) -> Result<String, AllocError> {
+    let (command, listing) = first_line(given);
+    let (_, words) = first_word(command);
+    let words = words_of(alloc, words)?;
+    let mut text = said(alloc, &words, listing)?;
+    text.push('\n')?;
+    Ok(text)
 }
 
-/// Goes through commands, each a line before its listing, and returns how many there are.
-fn go_through_commands(alloc: Global, cases: &[Case]) -> Result<u32, CaseError> {
-    let mut count = 0u32;
-    for case in cases {
-        let (command, listing) = case.given.split_once('\n').unwrap_or((&case.given, ""));
-        let words = words_of(alloc, command)?;
-        let got = said(alloc, &words, listing)?;
-        expect_text(alloc, &case.name, case.answer.trim_end(), &got)?;
-        count = count.saturating_add(1);
-    }
-    Ok(count)
+/// What is given.
+#[derive(Clone, Copy)]
+enum Question {
+    /// A listing.
+    Listing,
+    /// A command, in a line before its listing.
+    Command,
 }
+
+impl Asks for Question {
+    fn of_ending(ending: &str) -> Option<Question> {
+        match ending {
+            "rows" => Some(Question::Listing),
+            "commands" => Some(Question::Command),
+            _ => None,
+        }
+    }
+
+    fn is_of_blocks(self) -> bool {
+        match self {
+            Question::Listing => false,
+            Question::Command => true,
+        }
+    }
+
+    fn answer(self, rt: &HostRuntime, case: &Case) -> Result<String, CaseError> {
+        let alloc = rt.alloc();
+        Ok(match self {
+            Question::Listing => said(alloc, &[], &case.given)?,
+            Question::Command => said_of_command(alloc, &case.given)?,
+        })
+    }
+}
+
+/// Calls with a mistake each.
+struct Mistakes;
 
 impl Cases for Mistakes {
     fn go_through(&self, rt: &HostRuntime, path: &str) -> Result<u32, CaseError> {
-        let text = read(rt, path)?;
-        if path.ends_with(".commands") {
-            go_through_commands(rt.alloc(), &blocks_of(rt.alloc(), path, &text)?)
-        } else {
-            go_through_listings(rt.alloc(), &rows_of(rt.alloc(), path, &text)?)
-        }
+        go_through_file::<Question>(rt, path)
     }
 }
 

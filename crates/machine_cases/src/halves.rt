@@ -1,6 +1,7 @@
 //! What halfwords expand to.
 
-use crate::numbers::{flags_of, number};
+use crate::flags::flags_of;
+use case_files::{EMPTY_DIGEST, digest_with, first_word, number};
 use rv_base::{IsaFlags, OutOfMemory};
 use rv_disasm::put;
 use rv_machine::{Decoded, decode, decode_half};
@@ -46,7 +47,7 @@ fn is_as(half: u16, word: &str) -> bool {
 
 /// The text of what the halfword of `HALF WORD` expands to, which has to be the operation of the word; or of `HALF`, none.
 pub(crate) fn expanded(alloc: Global, given: &str) -> Result<String, OutOfMemory> {
-    let (digits, word) = given.split_once(' ').unwrap_or((given, ""));
+    let (digits, word) = first_word(given);
     let half = (number(digits) & 0xffff) as u16;
     let mut out = String::new(alloc);
     put_text(&mut out, ALL, half)?;
@@ -60,14 +61,14 @@ pub(crate) fn expanded(alloc: Global, given: &str) -> Result<String, OutOfMemory
 fn hashed(hash: u64, bytes: &[u8]) -> u64 {
     let mut hash = hash;
     for byte in bytes {
-        hash = (hash ^ u64::from(*byte)).wrapping_mul(0x100000001b3);
+        hash = digest_with(hash, u64::from(*byte));
     }
     hash
 }
 
 /// FNV-1a of the texts of all halfwords, each put into one place.
 fn digest_by(text: &mut String, flags: IsaFlags) -> Result<u64, OutOfMemory> {
-    let mut hash = 0xcbf29ce484222325;
+    let mut hash = EMPTY_DIGEST;
     for half in 0..=u16::MAX {
         text.clear();
         put_text(text, flags, half)?;

@@ -1,7 +1,8 @@
 //! Code as lines, and lines as code.
 
+use crate::flags::flags_of;
 use crate::halves::ALL;
-use crate::numbers::flags_of;
+use case_files::first_word;
 use rv_base::{IsaFlags, OutOfMemory};
 use rv_dump::{UndumpError, dump, undump};
 use std::alloc::Global;
@@ -32,7 +33,7 @@ fn is_read(
 
 /// The lines of the code of `DIGITS FLAG ..` under these flags, which have to be read as that code.
 pub(crate) fn dumped(alloc: Global, given: &str) -> Result<String, OutOfMemory> {
-    let (digits, names) = given.split_once(' ').unwrap_or((given, ""));
+    let (digits, names) = first_word(given);
     let flags = flags_of(names);
     let bytes = bytes_of(alloc, digits)?;
     let lines = dump(alloc, flags, BASE, &[], &bytes)?;

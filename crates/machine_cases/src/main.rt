@@ -2,15 +2,14 @@
 #![tactic(auto)]
 
 mod decoding;
+mod flags;
 mod halves;
 mod lines;
-mod numbers;
 mod steps;
 mod texts;
 
-use case_files::{Case, CaseError, Cases, expect_text, read, rows_of, run_cases};
-use rv_base::{IsaFlags, OutOfMemory};
-use rv_machine::IntMachine;
+use case_files::{Asks, Case, CaseError, Cases, go_through_file, run_cases};
+use rv_base::OutOfMemory;
 use std::alloc::{AllocError, Global};
 use std::process::ExitCode;
 
@@ -39,33 +38,12 @@ enum Question {
     Undump,
 }
 
-fn question_of(ending: &str) -> Option<Question> {
-    match ending {
-        "step" => Some(Question::Step),
-        "load" => Some(Question::Load),
-        "store" => Some(Question::Store),
-        "decoded" => Some(Question::Decoded),
-        "half" => Some(Question::Half),
-        "digest" => Some(Question::Digest),
-        "text" => Some(Question::Text),
-        "read" => Some(Question::Read),
-        "dump" => Some(Question::Dump),
-        "undump" => Some(Question::Undump),
-        _ => None,
-    }
-}
-
-/// The answer of a row.
-fn answer(
-    alloc: Global,
-    machine: &mut IntMachine,
-    question: Question,
-    given: &str,
-) -> Result<String, OutOfMemory> {
+/// What comes of what is given.
+fn answered(alloc: Global, question: Question, given: &str) -> Result<String, OutOfMemory> {
     match question {
-        Question::Step => steps::stepped(alloc, machine, given),
-        Question::Load => steps::loaded(alloc, machine, given),
-        Question::Store => steps::stored(alloc, machine, given),
+        Question::Step => steps::stepped(alloc, given),
+        Question::Load => steps::loaded(alloc, given),
+        Question::Store => steps::stored(alloc, given),
         Question::Decoded => decoding::decoded(alloc, given),
         Question::Half => halves::expanded(alloc, given),
         Question::Digest => halves::digest(alloc, given),
@@ -76,18 +54,33 @@ fn answer(
     }
 }
 
-/// Goes through the cases of a question, and returns how many there are.
-fn go_through_cases(alloc: Global, question: Question, cases: &[Case]) -> Result<u32, CaseError> {
-    let mut machine = IntMachine::new(alloc, IsaFlags::none(), 0);
-    let mut count = 0u32;
-    for case in cases {
-        let Ok(got) = answer(alloc, &mut machine, question, &case.given) else {
-            return Err(CaseError::OutOfMemory(AllocError));
-        };
-        expect_text(alloc, &case.name, &case.answer, &got)?;
-        count = count.saturating_add(1);
+impl Asks for Question {
+    fn of_ending(ending: &str) -> Option<Question> {
+        match ending {
+            "step" => Some(Question::Step),
+            "load" => Some(Question::Load),
+            "store" => Some(Question::Store),
+            "decoded" => Some(Question::Decoded),
+            "half" => Some(Question::Half),
+            "digest" => Some(Question::Digest),
+            "text" => Some(Question::Text),
+            "read" => Some(Question::Read),
+            "dump" => Some(Question::Dump),
+            "undump" => Some(Question::Undump),
+            _ => None,
+        }
     }
-    Ok(count)
+
+    fn is_of_blocks(self) -> bool {
+        false
+    }
+
+    fn answer(self, rt: &HostRuntime, case: &Case) -> Result<String, CaseError> {
+        match answered(rt.alloc(), self, &case.given) {
+            Ok(text) => Ok(text),
+            Err(OutOfMemory) => Err(CaseError::OutOfMemory(AllocError)),
+        }
+    }
 }
 
 /// Questions about words.
@@ -95,14 +88,7 @@ struct Words;
 
 impl Cases for Words {
     fn go_through(&self, rt: &HostRuntime, path: &str) -> Result<u32, CaseError> {
-        let (_, ending) = path.rsplit_once('.').unwrap_or((path, ""));
-        let Some(question) = question_of(ending) else {
-            return Err(CaseError::Form {
-                text: format!(in rt.alloc(); "{path}: no file of cases")?,
-            });
-        };
-        let cases = rows_of(rt.alloc(), path, &read(rt, path)?)?;
-        go_through_cases(rt.alloc(), question, &cases)
+        go_through_file::<Question>(rt, path)
     }
 }
 

@@ -1,7 +1,8 @@
 //! Words as texts, and texts as words.
 
+use crate::flags::flags_of;
 use crate::halves::ALL;
-use crate::numbers::{flags_of, number};
+use case_files::{first_word, number};
 use rv_base::{IsaFlags, OutOfMemory};
 use rv_disasm::{disasm, reasm};
 use std::alloc::Global;
@@ -18,7 +19,7 @@ fn is_read(flags: IsaFlags, digits: &str, text: &str) -> bool {
 
 /// The text of the word of `WORD FLAG ..` under these flags, which has to be read as that word.
 pub(crate) fn shown(alloc: Global, given: &str) -> Result<String, OutOfMemory> {
-    let (digits, names) = given.split_once(' ').unwrap_or((given, ""));
+    let (digits, names) = first_word(given);
     let flags = flags_of(names);
     let mut text = disasm(alloc, flags, (number(digits) & 0xffff_ffff) as u32)?;
     if !is_read(flags, digits, &text) {

@@ -3,6 +3,7 @@
 use crate::constraints::asked;
 use crate::facts::fact;
 use crate::roles::{classes, roles};
+use case_files::{Asks, Case, CaseError};
 use rv_inst::{Inst, Line};
 use rv_listing::read_job;
 use std::alloc::{AllocError, Global};
@@ -18,17 +19,6 @@ pub(crate) enum Question {
     Classes,
     /// A fact of all instructions by its name, which is no listing.
     Facts,
-}
-
-/// What the files with an ending ask.
-pub(crate) fn question_of(ending: &str) -> Option<Question> {
-    match ending {
-        "operands" => Some(Question::Operands),
-        "roles" => Some(Question::Roles),
-        "classes" => Some(Question::Classes),
-        "facts" => Some(Question::Facts),
-        _ => None,
-    }
 }
 
 fn of_instruction(
@@ -48,11 +38,7 @@ fn of_instruction(
 }
 
 /// The answer to a question about a listing of one line.
-pub(crate) fn answer(
-    alloc: Global,
-    question: Question,
-    listing: &str,
-) -> Result<String, AllocError> {
+fn answered(alloc: Global, question: Question, listing: &str) -> Result<String, AllocError> {
     if question == Question::Facts {
         return fact(alloc, listing);
     }
@@ -62,5 +48,25 @@ pub(crate) fn answer(
     match job.lines.into_vec().pop() {
         Some(Line::Inst(mut inst)) => of_instruction(alloc, question, &mut inst),
         _ => String::from_str(alloc, "no instruction"),
+    }
+}
+
+impl Asks for Question {
+    fn of_ending(ending: &str) -> Option<Question> {
+        match ending {
+            "operands" => Some(Question::Operands),
+            "roles" => Some(Question::Roles),
+            "classes" => Some(Question::Classes),
+            "facts" => Some(Question::Facts),
+            _ => None,
+        }
+    }
+
+    fn is_of_blocks(self) -> bool {
+        false
+    }
+
+    fn answer(self, rt: &HostRuntime, case: &Case) -> Result<String, CaseError> {
+        Ok(answered(rt.alloc(), self, &case.given)?)
     }
 }

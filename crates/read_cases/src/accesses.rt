@@ -1,5 +1,6 @@
 //! What lines say that read or write memory, or compute an address.
 
+use crate::fields::shown;
 use crate::numbers::number;
 use rv_base::{AMode, TrapCode};
 use rv_inst::Inst;
@@ -59,8 +60,5 @@ fn fields_of(inst: &Inst) -> Option<Fields> {
 
 /// What an instruction of one of these forms says; of another none.
 pub(crate) fn said(alloc: Global, inst: &Inst) -> Result<Option<String>, AllocError> {
-    match fields_of(inst) {
-        Some(fields) => Ok(Some(format!(in alloc; "{fields:?}")?)),
-        None => Ok(None),
-    }
+    shown(alloc, fields_of(inst))
 }

@@ -1,5 +1,6 @@
 //! What lines say that order what is read and written, or read and write memory atomically.
 
+use crate::fields::shown;
 use crate::numbers::number;
 use rv_base::IrType;
 use rv_inst::Inst;
@@ -34,8 +35,5 @@ fn fields_of(inst: &Inst) -> Option<Fields> {
 
 /// What an instruction of one of these forms says; of another none.
 pub(crate) fn said(alloc: Global, inst: &Inst) -> Result<Option<String>, AllocError> {
-    match fields_of(inst) {
-        Some(fields) => Ok(Some(format!(in alloc; "{fields:?}")?)),
-        None => Ok(None),
-    }
+    shown(alloc, fields_of(inst))
 }

@@ -1,5 +1,6 @@
 //! What lines say that compute with floating-point numbers, or read and write frm.
 
+use crate::fields::shown;
 use crate::numbers::number;
 use rv_inst::Inst;
 use rv_ops::{CSR, CsrImmOP, CsrRegOP, FRM, FpuOPRR, FpuOPRRR, FpuOPRRRR, FpuOPWidth};
@@ -71,8 +72,5 @@ fn fields_of(inst: &Inst) -> Option<Fields> {
 
 /// What an instruction of one of these forms says; of another none.
 pub(crate) fn said(alloc: Global, inst: &Inst) -> Result<Option<String>, AllocError> {
-    match fields_of(inst) {
-        Some(fields) => Ok(Some(format!(in alloc; "{fields:?}")?)),
-        None => Ok(None),
-    }
+    shown(alloc, fields_of(inst))
 }

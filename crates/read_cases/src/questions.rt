@@ -2,6 +2,7 @@
 
 use crate::headers::{constants_said, frame_said};
 use crate::{accesses, atomics, calls, floats, sequences, symbols, tail_calls};
+use case_files::{Asks, Case, CaseError};
 use rv_base::Reg;
 use rv_inst::{Inst, Job, Line, is_bad_frame_for};
 use rv_listing::{ReadError, read_job, register};
@@ -24,20 +25,6 @@ pub(crate) enum Question {
     Stuck,
     /// The class and the number of a register's name, which is no listing.
     Register,
-}
-
-/// What the files with an ending ask.
-pub(crate) fn question_of(ending: &str) -> Option<Question> {
-    match ending {
-        "line" => Some(Question::Line),
-        "frame" => Some(Question::Frame),
-        "constants" => Some(Question::Constants),
-        "count" => Some(Question::Count),
-        "rule" => Some(Question::Rule),
-        "stuck" => Some(Question::Stuck),
-        "register" => Some(Question::Register),
-        _ => None,
-    }
 }
 
 /// What an instruction says, where it is of a form that is looked at.
@@ -117,7 +104,7 @@ fn answer_of(alloc: Global, question: Question, job: &Job) -> Result<String, All
 }
 
 /// The answer of a text: of a listing with a line of no form, that line's number.
-pub(crate) fn answer(alloc: Global, question: Question, text: &str) -> Result<String, AllocError> {
+fn answered(alloc: Global, question: Question, text: &str) -> Result<String, AllocError> {
     if question == Question::Register {
         return register_named(alloc, text);
     }
@@ -125,5 +112,28 @@ pub(crate) fn answer(alloc: Global, question: Question, text: &str) -> Result<St
         Ok(job) => answer_of(alloc, question, &job),
         Err(ReadError::Syntax { line }) => format!(in alloc; "syntax {line}"),
         Err(ReadError::OutOfMemory) => String::from_str(alloc, "out of memory"),
+    }
+}
+
+impl Asks for Question {
+    fn of_ending(ending: &str) -> Option<Question> {
+        match ending {
+            "line" => Some(Question::Line),
+            "frame" => Some(Question::Frame),
+            "constants" => Some(Question::Constants),
+            "count" => Some(Question::Count),
+            "rule" => Some(Question::Rule),
+            "stuck" => Some(Question::Stuck),
+            "register" => Some(Question::Register),
+            _ => None,
+        }
+    }
+
+    fn is_of_blocks(self) -> bool {
+        false
+    }
+
+    fn answer(self, rt: &HostRuntime, case: &Case) -> Result<String, CaseError> {
+        Ok(answered(rt.alloc(), self, &case.given)?)
     }
 }

@@ -1,5 +1,6 @@
 //! What lines of traps, data, constants, choices, tables, counts and probes say.
 
+use crate::fields::shown;
 use crate::numbers::{number, numbers, written_numbers};
 use rv_base::{IntCC, IrType, MachLabel, TrapCode, ValueRegs};
 use rv_inst::Inst;
@@ -136,8 +137,5 @@ fn loop_fields(inst: &Inst) -> Option<Fields> {
 
 /// What an instruction of one of these forms says; of another none.
 pub(crate) fn said(alloc: Global, inst: &Inst) -> Result<Option<String>, AllocError> {
-    match fields_of(inst) {
-        Some(fields) => Ok(Some(format!(in alloc; "{fields:?}")?)),
-        None => Ok(None),
-    }
+    shown(alloc, fields_of(inst))
 }

@@ -1,5 +1,6 @@
 //! What lines of tail calls say.
 
+use crate::fields::shown;
 use crate::numbers::{Pairs, number, pairs_of};
 use rv_inst::Inst;
 use std::alloc::{AllocError, Global};
@@ -36,8 +37,5 @@ fn fields_of(inst: &Inst) -> Option<Fields> {
 
 /// What an instruction of one of these forms says; of another none.
 pub(crate) fn said(alloc: Global, inst: &Inst) -> Result<Option<String>, AllocError> {
-    match fields_of(inst) {
-        Some(fields) => Ok(Some(format!(in alloc; "{fields:?}")?)),
-        None => Ok(None),
-    }
+    shown(alloc, fields_of(inst))
 }

@@ -1,21 +1,10 @@
 //! Whole calls of rvrun.
 
-use case_files::{CaseError, read};
+use case_files::{CaseError, first_line, first_word, read, status_and_text, words_of};
 use rv_run::run;
 use rv_steps::Silent;
 use rv_stream::{Sink, Source, SureSink, SureSource};
 use std::alloc::{AllocError, Global};
-
-/// The words between the spaces of a text.
-fn words_of(alloc: Global, text: &str) -> Result<Vec<String>, AllocError> {
-    let mut words = Vec::new(alloc);
-    for word in text.split(' ') {
-        if !word.is_empty() {
-            words.push(String::from_str(alloc, word)?)?;
-        }
-    }
-    Ok(words)
-}
 
 /// The status of a call with these words.
 pub(crate) fn status_of<S: Source, K: Sink, E: Sink>(
@@ -30,7 +19,7 @@ pub(crate) fn status_of<S: Source, K: Sink, E: Sink>(
 }
 
 /// The status of a call with these words over an input, a space, and its text on either sink.
-pub(crate) fn called(alloc: Global, words: &str, input: &str) -> Result<String, CaseError> {
+pub(crate) fn called(alloc: Global, words: &str, input: &str) -> Result<String, AllocError> {
     let mut sink = SureSink::new(alloc);
     let mut errors = SureSink::new(alloc);
     let status = status_of(
@@ -40,18 +29,17 @@ pub(crate) fn called(alloc: Global, words: &str, input: &str) -> Result<String, 
         &mut sink,
         &mut errors,
     )?;
-    let mut text = format!(in alloc; "{status} ")?;
-    text.push_str(&String::from_utf8_lossy(alloc, sink.bytes())?)?;
+    let mut text = status_and_text(alloc, status, sink.bytes())?;
     text.push_str(&String::from_utf8_lossy(alloc, errors.bytes())?)?;
     Ok(text)
 }
 
 /// What `rvrun WORDS < FILE` gives, or `rvrun WORDS` over the lines after it.
 pub(crate) fn commanded(rt: &HostRuntime, given: &str) -> Result<String, CaseError> {
-    let (command, input) = given.split_once('\n').unwrap_or((given, ""));
-    let words = command.strip_prefix("rvrun").unwrap_or(command);
-    match words.split_once(" < ") {
-        Some((words, path)) => called(rt.alloc(), words, &read(rt, path)?),
-        None => called(rt.alloc(), words, input),
+    let (command, input) = first_line(given);
+    let (_, words) = first_word(command);
+    match words.split_once("< ") {
+        Some((words, path)) => Ok(called(rt.alloc(), words, &read(rt, path)?)?),
+        None => Ok(called(rt.alloc(), words, input)?),
     }
 }

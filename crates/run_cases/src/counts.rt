@@ -2,8 +2,7 @@
 
 use crate::bench::{arrives, code_of};
 use crate::error::{RunError, told};
-use crate::numbers::number;
-use case_files::CaseError;
+use case_files::{CaseError, EMPTY_DIGEST, digest_with, next_random, number};
 use rv_base::{IsaFlags, OutOfMemory};
 use rv_machine::IntMachine;
 use std::alloc::Global;
@@ -39,7 +38,7 @@ fn with_result(
     if !arrives(machine, CALLER)? {
         return Ok(None);
     }
-    Ok(Some((hash ^ machine.reg(10)).wrapping_mul(0x100000001b3)))
+    Ok(Some(digest_with(hash, machine.reg(10))))
 }
 
 /// The i-th of a thousand random numbers, from a state: fewer and fewer bits at the upper end, or at the lower.
@@ -55,7 +54,7 @@ fn random_number(state: u64, i: u32) -> u64 {
 
 /// FNV-1a over the results of the edges in place of bytes.
 fn digest_of_edges(machine: &mut IntMachine) -> Result<Option<u64>, OutOfMemory> {
-    let mut hash = 0xcbf29ce484222325;
+    let mut hash = EMPTY_DIGEST;
     for edge in EDGES.split(' ') {
         match with_result(machine, hash, number(edge))? {
             Some(more) => hash = more,
@@ -70,9 +69,7 @@ fn with_random_numbers(machine: &mut IntMachine, hash: u64) -> Result<Option<u64
     let mut hash = hash;
     let mut state = 1u64;
     for i in 0..1000 {
-        state = state
-            .wrapping_mul(6364136223846793005)
-            .wrapping_add(1442695040888963407);
+        state = next_random(state);
         match with_result(machine, hash, random_number(state, i))? {
             Some(more) => hash = more,
             None => return Ok(None),

@@ -18,7 +18,7 @@ mod script;
 mod settings;
 mod stops;
 
-use case_files::{Case, CaseError, Cases, blocks_of, expect_text, read, rows_of, run_cases};
+use case_files::{Asks, Case, CaseError, Cases, ending_of, go_through_file, run_cases};
 use error::told;
 use std::process::ExitCode;
 
@@ -39,52 +39,37 @@ enum Question {
     ByHand,
 }
 
-fn question_of(ending: &str) -> Option<Question> {
-    match ending {
-        "runs" => Some(Question::Run),
-        "rows" => Some(Question::Report),
-        "linked" => Some(Question::Linked),
-        "parts" => Some(Question::Parts),
-        "counts" => Some(Question::Counts),
-        "calls" => Some(Question::ByHand),
-        _ => None,
+impl Asks for Question {
+    fn of_ending(ending: &str) -> Option<Question> {
+        match ending {
+            "runs" => Some(Question::Run),
+            "rows" => Some(Question::Report),
+            "linked" => Some(Question::Linked),
+            "parts" => Some(Question::Parts),
+            "counts" => Some(Question::Counts),
+            "calls" => Some(Question::ByHand),
+            _ => None,
+        }
     }
-}
 
-/// The answer of a case.
-fn answer(rt: &HostRuntime, question: Question, given: &str) -> Result<String, CaseError> {
-    match question {
-        Question::Run => calls::commanded(rt, given),
-        Question::Report => calls::called(rt.alloc(), "", given),
-        Question::Linked => script::played(rt, given),
-        Question::Parts => Ok(linked::parts_text(rt.alloc(), given)?),
-        Question::Counts => counts::digest_text(rt.alloc(), given),
-        Question::ByHand => told(rt.alloc(), by_hand::called(rt.alloc(), given)),
+    fn is_of_blocks(self) -> bool {
+        match self {
+            Question::Run | Question::Linked | Question::ByHand => true,
+            Question::Report | Question::Parts | Question::Counts => false,
+        }
     }
-}
 
-/// The cases of a file.
-fn cases_of(rt: &HostRuntime, question: Question, path: &str) -> Result<Vec<Case>, CaseError> {
-    let text = read(rt, path)?;
-    match question {
-        Question::Run | Question::Linked | Question::ByHand => blocks_of(rt.alloc(), path, &text),
-        Question::Report | Question::Parts | Question::Counts => rows_of(rt.alloc(), path, &text),
+    fn answer(self, rt: &HostRuntime, case: &Case) -> Result<String, CaseError> {
+        let given = case.given.as_str();
+        match self {
+            Question::Run => calls::commanded(rt, given),
+            Question::Report => Ok(calls::called(rt.alloc(), "", given)?),
+            Question::Linked => script::played(rt, given),
+            Question::Parts => Ok(linked::parts_text(rt.alloc(), given)?),
+            Question::Counts => counts::digest_text(rt.alloc(), given),
+            Question::ByHand => told(rt.alloc(), by_hand::called(rt.alloc(), given)),
+        }
     }
-}
-
-/// Goes through the cases of a question, and returns how many there are.
-fn go_through_cases(
-    rt: &HostRuntime,
-    question: Question,
-    cases: &[Case],
-) -> Result<u32, CaseError> {
-    let mut count = 0u32;
-    for case in cases {
-        let got = answer(rt, question, &case.given)?;
-        expect_text(rt.alloc(), &case.name, &case.answer, &got)?;
-        count = count.saturating_add(1);
-    }
-    Ok(count)
 }
 
 /// Whether a file is read by cases, and holds none.
@@ -97,17 +82,11 @@ struct Runs;
 
 impl Cases for Runs {
     fn go_through(&self, rt: &HostRuntime, path: &str) -> Result<u32, CaseError> {
-        let (_, ending) = path.rsplit_once('.').unwrap_or((path, ""));
+        let (_, ending) = ending_of(path);
         if is_input(ending) {
             return Ok(0);
         }
-        let Some(question) = question_of(ending) else {
-            return Err(CaseError::Form {
-                text: format!(in rt.alloc(); "{path}: no file of cases")?,
-            });
-        };
-        let cases = cases_of(rt, question, path)?;
-        go_through_cases(rt, question, &cases)
+        go_through_file::<Question>(rt, path)
     }
 }
 

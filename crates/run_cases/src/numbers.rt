@@ -1,19 +1,8 @@
-//! Numbers in hexadecimal digits.
+//! Pairs of numbers.
 
-/// A number in hexadecimal digits; a case has no other.
-pub(crate) fn number(text: &str) -> u64 {
-    u64::from_str_radix(text, 16).unwrap_or(0)
-}
+use case_files::number;
 
-/// The number of a word in hexadecimal digits; 0 of none.
-pub(crate) fn word_number(word: Option<&str>) -> u64 {
-    match word {
-        Some(text) => number(text),
-        None => 0,
-    }
-}
-
-/// The two numbers of `FIRST:SECOND`.
+/// The two numbers of `FIRST:SECOND`, in hexadecimal digits.
 pub(crate) fn pair(text: &str) -> (u64, u64) {
     let (first, second) = text.split_once(':').unwrap_or((text, ""));
     (number(first), number(second))

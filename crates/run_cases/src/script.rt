@@ -17,8 +17,7 @@
 
 use crate::bench::Bench;
 use crate::error::{RunError, told};
-use crate::numbers::{number, word_number};
-use case_files::{CaseError, read};
+use case_files::{CaseError, first_word, number, read, word_number};
 use std::alloc::Global;
 
 /// A bench, and the listing that is to be put there.
@@ -105,7 +104,7 @@ impl Play {
 
     /// Plays a line.
     fn play(&mut self, rt: &HostRuntime, line: &str) -> Result<(), RunError> {
-        let (word, rest) = line.split_once(' ').unwrap_or((line, ""));
+        let (word, rest) = first_word(line);
         if self.places(rt, word, rest)? {
             return Ok(());
         }

@@ -2,6 +2,7 @@
 
 use crate::calls::status_of;
 use crate::error::RunError;
+use case_files::next_random;
 use rv_base::{IsaFlags, OutOfMemory};
 use rv_machine::{IntMachine, Step};
 use rv_stream::{MemSink, MemSource, SureSink, SureSource};
@@ -73,9 +74,7 @@ const COUNTDOWN: &str =
 fn put_noise(noise: &mut Vec<u8>, count: usize) -> Result<(), AllocError> {
     let mut state = 1u64;
     for _ in 0..count {
-        state = state
-            .wrapping_mul(6364136223846793005)
-            .wrapping_add(1442695040888963407);
+        state = next_random(state);
         noise.push((state >> 56) as u8)?;
     }
     Ok(())

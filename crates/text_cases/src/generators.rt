@@ -3,6 +3,7 @@
 ghost use Rattle.std.specs.Prelude.{IfSome, IsTrue};
 ghost use Rattle.rv_inst.specs.Classes.{is_int_type};
 
+use case_files::first_word;
 use rv_base::{IrType, OutOfMemory, Reg, Writable, a0};
 use rv_inst::{Inst, SmallInstVec};
 use rv_listing::register;
@@ -62,14 +63,14 @@ fn made(
 
 /// What a call of this name makes: its words are a type, and registers in the order of its parameters, or a number.
 pub(crate) fn generated(alloc: Global, given: &str) -> Result<String, OutOfMemory> {
-    let (name, rest) = given.split_once(' ').unwrap_or((given, ""));
-    let (word, rest) = rest.split_once(' ').unwrap_or((rest, ""));
+    let (name, rest) = first_word(given);
+    let (word, rest) = first_word(rest);
     if name == "fence_req_to_string" {
         return Inst::fence_req_to_string(alloc, word.parse::<u8>().unwrap_or(0));
     }
-    let (first, rest) = rest.split_once(' ').unwrap_or((rest, ""));
-    let (second, rest) = rest.split_once(' ').unwrap_or((rest, ""));
-    let (third, fourth) = rest.split_once(' ').unwrap_or((rest, ""));
+    let (first, rest) = first_word(rest);
+    let (second, rest) = first_word(rest);
+    let (third, fourth) = first_word(rest);
     let regs = [named(first), named(second), named(third), named(fourth)];
     if name == "construct_bit_not" {
         let inst = Inst::construct_bit_not(Writable::from_reg(regs[0]), regs[1]);

@@ -5,7 +5,7 @@
 mod generators;
 mod summaries;
 
-use case_files::{Case, CaseError, Cases, blocks_of, expect_text, read, rows_of, run_cases};
+use case_files::{Asks, Case, CaseError, Cases, go_through_file, run_cases};
 use rv_base::OutOfMemory;
 use rv_gen::gen_job;
 use rv_inst::{Job, Line};
@@ -27,17 +27,6 @@ enum Question {
     Summary,
     /// What a generator of instructions gives.
     Generated,
-}
-
-fn question_of(ending: &str) -> Option<Question> {
-    match ending {
-        "text" => Some(Question::Text),
-        "texts" => Some(Question::Texts),
-        "job" => Some(Question::Job),
-        "summary" => Some(Question::Summary),
-        "generated" => Some(Question::Generated),
-        _ => None,
-    }
 }
 
 /// The text of the first line of a job.
@@ -70,7 +59,7 @@ fn texts_read(alloc: Global, is_whole: bool, given: &str) -> Result<String, OutO
     }
 }
 
-fn answer(alloc: Global, question: Question, given: &str) -> Result<String, OutOfMemory> {
+fn answered(alloc: Global, question: Question, given: &str) -> Result<String, OutOfMemory> {
     match question {
         Question::Text => texts_read(alloc, false, given),
         Question::Texts => texts_read(alloc, true, given),
@@ -80,17 +69,31 @@ fn answer(alloc: Global, question: Question, given: &str) -> Result<String, OutO
     }
 }
 
-/// Goes through the cases of a question, and returns how many there are.
-fn go_through_cases(alloc: Global, question: Question, cases: &[Case]) -> Result<u32, CaseError> {
-    let mut count = 0u32;
-    for case in cases {
-        let Ok(got) = answer(alloc, question, &case.given) else {
-            return Err(CaseError::OutOfMemory(AllocError));
-        };
-        expect_text(alloc, &case.name, &case.answer, &got)?;
-        count = count.saturating_add(1);
+impl Asks for Question {
+    fn of_ending(ending: &str) -> Option<Question> {
+        match ending {
+            "text" => Some(Question::Text),
+            "texts" => Some(Question::Texts),
+            "job" => Some(Question::Job),
+            "summary" => Some(Question::Summary),
+            "generated" => Some(Question::Generated),
+            _ => None,
+        }
     }
-    Ok(count)
+
+    fn is_of_blocks(self) -> bool {
+        match self {
+            Question::Text | Question::Summary | Question::Generated => false,
+            Question::Texts | Question::Job => true,
+        }
+    }
+
+    fn answer(self, rt: &HostRuntime, case: &Case) -> Result<String, CaseError> {
+        match answered(rt.alloc(), self, &case.given) {
+            Ok(text) => Ok(text),
+            Err(OutOfMemory) => Err(CaseError::OutOfMemory(AllocError)),
+        }
+    }
 }
 
 /// Questions about texts.
@@ -98,20 +101,7 @@ struct Texts;
 
 impl Cases for Texts {
     fn go_through(&self, rt: &HostRuntime, path: &str) -> Result<u32, CaseError> {
-        let (_, ending) = path.rsplit_once('.').unwrap_or((path, ""));
-        let Some(question) = question_of(ending) else {
-            return Err(CaseError::Form {
-                text: format!(in rt.alloc(); "{path}: no file of cases")?,
-            });
-        };
-        let text = read(rt, path)?;
-        let cases = match question {
-            Question::Text | Question::Summary | Question::Generated => {
-                rows_of(rt.alloc(), path, &text)?
-            }
-            Question::Texts | Question::Job => blocks_of(rt.alloc(), path, &text)?,
-        };
-        go_through_cases(rt.alloc(), question, &cases)
+        go_through_file::<Question>(rt, path)
     }
 }
 

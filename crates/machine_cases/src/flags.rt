@@ -1,19 +1,6 @@
-//! Numbers in hexadecimal digits, and flags by their names.
+//! Flags by their names.
 
 use rv_base::IsaFlags;
-
-/// A number in hexadecimal digits; a row has no other.
-pub(crate) fn number(text: &str) -> u64 {
-    u64::from_str_radix(text, 16).unwrap_or(0)
-}
-
-/// The number of a word in hexadecimal digits; 0 of none.
-pub(crate) fn word_number(word: Option<&str>) -> u64 {
-    match word {
-        Some(text) => number(text),
-        None => 0,
-    }
-}
 
 /// The flags of these names, with a space between two.
 pub(crate) fn flags_of(names: &str) -> IsaFlags {
