@@ -4,6 +4,9 @@ use Rattle.rv_sequences.proofs.Terms.{drop-cons, append_assoc, arith, sym, ap, �
 use Rattle.rv_sequences.proofs.Terms.{IsaFlags, MachLabel, branch_of, is_reversed, IntegerCompare, Decoded, Base, decoded, decoded_branch, branch_op, is_among, use_at, LabelUse, B12, first_inner, inner_count, shape_of, allocated_of, Shape, with_bytes, with_use, Buffer, IsSoundBuffer, PutsAlone}
 use Rattle.rv_sequences.proofs.Terms.{PutsSlots, branch_to, Puts, IsPatchable, Label, own_label, RegClass, move_action, move_pieces, Action, Piece, Do, Branch, branches, slots_for, slots_of, pieces_most, shown, pieces_of, AreSound, IsLabelled, IsBaseFor, IsNext, CodePiece, OwnLabels}
 use Rattle.rv_sequences.proofs.Terms.{canonical_type, cast_signed, code_most, drop, get_or, lit≤, None, Some, IsPlain, most_of, number_by, number_pieces, number_slots, pieces_few, pieces_long, w64}
+use Rattle.rv_code.specs.AtomicLoops.{extract_pieces, merge_pieces}
+use Rattle.rv_code.specs.Choices.{extend_pieces}
+use Rattle.rv_sequences.proofs.PartsCode.{actions_most, actions_plain, extend_few, extract_few, merge_few}
 use Rattle.rv_sequences.specs.declared.code.CodePiece.TheVariants as code
 
 -- ---- the class of an integer register, and the format of a floating-point register that is moved
@@ -70,6 +73,9 @@ slots_both flags (p ∷ ps) qs = ap (λ slots. slots_for flags p ++ slots) (slot
 -- a piece has no more bytes than that
 most_shown : (x : CodePiece) → pieces_most (shown x) ≤ most_of x
 most_shown (code.Move rd rs) = elim (nat_eq (number_of rd.reg) (number_of rs)) as (λ own. pieces_most (if own then [] else Do (move_action (class_of rd.reg) (canonical_type (class_of rd.reg)) (number_of rd.reg) (number_of rs)) ∷ []) ≤ 4) [ true ↦ lit≤ tt | false ↦ lit≤ tt ]
+most_shown (code.Extend rd rn signed bits) = actions_most (extend_few (number_of rd.reg) (number_of rn) signed bits)
+most_shown (code.Extract rd offset rs signed bits) = actions_most (extract_few (number_of rd.reg) (number_of offset) (number_of rs) signed bits)
+most_shown (code.Merge rd tmp offset rs bits) = actions_most (merge_few (number_of rd.reg) (number_of tmp.reg) (number_of offset) (number_of rs) bits)
 most_shown (code.Number rd value) = number_by (λ ps. pieces_most ps ≤ 20) (number_of rd.reg) (cast_signed w64 value) (λ low. lit≤ tt) (λ fits none. lit≤ tt) (λ fits. lit≤ tt) (λ far. lit≤ tt)
 most_shown x = lit≤ tt
 
@@ -128,6 +134,10 @@ goes_on (code.Fence pred succ) few k same put = same_labels (code.Fence pred suc
 goes_on (code.Load op rd base offset) few k same put = same_labels (code.Load op rd base offset) k k.labelled tt same put
 goes_on (code.Store op base src offset) few k same put = same_labels (code.Store op base src offset) k k.labelled tt same put
 goes_on {flags} (code.Number rd value) few k same put = same_labels (code.Number rd value) k k.labelled (number_plain flags (number_of rd.reg) (cast_signed w64 value)) same put
+goes_on {flags} (code.Extend rd rn signed bits) few k same put = same_labels (code.Extend rd rn signed bits) k k.labelled (actions_plain flags (extend_pieces (number_of rd.reg) (number_of rn) signed bits) (extend_few (number_of rd.reg) (number_of rn) signed bits).actions) same put
+goes_on {flags} (code.Extract rd offset rs signed bits) few k same put = same_labels (code.Extract rd offset rs signed bits) k k.labelled (actions_plain flags (extract_pieces (number_of rd.reg) (number_of offset) (number_of rs) signed bits) (extract_few (number_of rd.reg) (number_of offset) (number_of rs) signed bits).actions) same put
+goes_on {flags} (code.Merge rd tmp offset rs bits) few k same put = same_labels (code.Merge rd tmp offset rs bits) k k.labelled (actions_plain flags (merge_pieces (number_of rd.reg) (number_of tmp.reg) (number_of offset) (number_of rs) bits) (merge_few (number_of rd.reg) (number_of tmp.reg) (number_of offset) (number_of rs) bits).actions) same put
+goes_on (code.Atomic op rd addr src) few k same put = same_labels (code.Atomic op rd addr src) k k.labelled tt same put
 goes_on {flags} (code.Move rd rs) few k same put = same_labels (code.Move rd rs) k k.labelled (move_plain flags (nat_eq (number_of rd.reg) (number_of rs)) _) same put
 goes_on (code.Branch kind label) few k same put = same_labels (code.Branch kind label) k k.labelled.1 tt same put
 goes_on (code.Jump label) few k same put = same_labels (code.Jump label) k k.labelled.1 tt same put

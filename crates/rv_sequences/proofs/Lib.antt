@@ -1,5 +1,7 @@
 pub mod AddressCode
 pub mod BufferAfterSlots
+pub mod LoopCode
+pub mod PartsCode
 pub mod CodePut
 pub mod Encoded
 pub mod SlotsPut

@@ -3,9 +3,8 @@
 ghost use Rattle.std.specs.Prelude.{◌≡◌, [], ◌∷◌, ◌+◌, ◌-◌, ◌<◌, ◌≤◌, ◌^◌, length, map, pos, OnOk, OnErr, true};
 ghost use Rattle.rv_base.specs.LabelUse.{code_limit};
 ghost use Rattle.rv_base.specs.Regs.{class_of, number_of};
-ghost use Rattle.rv_ops.specs.declared.alu.AluOPRRI.TheVariants.{Andi, Slli};
+ghost use Rattle.rv_ops.specs.declared.alu.AluOPRRI.TheVariants.{Slli};
 ghost use Rattle.rv_encode.specs.Registers.{IsIntRegister};
-ghost use Rattle.mach_uses.specs.Labels.{inner_count};
 ghost use Rattle.mach_buffer.specs.Buffer.{bytes_of, allocated_of, spoiled_of};
 ghost use Rattle.rv_inst.specs.Generators.{canonical_type};
 ghost use Rattle.rv_inst.specs.Operands.{all_of, written_in};
@@ -17,7 +16,8 @@ ghost use Rattle.rv_sequences.specs.Code.{code_most, pieces_of, AreSound, IsLabe
 ghost use Rattle.rv_sequences.specs.Emitted.{IsSoundBuffer};
 ghost use Rattle.rv_sequences.specs.Parts.{PutsAlone};
 
-use crate::code::{CodePiece, bind, branch, copy, put_code, rri};
+use crate::code::{CodePiece, bind, branch, copy, put_code};
+use crate::shortest::put_rri;
 use mach_buffer::MachBuffer;
 use rv_base::{IsaFlags, OutOfMemory, Reg, ValueRegs, WritableReg};
 use rv_encode::number_of;
@@ -42,20 +42,17 @@ pub fn put_extend(
     requires rn { IsIntRegister rn }
     requires some { 1 ≤ from_bits }
     requires few { from_bits ≤ 64 }
-    requires allocated { allocated_of sink.old + 2 < inner_count }
-    requires room { length (bytes_of sink.old) + 12 < code_limit }
+    requires room { length (bytes_of sink.old) + 8 < code_limit }
     requires sound { IsSoundBuffer sink.old }
     ensures slots { OnOk result (PutsAlone flags (slots_of flags (extend_pieces (number_of rd.reg) (number_of rn) signed from_bits)) sink.old sink.new) }
+    ensures long { OnOk result (length (bytes_of sink.new) ≤ length (bytes_of sink.old) + 8) }
+    ensures sound { OnOk result (IsSoundBuffer sink.new) }
     ensures refused { OnErr result (spoiled_of sink.new ≡ true) }
 {
     if is_byte(signed, from_bits) {
-        put_code(sink, flags, &byte_code(rd, rn))
+        put_rri(sink, flags, AluOPRRI::Andi, rd, rn, low_byte())
     } else {
-        put_code(
-            sink,
-            flags,
-            &shifts_code(rd, rn, right_shift(signed), others(from_bits)),
-        )
+        put_shifts(sink, flags, rd, rn, right_shift(signed), others(from_bits))
     }
 }
 
@@ -66,36 +63,34 @@ fn is_byte(signed: bool, from_bits: u8) -> bool
     !signed && from_bits == 8
 }
 
-fn byte_code(rd: WritableReg, rn: Reg) -> [CodePiece; 1]
-    requires rd { IsIntRegister rd.reg }
-    requires rn { IsIntRegister rn }
-    ensures pieces { pieces_of result ≡ Do (Rri Andi (number_of rd.reg) (number_of rn) (pos 255)) ∷ [] }
-    ensures registers { AreSound result }
-    ensures labels { IsLabelled 0 [] result }
-    ensures few { code_most result ≡ 4 }
-{
-    [rri(AluOPRRI::Andi, rd, rn, low_byte())]
-}
-
 /// All bits of a byte.
-fn low_byte() -> Imm12
+pub(crate) fn low_byte() -> Imm12
     ensures { result.value ≡ pos 255 }
 {
     Imm12::from_i16(255)
 }
 
-fn shifts_code(rd: WritableReg, rn: Reg, back: AluOPRRI, amount: Imm12) -> [CodePiece; 2]
+/// A shift to the left, and one back.
+fn put_shifts(
+    sink: &mut MachBuffer<LabelUse>,
+    flags: IsaFlags,
+    rd: WritableReg,
+    rn: Reg,
+    back: AluOPRRI,
+    amount: Imm12,
+) -> Result<(), OutOfMemory>
     requires rd { IsIntRegister rd.reg }
     requires rn { IsIntRegister rn }
-    ensures pieces { pieces_of result ≡ Do (Rri Slli (number_of rd.reg) (number_of rn) amount.value) ∷ Do (Rri back (number_of rd.reg) (number_of rd.reg) amount.value) ∷ [] }
-    ensures registers { AreSound result }
-    ensures labels { IsLabelled 0 [] result }
-    ensures few { code_most result ≡ 8 }
+    requires room { length (bytes_of sink.old) + 8 < code_limit }
+    requires sound { IsSoundBuffer sink.old }
+    ensures slots { OnOk result (PutsAlone flags (slots_of flags (Do (Rri Slli (number_of rd.reg) (number_of rn) amount.value) ∷ Do (Rri back (number_of rd.reg) (number_of rd.reg) amount.value) ∷ [])) sink.old sink.new) }
+    ensures long { OnOk result (length (bytes_of sink.new) ≤ length (bytes_of sink.old) + 8) }
+    ensures sound { OnOk result (IsSoundBuffer sink.new) }
+    ensures refused { OnErr result (spoiled_of sink.new ≡ true) }
 {
-    [
-        rri(AluOPRRI::Slli, rd, rn, amount),
-        rri(back, rd, rd.reg, amount),
-    ]
+    put_rri(sink, flags, AluOPRRI::Slli, rd, rn, amount)?;
+    put_rri(sink, flags, back, rd, rd.reg, amount)?;
+    Ok(())
 }
 
 /// The shift to the right that extends a number.

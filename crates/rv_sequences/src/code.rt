@@ -4,6 +4,8 @@ ghost use Rattle.std.specs.Prelude.{◌≡◌, ℕ, [], ◌∷◌, ◌+◌, ◌<
 ghost use Rattle.rv_base.specs.declared.flags.IsaFlags.{IsaFlags};
 ghost use Rattle.rv_base.specs.LabelUse.{code_limit};
 ghost use Rattle.rv_base.specs.Regs.{class_of, number_of};
+ghost use Rattle.rv_machine.specs.UnitDecode.{is_source};
+ghost use Rattle.rv_ops.specs.Atomic.{atomic_op};
 ghost use Rattle.rv_encode.specs.Registers.{IsIntRegister};
 ghost use Rattle.mach_labels.specs.Table.{first_inner};
 ghost use Rattle.mach_uses.specs.Labels.{inner_count};
@@ -22,10 +24,13 @@ ghost use Rattle.rv_sequences.specs.Puts.{Puts};
 ghost use Rattle.rv_code.specs.Slots.{Label};
 ghost use Rattle.rv_sequences.specs.declared.code.CodePiece.TheVariants as code;
 
+use crate::atomics::put_ordered;
+use crate::choices::put_extend;
 use crate::expansions::put_trap;
 use crate::fences::put_fence;
 use crate::moves::put_move;
 use crate::numbers::put_number;
+use crate::parts::{put_extract, put_merge};
 use crate::shortest::{put_load_word, put_rri, put_rrr, put_store_word};
 use crate::words::{put_compare, put_wide_jump};
 use mach_buffer::MachBuffer;
@@ -33,7 +38,7 @@ use rv_base::{IsaFlags, MachLabel, OutOfMemory, Reg, TrapCode, WritableReg};
 use rv_encode::encode_cj_type;
 use rv_imms::Imm12;
 use rv_inst::{Inst, LabelUse};
-use rv_ops::{AluOPRRI, AluOPRRR, CjOp, IntegerCompare, LoadOP, StoreOP};
+use rv_ops::{AluOPRRI, AluOPRRR, AtomicOP, CjOp, IntegerCompare, LoadOP, StoreOP};
 
 /// A piece of an instruction's code. A label is one of the sequence's own, by its number among those.
 #[derive(Clone, Copy)]
@@ -71,6 +76,36 @@ pub(crate) enum CodePiece {
     Number {
         rd: WritableReg,
         value: u64,
+    },
+    /// Of the low bits of a register, as many as these.
+    Extend {
+        rd: WritableReg,
+        rn: Reg,
+        signed: bool,
+        bits: u8,
+    },
+    /// A part of `rs`, so many bits from the bit on that `offset` says.
+    Extract {
+        rd: WritableReg,
+        offset: Reg,
+        rs: Reg,
+        signed: bool,
+        bits: u8,
+    },
+    /// The low bits of `rs` in place of such a part of `rd`.
+    Merge {
+        rd: WritableReg,
+        tmp: WritableReg,
+        offset: Reg,
+        rs: Reg,
+        bits: u8,
+    },
+    /// With both ordering bits.
+    Atomic {
+        op: AtomicOP,
+        rd: WritableReg,
+        addr: Reg,
+        src: Reg,
     },
     /// Of a whole register to another of its class; none to the same one.
     Move {
@@ -200,6 +235,27 @@ fn put_piece(
             offset,
         } => put_store_word(sink, flags, op, base, src, offset),
         CodePiece::Number { rd, value } => put_number(sink, flags, rd, value),
+        CodePiece::Extend {
+            rd,
+            rn,
+            signed,
+            bits,
+        } => put_extend(sink, flags, rd, rn, signed, bits),
+        CodePiece::Extract {
+            rd,
+            offset,
+            rs,
+            signed,
+            bits,
+        } => put_extract(sink, flags, rd, offset, rs, signed, bits),
+        CodePiece::Merge {
+            rd,
+            tmp,
+            offset,
+            rs,
+            bits,
+        } => put_merge(sink, flags, rd, tmp, offset, rs, bits),
+        CodePiece::Atomic { op, rd, addr, src } => put_ordered(sink, flags, op, rd, addr, src),
         CodePiece::Move { rd, rs } => put_whole_move(sink, flags, rd, rs),
         CodePiece::Branch { kind, label } => put_compare(sink, kind, own_label(first, label)),
         CodePiece::Jump { label } => put_own_jump(sink, flags, own_label(first, label)),
@@ -372,6 +428,71 @@ pub(crate) fn number(rd: WritableReg, value: u64) -> CodePiece
     ensures sound { IsSound result }
 {
     CodePiece::Number { rd, value }
+}
+
+/// The low bits of a register, as many as a part has, sign-extended or zero-extended.
+pub(crate) fn extend(rd: WritableReg, rn: Reg, signed: bool, bits: u8) -> CodePiece
+    requires rd { IsIntRegister rd.reg }
+    requires rn { IsIntRegister rn }
+    requires some { 1 ≤ bits }
+    requires few { bits ≤ 64 }
+    ensures is { result ≡ code.Extend rd rn signed bits }
+    ensures sound { IsSound result }
+{
+    CodePiece::Extend {
+        rd,
+        rn,
+        signed,
+        bits,
+    }
+}
+
+pub(crate) fn extract(rd: WritableReg, offset: Reg, rs: Reg, signed: bool, bits: u8) -> CodePiece
+    requires rd { IsIntRegister rd.reg }
+    requires offset { IsIntRegister offset }
+    requires rs { IsIntRegister rs }
+    requires some { 1 ≤ bits }
+    requires few { bits ≤ 64 }
+    ensures is { result ≡ code.Extract rd offset rs signed bits }
+    ensures sound { IsSound result }
+{
+    CodePiece::Extract {
+        rd,
+        offset,
+        rs,
+        signed,
+        bits,
+    }
+}
+
+pub(crate) fn merge(rd: WritableReg, tmp: WritableReg, offset: Reg, rs: Reg, bits: u8) -> CodePiece
+    requires rd { IsIntRegister rd.reg }
+    requires tmp { IsIntRegister tmp.reg }
+    requires offset { IsIntRegister offset }
+    requires rs { IsIntRegister rs }
+    requires some { 1 ≤ bits }
+    requires few { bits ≤ 64 }
+    ensures is { result ≡ code.Merge rd tmp offset rs bits }
+    ensures sound { IsSound result }
+{
+    CodePiece::Merge {
+        rd,
+        tmp,
+        offset,
+        rs,
+        bits,
+    }
+}
+
+pub(crate) fn atomic(op: AtomicOP, rd: WritableReg, addr: Reg, src: Reg) -> CodePiece
+    requires rd { IsIntRegister rd.reg }
+    requires addr { IsIntRegister addr }
+    requires src { IsIntRegister src }
+    requires source { is_source (atomic_op op) (number_of src) ≡ true }
+    ensures is { result ≡ code.Atomic op rd addr src }
+    ensures sound { IsSound result }
+{
+    CodePiece::Atomic { op, rd, addr, src }
 }
 
 /// A move of one whole register to another of its class; none to itself.

@@ -1,6 +1,7 @@
 //! Operations, and the sequences of instructions that ask for no island and call nothing, put into a buffer.
 #![tactic(auto)]
 
+mod atomics;
 mod choices;
 mod code;
 mod counts;
@@ -10,11 +11,13 @@ mod halves;
 mod memory;
 mod moves;
 mod numbers;
+mod parts;
 mod probes;
 mod reverse;
 mod shortest;
 mod words;
 
+pub use atomics::put_atomic_loop;
 pub use choices::{put_extend, put_select};
 pub use counts::put_computation;
 pub use expansions::{put_bytes, put_constant, put_load_over, put_trap, put_trap_if};

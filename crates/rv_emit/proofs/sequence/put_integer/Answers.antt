@@ -53,7 +53,7 @@ pub put_extend-requires : goal.put_extend-requires
 put_extend-requires c =
     let all = ints_kept c.in-Extend.is c.requires.rule refl in
     let bits = some_in_64 _ (kept c.in-Extend.is c.requires.rule).ranged in
-    record { rd = all.0.0; rn = all.1.0.0; some = bits.0; few = bits.1; allocated = omega (arith, c.requires.few); room = omega (arith, c.requires.room); sound = c.requires.sound }
+    record { rd = all.0.0; rn = all.1.0.0; some = bits.0; few = bits.1; room = omega (arith, c.requires.room); sound = c.requires.sound }
 
 pub put_select-requires-clause-fine : goal.put_select-requires-clause-fine
 put_select-requires-clause-fine c = rw c.as_ref-info.ensures (select_fine _ _ _ _ (kept c.in-Select.is c.requires.rule))

@@ -1,0 +1,5 @@
+use Rattle.rv_sequences.proofs.SlotsPut.{both_alone}
+use Rattle.rv_sequences.proofs.parts.put_extract.Goals as goal
+
+pub returns-clause-slots : goal.returns-clause-slots
+returns-clause-slots c = both_alone _ _ _ _ _ tt c.in_ok-put_rrr.ensures.slots c.in_ok-put_extend.ensures.slots
