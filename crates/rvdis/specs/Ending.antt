@@ -1,6 +1,6 @@
 -- The status with which the program ends early.
 use Rattle.std.specs.Prelude.{ℕ}
-use Rattle.rv_words.specs.Words as words
+use Rattle.rv_program.specs.Words as words
 use Rattle.rvdis.specs.declared.failure.Failure.{Failure}
 use Rattle.rvdis.specs.declared.failure.Failure.TheVariants as failures
 

@@ -4,7 +4,7 @@ ghost use Rattle.std.specs.Prelude.{◌≡◌};
 
 use crate::making::MakeError;
 use rv_base::OutOfMemory;
-use rv_words::WordsFault;
+use rv_program::WordsFault;
 use thiserror::Error;
 
 #[derive(Debug, Drop, Error)]

@@ -3,7 +3,7 @@
 use rv_base::OutOfMemory;
 use rv_expr::ExprError;
 use rv_formula::FormulaError;
-use rv_words::WordsFault;
+use rv_program::WordsFault;
 use thiserror::Error;
 
 #[derive(Debug, Drop, Error)]

@@ -14,8 +14,8 @@ use failure::Failure;
 use making::{MakeError, object_bytes};
 use rv_base::OutOfMemory;
 use rv_explain::refusal_of;
+use rv_program::command_words;
 use rv_stream::{ReadAllError, StdSink, StdSource, WriteError, read_all, write_all};
-use rv_words::command_words;
 use std::process::ExitCode;
 use words::given_by;
 

@@ -6,10 +6,10 @@ mod opening;
 
 use opening::Opening;
 use rv_explain::refusal_of;
+use rv_program::{WordsFault, command_words};
 use rv_run::{Outcome, run};
 use rv_steps::Progress;
 use rv_stream::{StdSink, StdSource};
-use rv_words::{WordsFault, command_words};
 use std::io::IsTerminal;
 use std::process::ExitCode;
 use std::time::{Duration, Instant};

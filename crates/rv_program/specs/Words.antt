@@ -1,7 +1,7 @@
 -- The status of a program whose words can't be had.
 use Rattle.std.specs.Prelude.{ℕ}
-use Rattle.rv_words.specs.declared.words.WordsFault.{WordsFault}
-use Rattle.rv_words.specs.declared.words.WordsFault.TheVariants.{NotText, Unread}
+use Rattle.rv_program.specs.declared.words.WordsFault.{WordsFault}
+use Rattle.rv_program.specs.declared.words.WordsFault.TheVariants.{NotText, Unread}
 
 abbrev pub status_of : WordsFault → ℕ
 status_of NotText = 2

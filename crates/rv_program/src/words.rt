@@ -16,7 +16,7 @@ pub enum WordsFault {
 }
 
 impl WordsFault {
-    ghost use Rattle.rv_words.specs.Words.{status_of};
+    ghost use Rattle.rv_program.specs.Words.{status_of};
 
     /// The status with which a program ends that has no words: as for words that are none of its own, or as where memory runs out.
     pub fn status(self) -> u8

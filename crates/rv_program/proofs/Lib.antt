@@ -1,0 +1,2 @@
+mod Mistakes
+mod Streams
