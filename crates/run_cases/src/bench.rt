@@ -7,7 +7,7 @@ use crate::linked::Placing;
 use crate::numbers::pair;
 use rv_asm::assemble;
 use rv_base::{Constant, FrameLayout, IsaFlags, OutOfMemory};
-use rv_inst::{Code, Line};
+use rv_inst::{Code, Job, Line};
 use rv_listing::{read_job, report};
 use rv_machine::{IntMachine, Step};
 use std::alloc::Global;
@@ -29,9 +29,14 @@ pub(crate) fn plain_code(alloc: Global, lines: &[Line]) -> Result<Code, RunError
     assembled(alloc, lines, IsaFlags::none(), &frame, &[])
 }
 
+/// The job of a listing, of which nothing is promised either.
+fn job_of(alloc: Global, text: &str) -> Result<Job, RunError> {
+    Ok(read_job(alloc, text.as_bytes())?)
+}
+
 /// The flags of a listing, and its code.
 pub(crate) fn code_of(alloc: Global, text: &str) -> Result<(IsaFlags, Code), RunError> {
-    let job = read_job(alloc, text.as_bytes())?;
+    let job = job_of(alloc, text)?;
     let code = assembled(
         alloc,
         job.lines.as_slice(),
@@ -53,6 +58,12 @@ pub(crate) fn arrives(machine: &mut IntMachine, address: u64) -> Result<bool, Ou
         }
     }
     Ok(machine.pc() == address)
+}
+
+/// The report of code, of which nothing is promised either.
+fn report_of(alloc: Global, code: &Code) -> Result<String, RunError> {
+    let text = report(alloc, code)?;
+    Ok(String::from_utf8_lossy(alloc, text.as_slice())?)
 }
 
 /// The doubleword at an address.
@@ -119,8 +130,7 @@ impl Bench {
     }
 
     fn keep_report(&mut self, code: &Code) -> Result<(), RunError> {
-        let text = report(self.alloc, code)?;
-        self.report = String::from_utf8_lossy(self.alloc, text.as_slice())?;
+        self.report = report_of(self.alloc, code)?;
         Ok(())
     }
 

@@ -5,11 +5,22 @@ use crate::error::RunError;
 use hex::encode;
 use rv_base::ExternalName;
 use rv_inst::Code;
-use rv_place::{Image, place};
+use rv_place::{Image, PlaceError, place};
 use std::alloc::Global;
 
 /// A symbol and its address.
 type Address = (ExternalName, u64);
+
+/// The image of code, of which nothing is promised, so that what writes it need not carry what `place` promises.
+fn image_of(
+    alloc: Global,
+    code: &Code,
+    base: u64,
+    symbols: &[Address],
+    slots: &[Address],
+) -> Result<Image, PlaceError> {
+    place(alloc, code, base, symbols, slots)
+}
 
 fn write_image(
     alloc: Global,
@@ -31,7 +42,7 @@ fn write_placed(
     symbols: &[Address],
     slots: &[Address],
 ) -> Result<(), RunError> {
-    match place(alloc, code, base, symbols, slots) {
+    match image_of(alloc, code, base, symbols, slots) {
         Ok(image) => write_image(alloc, text, what, &image),
         Err(error) => Ok(writeln!(text, "{what} at {base:x}: {error:?}")?),
     }
