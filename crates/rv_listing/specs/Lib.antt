@@ -17,6 +17,7 @@ pub mod FrameHeader
 pub mod ConstantHeader
 pub mod UnwindSteps
 pub mod Forms
+pub mod FormFields
 pub mod Reading
 pub mod CodeRanges
 pub mod Relocations

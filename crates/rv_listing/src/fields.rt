@@ -1,13 +1,12 @@
 //! The fields of a line: a token for each.
 
 ghost use Rattle.std.specs.Prelude.{◌≡◌, ℕ, List, Option, Some};
-ghost use Rattle.rv_inst.specs.declared.inst.Line.TheVariants as kinds;
 ghost use Rattle.rv_listing.specs.Tokens.{words_after};
-ghost use Rattle.rv_listing.specs.Fields.{field, no_more, Takes, TakesFirst, Makes};
+ghost use Rattle.rv_listing.specs.Fields.{field, no_more, Takes, Makes};
 ghost use Rattle.rv_listing.specs.Operands.{either};
 
 use crate::tokens::{is, next_word};
-use rv_inst::{Boxed, Inst, Line};
+use rv_inst::Boxed;
 use std::alloc::Global;
 use thiserror::Error;
 
@@ -38,29 +37,26 @@ pub fn field<T: Token>(rest: &[u8]) -> Option<(T, &[u8])>
     Some((x, rest))
 }
 
-/// The same, of a line that is put together on the heap.
-#[inline(always)]
-pub fn next_field<T: Token>(rest: &[u8]) -> Result<(T, &[u8]), LineError>
-    ensures { TakesFirst result (field T.reads (words_after rest.now)) }
+/// A word, as one of two: whether it is the first.
+pub fn either(first: &[u8], second: &[u8], w: &[u8]) -> Option<bool>
+    ensures { result ≡ either first.now second.now w.now }
 {
-    match field(rest) {
-        Some(taken) => Ok(taken),
-        None => Err(LineError::NotAllowed),
+    if is(first, w) {
+        Some(true)
+    } else if is(second, w) {
+        Some(false)
+    } else {
+        None
     }
 }
 
-/// The next word, as one of two: whether it is the first.
+/// The next word, as the same.
 pub fn flag<'a>(first: &[u8], second: &[u8], rest: &'a [u8]) -> Option<(bool, &'a [u8])>
     ensures { Takes result (field (either first.now second.now) (words_after rest.now)) }
 {
     let (w, rest) = next_word(rest)?;
-    if is(first, w) {
-        Some((true, rest))
-    } else if is(second, w) {
-        Some((false, rest))
-    } else {
-        None
-    }
+    let is_first = either(first, second, w)?;
+    Some((is_first, rest))
 }
 
 /// What was made, where no word is left.
@@ -83,14 +79,6 @@ pub fn allowed<T: Drop>(made: Option<T>) -> Result<T, LineError>
         Some(made) => Ok(made),
         None => Err(LineError::NotAllowed),
     }
-}
-
-/// An instruction as a line, where no word is left.
-#[inline(always)]
-pub fn put(inst: Inst, rest: &[u8]) -> Option<Line>
-    ensures { result ≡ no_more (kinds.Inst inst, words_after rest.now) }
-{
-    whole(Line::Inst(inst), rest)
 }
 
 /// A value on the heap.

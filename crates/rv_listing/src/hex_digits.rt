@@ -1,10 +1,11 @@
 //! Bytes in hexadecimal digits.
 
-ghost use Rattle.std.specs.Prelude.{◌≡◌};
+ghost use Rattle.std.specs.Prelude.{◌≡◌, ℕ, List as AList};
 ghost use Rattle.rv_listing.specs.Fields.{Makes};
 ghost use Rattle.rv_listing.specs.HexDigits.{hex_bytes, some_bytes};
 
 use crate::fields::LineError;
+use crate::form_fields::FormField;
 use hex::FromHexError;
 use rv_base::List;
 use std::alloc::Global;
@@ -30,5 +31,24 @@ pub fn some_bytes(alloc: Global, w: &[u8]) -> Result<List<u8>, LineError>
         Err(LineError::NotAllowed)
     } else {
         Ok(bytes)
+    }
+}
+
+/// The bytes of a field: one at least.
+#[derive(Drop)]
+pub(crate) struct SomeBytes {
+    pub(crate) bytes: List<u8>,
+}
+
+impl FormField for SomeBytes {
+    ghost Value = { AList ℕ };
+
+    ghost reads = { some_bytes };
+
+    ghost value = { λ x. x.bytes };
+
+    fn of_word(alloc: Global, w: &[u8]) -> Result<SomeBytes, LineError> {
+        let bytes = some_bytes(alloc, w)?;
+        Ok(SomeBytes { bytes })
     }
 }

@@ -13,6 +13,7 @@ mod fields;
 mod flags_header;
 mod float_forms;
 mod floats;
+mod form_fields;
 mod form_names;
 mod forms;
 mod frame_header;

@@ -1,19 +1,21 @@
 //! The tokens for registers, numbers, labels, symbols and targets.
 
-ghost use Rattle.std.specs.Prelude.{◌≡◌, ◌<◌, ◌^◌, ◌++◌, Some, codes};
+ghost use Rattle.std.specs.Prelude.{◌≡◌, ◌<◌, ◌^◌, ◌++◌, Bool, Some, codes};
 ghost use Rattle.std.specs.Fmt.{decimal as written};
 ghost use Rattle.rv_base.specs.declared.external_name.ExternalName.{ExternalName as AName};
 ghost use Rattle.rv_base.specs.Regs.{real_of};
 ghost use Rattle.rv_listing.specs.Tokens.{natural};
 ghost use Rattle.rv_listing.specs.Registers.{register};
-ghost use Rattle.rv_listing.specs.Operands.{writable, real_register, imm12_of, imm12, imm20_of, imm20, uimm5_of, uimm5, natural_8, natural_32, offset_of, offset, label, symbol, target};
+ghost use Rattle.rv_listing.specs.Operands.{writable, real_register, imm12_of, imm12, imm20_of, imm20, uimm5_of, uimm5, natural_8, natural_32, offset_of, offset, label, symbol, target, signedness, leading};
 
-use crate::fields::Token;
+use crate::fields::{LineError, Token, allowed, either};
+use crate::form_fields::FormField;
 use crate::registers::register;
 use crate::tokens::{decimal, is, natural, number, signed, starts};
 use rv_base::{ExternalName, MachLabel, PReg, Reg, Writable};
 use rv_imms::{Imm12, Imm20, UImm5};
 use rv_inst::CondBrTarget;
+use std::alloc::Global;
 
 impl Token for Reg {
     ghost reads = { register };
@@ -221,5 +223,45 @@ impl Token for CondBrTarget {
             return Some(CondBrTarget::Fallthrough);
         }
         Some(CondBrTarget::Label(MachLabel::read(w)?))
+    }
+}
+
+/// Whether a value has a sign.
+#[derive(Clone, Copy)]
+pub(crate) struct Signedness {
+    pub(crate) signed: bool,
+}
+
+impl FormField for Signedness {
+    ghost Value = { Bool };
+
+    ghost reads = { signedness };
+
+    ghost value = { λ x. x.signed };
+
+    #[tactic(auto, unfolding(crate::specs::Operands::signedness))]
+    fn of_word(_alloc: Global, w: &[u8]) -> Result<Signedness, LineError> {
+        let signed = allowed(either(b"s", b"u", w))?;
+        Ok(Signedness { signed })
+    }
+}
+
+/// Whether the leading zeros are counted, or the trailing ones.
+#[derive(Clone, Copy)]
+pub(crate) struct Zeros {
+    pub(crate) leading: bool,
+}
+
+impl FormField for Zeros {
+    ghost Value = { Bool };
+
+    ghost reads = { leading };
+
+    ghost value = { λ x. x.leading };
+
+    #[tactic(auto, unfolding(crate::specs::Operands::leading))]
+    fn of_word(_alloc: Global, w: &[u8]) -> Result<Zeros, LineError> {
+        let leading = allowed(either(b"1", b"0", w))?;
+        Ok(Zeros { leading })
     }
 }

@@ -1,11 +1,12 @@
 //! Pairs of registers, and lists of them.
 
-ghost use Rattle.std.specs.Prelude.{◌≡◌, []};
+ghost use Rattle.std.specs.Prelude.{◌≡◌, [], List as AList};
 ghost use Rattle.rv_listing.specs.Fields.{Makes, Pushes, TakesFirst, field};
 ghost use Rattle.rv_listing.specs.Tokens.{parts_after, parts_of, words_after};
 ghost use Rattle.rv_listing.specs.Pairs.{arg_pair, call_arg_pair, each_after, listed, ret_pair};
 
 use crate::fields::{LineError, Token};
+use crate::form_fields::FormField;
 use crate::registers::register;
 use crate::tokens::{first_part, is, next_part, next_word, two_parts};
 use rv_base::{ArgPair, CallArgPair, List, RetPair, Writable};
@@ -102,6 +103,18 @@ pub fn listed<T: Token + Drop>(alloc: Global, w: &[u8]) -> Result<List<T>, LineE
         return Ok(List::new(alloc));
     }
     separated(alloc, b',', w)
+}
+
+impl<T: Token + Drop> FormField for List<T> {
+    ghost Value = { AList T };
+
+    ghost reads = { listed T.reads };
+
+    ghost value = { λ made. made };
+
+    fn of_word(alloc: Global, w: &[u8]) -> Result<List<T>, LineError> {
+        listed(alloc, w)
+    }
 }
 
 /// The next word, as a list of tokens.
